@@ -380,7 +380,8 @@ fn item(
     }
 }
 
-/// The same, where faults are seen from the element.
+/// The next element of a list, where the octets of the one before it are these; and how many octets it has. The path of
+/// a fault begins at the element.
 #[cycle(reading)]
 fn next_item(
     alloc: Global,

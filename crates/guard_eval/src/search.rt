@@ -111,8 +111,9 @@ fn some_allows(path: &mut Path, cons: &[Cons], kind: &Kind, value: &Value) -> bo
     false
 }
 
-/// An intersection blames its first failing part, EXCEPT its left side or else itself, WITH COMPONENT and WITH
-/// COMPONENTS what fails in a part of the value; all others are blamed themselves.
+/// The constraint that is blamed: of an intersection, the first one in it that fails; of `A EXCEPT B`, what `A` blames if
+/// it fails, and else the whole; of WITH COMPONENT and WITH COMPONENTS, what fails within the value's parts; of any
+/// other one, itself.
 #[cycle(search)]
 pub fn failure_by(path: &mut Path, cons: &Cons, kind: &Kind, value: &Value) -> Option<Site>
     ensures { found_by path.new.items result ≡ failure_by (constraint_view cons.now) (kind_view kind.now) (value_view value.now) }

@@ -6,12 +6,12 @@ use Rattle.guard_der.specs.declared.breach.Code.{Code}
 use Rattle.guard_der.specs.Fits.{descends}
 use Rattle.guard_der.specs.Simple.{simple_fault, simple_value}
 use Rattle.guard_tables.specs.declared.slots.Slots.{Slots}
-use Rattle.guard_tables.specs.Formulas.{Raise, raised}
+use Rattle.guard_tables.specs.Formulas.{Implication, implied}
 use Rattle.guard_tables.specs.Marking.{facts, conditions_marked}
 use Rattle.guard_tables.specs.Plan.{Side, Plan, Body, Parts, plan, simple, series, set, choice, list, set_of, asked, formula, no_parts, part}
 use Rattle.guard_tables.specs.Slots.{none, added}
 use Rattle.guard_tables.specs.TableNodes.{is_default}
-use Rattle.guard_tables.proofs.Adding.{Adds, adds_conditions, adds_raised}
+use Rattle.guard_tables.proofs.Adding.{Adds, adds_conditions, adds_implied}
 use Rattle.guard_tables.proofs.SlotSums.{added_again, added_none, added_turned, none_added}
 use Rattle.guard_reader.specs.Fronts.{Front, here, elsewhere, broken, element_in, front, front_of, innermost}
 use Rattle.guard_reader.specs.Judging.{Member, Pass, Sight, absences_at, absent_part, chosen_at, chosen_judged, contents_judged, elements_at, fields_judged, inside_judged, is_read, member_at, member_judged, members_at, ordered_at, outside, part_at, present_part, size_in, tag_after, tag_at, unless_fault, watched, whole_facts, with_rest}
@@ -187,9 +187,9 @@ adds_fault : (c : Option Code) (f : Slots → Slots) → Adds f → AddsUp (λ m
 adds_fault None f p m = adds_marked f p m
 adds_fault (Some c) f p m = refl
 
-adds_outside : (rs : List Raise) (inner : Option Slots) → AddsUp (λ m. outside rs m inner)
+adds_outside : (rs : List Implication) (inner : Option Slots) → AddsUp (λ m. outside rs m inner)
 adds_outside rs None m = refl
-adds_outside rs (Some k) m = adds_marked (λ m. raised rs k m) (adds_raised rs k) m
+adds_outside rs (Some k) m = adds_marked (λ m. implied rs k m) (adds_implied rs k) m
 
 mutual
   unfolding contents_judged

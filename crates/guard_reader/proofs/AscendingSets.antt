@@ -1,7 +1,7 @@
 -- A SET whose components ascend is judged as a SEQUENCE of them is.
-use Rattle.std.proofs.Common.{◌≡◌, ℕ, suc, ◌-◌, ◌<◌, ◌≤◌, Bool, true, false, eqb, cond, List, [], ◌∷◌, length, vec_len, Option, Some, None, refl, sym, ap, subst, ◌∙◌, arith, inl, inr}
-use Rattle.std.specs.Prelude.{◌||◌}
-use Rattle.std.proofs.lemmas.Bool.{cond-true, cond-false, ne_eqb, eq-eqb}
+use Rattle.std.proofs.Common.{◌≡◌, ℕ, suc, ◌≤◌, Bool, true, false, eqb, cond, List, [], ◌∷◌, length, Option, Some, None, refl, sym, ap, subst, ◌∙◌, arith, inl, inr}
+use Rattle.std.specs.Prelude.{◌&&◌, ◌||◌}
+use Rattle.std.proofs.lemmas.Bool.{and_parts, cond-true, cond-false, ne_eqb, eq-eqb}
 use Rattle.guard_model.specs.declared.tag.Tag.{Tag}
 use Rattle.guard_der.specs.Head.{head_of}
 use Rattle.guard_der.specs.Reading.{follows}
@@ -12,19 +12,40 @@ use Rattle.guard_tables.specs.declared.node.Kind.TheVariants as kind
 use Rattle.guard_tables.specs.declared.node_list.Nodes.{Nodes}
 use Rattle.guard_tables.specs.declared.slots.Slots.{Slots}
 use Rattle.guard_tables.specs.NodesView.{spots_in}
-use Rattle.guard_tables.specs.Plan.{Body, Side, Plan, Parts, set, no_parts, part}
-use Rattle.guard_tables.specs.TableNodes.{body_at, parts_between, spot_at}
-use Rattle.guard_tables.proofs.Spots.{NodeAt, parts_step, spots_length}
+use Rattle.guard_tables.specs.Plan.{Body, Side, Plan, Parts, plan, set, no_parts, part, tags_in}
+use Rattle.guard_tables.specs.TableNodes.{ascend, body_at, comes_next, outer_tag, parts_between}
+use Rattle.guard_tables.proofs.Spots.{NodeAt}
 use Rattle.guard_reader.specs.Fronts.{Front, here, elsewhere, broken, front}
 use Rattle.guard_reader.specs.Judging.{Member, Pass, absences_at, absent_part, contents_judged, fields_judged, inside_judged, is_read, member_at, member_judged, part_at, present_part, tag_after, tag_at}
 use Rattle.guard_reader.specs.Octets.{◌>>=◌}
-use Rattle.guard_reader.specs.inside.Ascending.{Ascend}
 use Rattle.guard_reader.specs.inside.FrontViews.{outermost}
 use Rattle.guard_reader.proofs.AddedPasses.{AddsUp, found_there, adds_inside, adds_present, adds_then, adds_unread, either_order, with_later}
 use Rattle.guard_reader.proofs.Elements.{bind_same, bind_some}
 use Rattle.guard_reader.proofs.FrontTags.{Speaks, front_speaks}
 use Rattle.guard_reader.proofs.NodeSteps.{body_of}
 use Rattle.guard_reader.proofs.SetSteps.{members, members_over, members_step, no_member, no_tag, set_is}
+
+-- ---- one tag after the other
+
+-- each part has an outermost tag, and they ascend after this one
+abbrev Ascend : Option Tag → Parts → Type 0
+Ascend last no_parts = Unit {0}
+Ascend last (part side p ps) = (tag : Tag) × ((outermost p).0 ≡ Some tag) × (follows last tag ≡ true) × Ascend (Some tag) ps
+
+outer_is : (p : Plan) → (outermost p).0 ≡ outer_tag (tags_in p)
+outer_is (plan [] constructed body) = refl
+outer_is (plan (t ∷ ts) constructed body) = refl
+
+first_ascends : (side : Side) (p : Plan) (ps : Parts) (last tag : Option Tag) → (outermost p).0 ≡ tag → (comes_next last tag && ascend tag ps) ≡ true
+    → ((last : Option Tag) → ascend last ps ≡ true → Ascend last ps) → Ascend last (part side p ps)
+first_ascends side p ps last None is e later = let bad : ◌≡◌ {A = Bool} false true = e in absurd cc
+first_ascends side p ps last (Some tag) is e later =
+    let both = and_parts (follows last tag) (ascend (Some tag) ps) e in
+    (tag, is, both.0, later (Some tag) both.1)
+
+ascending : (ps : Parts) (last : Option Tag) → ascend last ps ≡ true → Ascend last ps
+ascending no_parts last e = tt
+ascending (part side p ps) last e = first_ascends side p ps last (outer_tag (tags_in p)) (outer_is p) e (λ last e. ascending ps last e)
 
 -- ---- the components before, the last of them first
 
@@ -289,22 +310,13 @@ in_turn no_parts bound last xs places os m a t = over xs last places os m bound 
 in_turn (part s p ps) bound last xs places os m (tag, is, after, a) t =
     by_front bound last xs places os s p ps m tag (front p os) t is after refl (λ last xs places os m t. in_turn ps (Some tag) last xs places os m a t)
 
-pub set_in_turn : (ps : Parts) (os : List ℕ) (m : Slots) → Ascend None ps → contents_judged (set ps) os m ≡ fields_judged ps os m
+set_in_turn : (ps : Parts) (os : List ℕ) (m : Slots) → Ascend None ps → contents_judged (set ps) os m ≡ fields_judged ps os m
 set_in_turn ps os m a = set_is ps os m ∙ in_turn ps None None [] [] os m a (record { under = tt; reaches = λ t f. f; unread = λ i past. refl; passed = λ tag e. tt })
 
 -- ---- of nodes
 
-pub ascend_step : (t : Nodes) (k end : ℕ) (last : Option Tag) (tag : Tag) → k < end → end ≤ vec_len t.hots → Some tag ≡ (outermost (spot_at (spots_in t) k).plan).0 → follows last tag ≡ true
-    → Ascend (Some tag) (parts_between (spots_in t) (suc k) (end - suc k)) → Ascend last (parts_between (spots_in t) k (end - k))
-ascend_step t k end last tag lt room is after a =
-    subst (λ (ps : Parts). Ascend last ps) (sym (parts_step (spots_in t) k end lt (omega (arith, room, spots_length t)))) (tag, sym is, after, a)
-
-pub ascend_end : (t : Nodes) (k end : ℕ) (last : Option Tag) → end ≤ k → Ascend last (parts_between (spots_in t) k (end - k))
-ascend_end t k end last past =
-    let over : end - k ≡ 0 = omega (arith, past) in
-    subst (λ (n : ℕ). Ascend last (parts_between (spots_in t) k n)) (sym over) tt
-
-pub set_of_parts : (t : Nodes) (k : ℕ) (h : Hot) → NodeAt t k h → h.kind ≡ kind.Set → (os : List ℕ) (m : Slots) → Ascend None (parts_between (spots_in t) h.first h.count)
+pub set_of_parts : (t : Nodes) (k : ℕ) (h : Hot) → NodeAt t k h → h.kind ≡ kind.Set → (os : List ℕ) (m : Slots) → h.ascending ≡ true
     → fields_judged (parts_between (spots_in t) h.first h.count) os m ≡ contents_judged (body_at (spots_in t) k) os m
-set_of_parts t k h n e os m a =
-    sym (ap (λ (b : Body). contents_judged b os m) (body_of t k h n kind.Set e) ∙ set_in_turn (parts_between (spots_in t) h.first h.count) os m a)
+set_of_parts t k h n e os m told =
+    sym (ap (λ (b : Body). contents_judged b os m) (body_of t k h n kind.Set e)
+    ∙ set_in_turn (parts_between (spots_in t) h.first h.count) os m (ascending (parts_between (spots_in t) h.first h.count) None (n.node.ascending told)))

@@ -16,10 +16,10 @@ use Rattle.guard_tables.specs.declared.node.Kind.TheVariants as kind
 use Rattle.guard_tables.specs.declared.node.SimpleKind.{SimpleKind}
 use Rattle.guard_tables.specs.declared.node_list.Nodes.{Nodes}
 use Rattle.guard_tables.specs.declared.slots.Slots.{Slots}
-use Rattle.guard_tables.specs.Formulas.{Raise}
+use Rattle.guard_tables.specs.Formulas.{Implication}
 use Rattle.guard_tables.specs.Marking.{facts, conditions_marked}
 use Rattle.guard_tables.specs.NodesView.{spots_in}
-use Rattle.guard_tables.specs.NodeViews.{kind_view, raise_view}
+use Rattle.guard_tables.specs.NodeViews.{kind_view, implication_view}
 use Rattle.guard_tables.specs.Plan.{Side, Plan, Body, Parts, plan, simple, series, set, choice, list, set_of, asked, formula, part, no_parts, body_in, tags_in, form_in}
 use Rattle.guard_tables.specs.Slots.{none, added}
 use Rattle.guard_tables.specs.TableNodes.{Spot, spot_at, spot_of, body_of_kind, body_at, conditions_of, parts_between, is_default, is_lawful, octets_marked, IsFree}
@@ -197,13 +197,13 @@ pub series_judged : (t : Nodes) (k : ℕ) (h : Hot) → NodeAt t k h → h.kind 
     → contents_judged (body_at (spots_in t) k) os m ≡ fields_judged (parts_between (spots_in t) h.first h.count) os m
 series_judged t k h n e os m = ap (λ (b : Body). contents_judged b os m) (body_of t k h n kind.Series e) ∙ series_are (parts_between (spots_in t) h.first h.count) os m
 
-formula_is : (raises : List Raise) (b : Body) (os : List ℕ) (m : Slots) → contents_judged (formula raises b) os m ≡ outside raises m (contents_judged b os none)
+formula_is : (implications : List Implication) (b : Body) (os : List ℕ) (m : Slots) → contents_judged (formula implications b) os m ≡ outside implications m (contents_judged b os none)
 unfolding contents_judged
-formula_is raises b os m = refl
+formula_is implications b os m = refl
 
 pub formula_judged : (t : Nodes) (k : ℕ) (h : Hot) (n : NodeAt t k h) → h.kind ≡ kind.Formula → (os : List ℕ) (m : Slots)
-    → contents_judged (body_at (spots_in t) k) os m ≡ outside (map raise_view n.cold.raises.items) m (contents_judged (body_at (spots_in t) h.first) os none)
-formula_judged t k h n e os m = ap (λ (b : Body). contents_judged b os m) (body_of t k h n kind.Formula e) ∙ formula_is (map raise_view n.cold.raises.items) (body_at (spots_in t) h.first) os m
+    → contents_judged (body_at (spots_in t) k) os m ≡ outside (map implication_view n.cold.implications.items) m (contents_judged (body_at (spots_in t) h.first) os none)
+formula_judged t k h n e os m = ap (λ (b : Body). contents_judged b os m) (body_of t k h n kind.Formula e) ∙ formula_is (map implication_view n.cold.implications.items) (body_at (spots_in t) h.first) os m
 
 pub is_of_formula : (t : Nodes) (k : ℕ) (h : Hot) → IsFormula t k → k < vec_len t.hots → h ≡ get_or t.hots.items k h → h.kind ≡ kind.Formula
 is_of_formula t k h f lt is = let same : f.node ≡ h = same_Some f.node h (sym f.there ∙ there_at t k h lt is) in rw (← same) f.kind

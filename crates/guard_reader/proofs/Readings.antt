@@ -13,7 +13,7 @@ use Rattle.guard_der.specs.Reading as read
 use Rattle.guard_der.specs.Reading.{fields_at, items_at, set_at, part_at, contents_at, element_at, end_at, fields_read, items_read}
 use Rattle.guard_tables.specs.declared.slots.Slots.{Slots}
 use Rattle.guard_tables.specs.Slots.{none}
-use Rattle.guard_tables.specs.Formulas.{Raise}
+use Rattle.guard_tables.specs.Formulas.{Implication}
 use Rattle.guard_tables.specs.Marking.{facts_of, items_marked, marked, type_marked, fields_marked}
 use Rattle.guard_tables.specs.Plan.{Plan, Body, Parts, plan, simple, series, set, choice, list, set_of, asked, formula, no_parts, part}
 use Rattle.guard_tables.specs.Standing.{Spells, SimpleFor, PlanFor, BodyFor, PartsFor, AlternativesFor, IsWhole}
@@ -78,10 +78,10 @@ spelled kind spells r at start os v digits short e = spells at start os v digits
 
 -- ---- values that have parts
 
-formula_read : (raises : List Raise) (b : Body) (kind : AbstractKind) (m : Slots) (r : Result AbstractValue AbstractBreach) (a : Option Slots) → a ≡ option_map (λ v. marked kind b v none) (ok r) → outside raises m a ≡ option_map (λ v. marked kind (formula raises b) v m) (ok r)
+formula_read : (implications : List Implication) (b : Body) (kind : AbstractKind) (m : Slots) (r : Result AbstractValue AbstractBreach) (a : Option Slots) → a ≡ option_map (λ v. marked kind b v none) (ok r) → outside implications m a ≡ option_map (λ v. marked kind (formula implications b) v m) (ok r)
 unfolding marked
-formula_read raises b kind m (Err breach) a e = ap (outside raises m) e
-formula_read raises b kind m (Ok v) a e = ap (outside raises m) e
+formula_read implications b kind m (Err breach) a e = ap (outside implications m) e
+formula_read implications b kind m (Ok v) a e = ap (outside implications m) e
 
 series_read : (ps : Parts) (cs : Components) (m : Slots) (r : Result Fields AbstractBreach) (a : Option Slots) → a ≡ option_map (λ fs. fields_marked cs ps fs m) (ok r) → a ≡ option_map (λ v. marked (type.sequence cs) (series ps) v m) (ok (fields_read r))
 unfolding marked
@@ -124,7 +124,7 @@ mutual
   contents_read (set_of p) (type.set_of t) f r at start os m digits short =
       set_read p t m (items_at (length os) true (begins_with t) (element_at t) 0 [] start os) (ordered (λ os. front p os) (λ os m. inside_judged p os m) [] os m)
       (ordered_read (λ os. front p os) (way_of p t) (plan_law p t f r) (length os) 0 start [] os m digits)
-  contents_read (formula raises b) kind f r at start os m digits short = formula_read raises b kind m (contents_at kind at start os) (contents_judged b os none) (contents_read b kind f r at start os none digits short)
+  contents_read (formula implications b) kind f r at start os m digits short = formula_read implications b kind m (contents_at kind at start os) (contents_judged b os none) (contents_read b kind f r at start os none digits short)
   contents_read (asked cs b) kind f r at start os m digits short =
       asked_read cs b kind os m (contents_at kind at start os) (contents_judged b os m) (λ v e. whole_known b kind f.1 f.2 r at start os v digits (spelled kind f.0 r at start os v digits short e) e)
       (contents_read b kind f.1 r at start os m digits short)
@@ -143,7 +143,7 @@ mutual
   whole_known (set_of p) (type.set_of t) f whole r at start os v digits is e =
       items_known (type.set_of t) (element_count (λ os. front p os) os) os (items_at (length os) true (begins_with t) (element_at t) 0 [] start os) v
       (λ vs found. items_counted (λ os. front p os) (way_of p t) (plan_law p t f r) true (length os) 0 start [] os vs digits found) is e
-  whole_known (formula raises b) kind f whole r at start os v digits is e = whole_known b kind f whole r at start os v digits is e
+  whole_known (formula implications b) kind f whole r at start os v digits is e = whole_known b kind f whole r at start os v digits is e
   whole_known (asked cs b) kind f whole r at start os v digits is e = whole_known b kind f.1 whole r at start os v digits is e
   whole_known (simple one cs) kind f whole r at start os v digits is e = absurd whole
   whole_known (set ps) (type.set cs) f whole r at start os v digits is e = fields_known (type.set cs) os (set_at (length os) cs (part_at cs) (all_absent cs) None start os) v is e
@@ -160,7 +160,7 @@ mutual
   bare_law : (b : Body) (kind : AbstractKind) → BodyFor b kind → IsReadKind kind → BareLaw (λ os. body_front b os) kind b
   bare_law (choice ps) (type.choice cs) f r = let s = shape_law ps cs f r.1 in choice_bare (λ os. parts_front ps os) cs (choice ps) s.ended s.seen
   bare_law (asked cs b) kind f r = in_front (λ os. body_front b os) kind b (asked cs b) (bare_law b kind f.1 r)
-  bare_law (formula raises b) kind f r = in_front (λ os. body_front b os) kind b (formula raises b) (bare_law b kind f r)
+  bare_law (formula implications b) kind f r = in_front (λ os. body_front b os) kind b (formula implications b) (bare_law b kind f r)
   bare_law (simple one cs) kind f r = never_bare kind (simple one cs) (simple_never one kind f)
   bare_law (series ps) (type.sequence cs) f r = never_bare (type.sequence cs) (series ps) (λ h. refl)
   bare_law (set ps) (type.set cs) f r = never_bare (type.set cs) (set ps) (λ h. refl)

@@ -213,7 +213,3 @@ judged_new t first count places os inside rest m place r room found e is =
 -- no place is kept at first
 pub no_bit : (i : ℕ) → eqb (bit_at 0 i) 1 ≡ false
 no_bit i = ap (λ (n : ℕ). eqb n 1) (bit_at-zero i)
-
-pub nothing_left : (os : List ℕ) → eqb (length os) 0 ≡ true → os ≡ []
-nothing_left [] empty = refl
-nothing_left (o ∷ os) empty = absurd (omega (arith, eqb-true (length (o ∷ os)) 0 empty))

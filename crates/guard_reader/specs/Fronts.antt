@@ -99,7 +99,7 @@ unfoldable mutual
   pub body_front : Body → List ℕ → Front
   body_front (choice ps) os = all_inside os (parts_front ps os)
   body_front (asked cs body) os = body_front body os
-  body_front (formula raises body) os = body_front body os
+  body_front (formula implications body) os = body_front body os
   body_front (simple kind cs) os = elsewhere
   body_front (series ps) os = elsewhere
   body_front (set ps) os = elsewhere

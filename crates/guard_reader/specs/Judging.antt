@@ -9,7 +9,7 @@ use Rattle.guard_der.specs.Reading.{follows}
 use Rattle.guard_der.specs.Simple.{simple_fault, simple_value}
 use Rattle.guard_tables.specs.declared.slots.Slots.{Slots}
 use Rattle.guard_tables.specs.Slots.{none, added}
-use Rattle.guard_tables.specs.Formulas.{Raise, raised}
+use Rattle.guard_tables.specs.Formulas.{Implication, implied}
 use Rattle.guard_tables.specs.Marking.{Facts, facts, conditions_marked}
 use Rattle.guard_tables.specs.NodeViews.{identifier_of, other_of}
 use Rattle.guard_tables.specs.Plan.{AbstractCondition, Side, Plan, Body, Parts, plan, simple, series, set, choice, list, set_of, asked, formula, no_parts, part}
@@ -30,8 +30,8 @@ unless_fault None m = Some m
 unless_fault (Some c) m = None
 
 -- what fails outside, once the inner set is known
-abbrev pub outside : List Raise → Slots → Option Slots → Option Slots
-outside raises m inner = inner >>= λ k. Some (raised raises k m)
+abbrev pub outside : List Implication → Slots → Option Slots → Option Slots
+outside implications m inner = inner >>= λ k. Some (implied implications k m)
 
 -- ---- components of a SEQUENCE
 
@@ -159,7 +159,7 @@ size_in (choice ps) os = None
 size_in (list p) os = Some (element_count (λ os. front p os) os)
 size_in (set_of p) os = Some (element_count (λ os. front p os) os)
 size_in (asked cs body) os = size_in body os
-size_in (formula raises body) os = size_in body os
+size_in (formula implications body) os = size_in body os
 
 -- what is looked at of a value that has parts
 abbrev pub whole_facts : Option ℕ → List ℕ → Facts
@@ -183,7 +183,7 @@ unfoldable mutual
   contents_judged (list p) os m = elements (λ os. front p os) (λ os m. inside_judged p os m) os m
   contents_judged (set_of p) os m = ordered (λ os. front p os) (λ os m. inside_judged p os m) [] os m
   contents_judged (asked cs body) os m = then_marked cs (whole_facts (size_in body os) os) (contents_judged body os m)
-  contents_judged (formula raises body) os m = outside raises m (contents_judged body os none)
+  contents_judged (formula implications body) os m = outside implications m (contents_judged body os none)
 
   -- what is inside the outermost tag; without a tag, the whole element
   pub inside_judged : Plan → List ℕ → Slots → Option Slots

@@ -6,5 +6,4 @@ pub mod Members
 pub mod AtOnce
 pub mod Firsts
 pub mod Ranks
-pub mod Ascending
 pub mod HighTags

@@ -2,14 +2,14 @@
 ghost use Rattle.std.specs.Prelude.{◌≡◌, map, option_map};
 ghost use Rattle.guard_integers.specs.Integers.{holds};
 ghost use Rattle.guard_model.specs.Same.{same_numbers};
-ghost use Rattle.guard_tables.specs.Formulas.{raised, fails_where};
-ghost use Rattle.guard_tables.specs.NodeViews.{form_view, raise_view};
+ghost use Rattle.guard_tables.specs.Formulas.{implied, fails_where};
+ghost use Rattle.guard_tables.specs.NodeViews.{form_view, implication_view};
 ghost use Rattle.guard_tables.specs.Marking.{some_passes};
 ghost use Rattle.guard_tables.specs.Slots.{has};
 ghost use Rattle.guard_tables.specs.TableNodes.{is_default};
 
 use guard_integers::IntSet;
-use guard_tables::{Form, Raise, Slots};
+use guard_tables::{Form, Implication, Slots};
 
 /// Whether contents are those of the default, where there is one.
 pub fn is_default(default: &Option<Vec<u8>>, inside: &[u8]) -> bool
@@ -38,12 +38,12 @@ pub fn has_one(set: &IntSet, number: Option<i128>) -> bool
 }
 
 /// What fails outside by what has failed inside.
-pub fn raise(raises: &[Raise], inner: &Slots, failed: &mut Slots)
-    ensures { failed.new ≡ raised (map raise_view raises.now) inner.now failed.old }
+pub fn add_implied(implications: &[Implication], inner: &Slots, failed: &mut Slots)
+    ensures { failed.new ≡ implied (map implication_view implications.now) inner.now failed.old }
 {
-    for raise in raises {
-        if fails(&raise.where_failed, inner) {
-            failed.add(&raise.slots);
+    for implication in implications {
+        if fails(&implication.where_failed, inner) {
+            failed.add(&implication.slots);
         }
     }
 }

@@ -8,8 +8,7 @@
 //! | Which numbers fail nothing, so that they are passed over? | `plain.rt` | `specs/inside/Answers.antt` |
 //! | Is an element of a node at the front of octets? | `element_fronts.rt`, lengths `header.rt` | `specs/Fronts.antt` |
 //! | Which tag is the outermost, is it spelled there? | `layers.rt`, `high_tags.rt` | `specs/inside/FrontViews.antt` |
-//! | Do the components of a SET ascend, as those of a SEQUENCE do? | `ascending.rt` | `specs/inside/Ascending.antt` |
-//! | If not, which is next? | `set_members.rt` | `specs/inside/Members.antt`, `specs/inside/Ranks.antt` |
+//! | Components of a SET that don't ascend: which is next? | `set_members.rt` | `specs/inside/Members.antt`, `specs/inside/Ranks.antt` |
 //! | Which contents octets are lawful? | `contents.rt`, `object_id.rt` | of `guard_der` `specs/Simple.antt` |
 //! | What fails at their value? | `simple.rt` | `specs/Judging.antt` |
 //! | What is asked of a value that has parts as a whole? | `whole.rt` | `specs/Judging.antt` |
@@ -22,7 +21,6 @@
 #![tactic(auto)]
 
 mod alphabet;
-mod ascending;
 mod conditions;
 mod contents;
 mod element_fronts;

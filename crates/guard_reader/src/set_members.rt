@@ -1,14 +1,14 @@
 //! Components of a SET: which one is next, and which were read.
-ghost use Rattle.std.specs.Prelude.{◌≡◌, ◌+◌, ◌%◌, ◌<◌, ◌≤◌, ◌||◌, slice_index, ℕ, List, [], true, length, nat_eq, vec_len, IfSome, Some, option_map};
+ghost use Rattle.std.specs.Prelude.{◌≡◌, ◌+◌, ◌%◌, ◌<◌, ◌≤◌, ◌||◌, slice_index, ℕ, List, true, length, nat_eq, vec_len, IfSome, Some, option_map};
 ghost use Rattle.std.specs.Int.{bit_at};
 ghost use Rattle.guard_tables.specs.NodesView.{spots_in};
 ghost use Rattle.guard_tables.specs.TableNodes.{parts_between};
-ghost use Rattle.guard_reader.specs.Judging.{absences_at, is_read, tag_after, tag_at};
+ghost use Rattle.guard_reader.specs.Judging.{absences_at, tag_after, tag_at};
 ghost use Rattle.guard_reader.specs.Fronts.{after_one, elsewhere};
 ghost use Rattle.guard_reader.specs.Octets.{split};
 ghost use Rattle.std.specs.Option.{is_some};
 ghost use Rattle.guard_reader.specs.inside.Answers.{Answers};
-ghost use Rattle.guard_reader.specs.inside.Members.{AreRead, Reach, member_found};
+ghost use Rattle.guard_reader.specs.inside.Members.{AreRead, member_found};
 ghost use Rattle.guard_reader.specs.inside.NodeParts.{sight_at};
 ghost use Rattle.guard_reader.specs.inside.Ranks.{AreBelow, IsBelow, IsLow, rank, rank_of};
 
@@ -193,88 +193,31 @@ pub fn member<'a>(
     None
 }
 
-/// Whether the component at a place is among those that were read, of which the first 64 are kept as bits. Of these
-/// octets so many are left.
-pub fn is_read(
-    table: &Nodes,
-    first: usize,
-    count: usize,
-    octets: &[u8],
-    left: usize,
-    read: u64,
-    place: usize,
-) -> bool
-    requires { first + count ≤ vec_len table.now.hots }
-    ensures { (rest places : List ℕ) → length rest ≡ left
-        → AreRead (parts_between (spots_in table.now) first count) octets.now rest read places → result ≡ is_read places place }
-{
-    if place < 64 {
-        return has_bit(read, place);
-    }
-    was_read(table, first, count, octets, left, place)
-}
-
-fn has_bit(read: u64, place: usize) -> bool
+/// Whether the component at a place was read: those that were are kept as bits.
+pub fn is_read(read: u64, place: usize) -> bool
     requires { place < 64 }
     ensures { result ≡ nat_eq (bit_at read place) 1 }
 {
     (read >> place) & 1 == 1
 }
 
-/// Whether the component at a place that isn't kept as a bit was read: the octets before are looked through again.
-#[cold]
-#[inline(never)]
-fn was_read(
-    table: &Nodes,
-    first: usize,
-    count: usize,
-    octets: &[u8],
-    left: usize,
-    place: usize,
-) -> bool
-    requires { first + count ≤ vec_len table.now.hots }
-    ensures { (end places : List ℕ) → length end ≡ left
-        → Reach (parts_between (spots_in table.now) first count) octets.now end places → result ≡ is_read places place }
-{
-    let mut rest = octets;
-    while rest.len() > left {
-        let Some((found, _, next)) = member(table, first, count, 0, rest) else {
-            return false;
-        };
-        if found == place {
-            return true;
-        }
-        rest = next;
-    }
-    false
-}
-
-/// With the component at this place, where places are kept as bits.
+/// With the component at this place.
 pub fn with_read(read: u64, place: usize) -> u64
+    requires { place < 64 }
     ensures { (i : ℕ) → i < 64 → nat_eq (bit_at result i) 1 ≡ (nat_eq place i || nat_eq (bit_at read i) 1) }
 {
-    if place < 64 {
-        read | (1 << place)
-    } else {
-        read
-    }
+    read | (1 << place)
 }
 
 /// Whether the components that weren't read may be absent; what their absence costs fails.
-pub fn absences(
-    table: &Nodes,
-    first: usize,
-    count: usize,
-    octets: &[u8],
-    read: u64,
-    failed: &mut Slots,
-) -> bool
-    requires { first + count ≤ vec_len table.now.hots }
-    ensures { (places : List ℕ) → AreRead (parts_between (spots_in table.now) first count) octets.now [] read places
+pub fn absences(table: &Nodes, first: usize, count: usize, read: u64, failed: &mut Slots) -> bool
+    requires room { first + count ≤ vec_len table.now.hots }
+    requires few { count ≤ 64 }
+    ensures { (places : List ℕ) → AreRead read places
         → Answers result failed.new (absences_at 0 (parts_between (spots_in table.now) first count) places failed.old) }
 {
     for k in first..first + count {
-        let was_read = is_read(table, first, count, octets, 0, read, k - first);
+        let was_read = is_read(read, k - first);
         if was_read {
             continue;
         }

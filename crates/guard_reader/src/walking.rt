@@ -13,7 +13,7 @@ mod lists;
 pub mod series;
 mod sets;
 
-use crate::conditions::raise;
+use crate::conditions::add_implied;
 use crate::element_fronts::{alone, begins, cut_off, front_at, innermost};
 use crate::layers::has_layers;
 use crate::simple::simple;
@@ -181,6 +181,6 @@ fn formula(table: &Nodes, at: usize, inside: &[u8], failed: &mut Slots) -> bool
         return false;
     }
     let cold = &table.colds[at];
-    raise(&cold.raises, &inner, failed);
+    add_implied(&cold.implications, &inner, failed);
     true
 }

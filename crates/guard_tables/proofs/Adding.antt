@@ -7,7 +7,7 @@ use Rattle.guard_model.specs.AbstractValue as value
 use Rattle.guard_model.specs.AbstractValue.{AbstractValue, Fields, Items}
 use Rattle.guard_tables.specs.declared.slots.Slots.{Slots}
 use Rattle.guard_tables.specs.Slots.{none, added, has}
-use Rattle.guard_tables.specs.Formulas.{Raise, fails_where, failed_unless, raised}
+use Rattle.guard_tables.specs.Formulas.{Implication, fails_where, failed_unless, implied}
 use Rattle.guard_tables.specs.Plan.{AbstractCondition, Plan, Body, Parts, plan, simple, series, set, choice, list, set_of, asked, formula, part}
 use Rattle.guard_tables.specs.Marking.{Facts, facts_of, test_passes, conditions_marked, absence_marked, items_marked, marked, type_marked, fields_marked, alternative_marked}
 use Rattle.guard_tables.proofs.SlotSums.{added_none, none_added, added_again}
@@ -37,9 +37,9 @@ pub adds_conditions : (cs : List AbstractCondition) (f : Facts) → Adds (λ m. 
 adds_conditions [] f m = adds_nothing m
 adds_conditions (c ∷ cs) f m = adds_both (λ m. failed_unless (test_passes c.test f) c.slots m) (λ m. conditions_marked cs f m) (adds_unless (test_passes c.test f) c.slots) (adds_conditions cs f) m
 
-pub adds_raised : (rs : List Raise) (inner : Slots) → Adds (λ m. raised rs inner m)
-adds_raised [] inner m = adds_nothing m
-adds_raised (r ∷ rs) inner m = adds_both (λ m. failed_unless (not (fails_where r.where_failed (has inner))) r.slots m) (λ m. raised rs inner m) (adds_unless (not (fails_where r.where_failed (has inner))) r.slots) (adds_raised rs inner) m
+pub adds_implied : (rs : List Implication) (inner : Slots) → Adds (λ m. implied rs inner m)
+adds_implied [] inner m = adds_nothing m
+adds_implied (r ∷ rs) inner m = adds_both (λ m. failed_unless (not (fails_where r.where_failed (has inner))) r.slots m) (λ m. implied rs inner m) (adds_unless (not (fails_where r.where_failed (has inner))) r.slots) (adds_implied rs inner) m
 
 pub adds_items : (f : AbstractValue → Slots → Slots) → ((v : AbstractValue) → Adds (f v)) → (vs : Items) → Adds (λ m. items_marked f vs m)
 adds_items f h value.no_items m = adds_nothing m
@@ -56,7 +56,7 @@ mutual
   adds_marked (type.sequence_of t) (list p) (value.items vs) m = adds_items (λ v m. type_marked t p v m) (λ v m. adds_type t p v m) vs m
   adds_marked (type.set_of t) (set_of p) (value.items vs) m = adds_items (λ v m. type_marked t p v m) (λ v m. adds_type t p v m) vs m
   adds_marked kind (asked cs b) v m = adds_both (λ m. marked kind b v m) (λ m. conditions_marked cs (facts_of kind v) m) (λ m. adds_marked kind b v m) (adds_conditions cs (facts_of kind v)) m
-  adds_marked kind (formula rs b) v m = adds_raised rs (marked kind b v none) m
+  adds_marked kind (formula rs b) v m = adds_implied rs (marked kind b v none) m
   adds_marked _ _ _ m = adds_nothing m
 
   pub adds_type : (t : AbstractType) (p : Plan) (v : AbstractValue) → Adds (λ m. type_marked t p v m)

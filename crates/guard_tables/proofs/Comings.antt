@@ -10,13 +10,13 @@ use Rattle.std.proofs.Math.Seq.{get_or-append_seam}
 use Rattle.guard_model.specs.declared.tag.Tag.{Tag}
 use Rattle.guard_der.specs.Octets.{twos_complement}
 use Rattle.guard_der.specs.Simple.{integer_fault}
-use Rattle.guard_tables.specs.declared.drafts.Node.{Node}
-use Rattle.guard_tables.specs.declared.drafts.Group.{Group}
-use Rattle.guard_tables.specs.declared.drafts.Group.TheVariants as group
-use Rattle.guard_tables.specs.declared.drafts.Elements.{Elements}
-use Rattle.guard_tables.specs.declared.drafts.Elements.TheVariants as elements
+use Rattle.guard_tables.specs.declared.new_nodes.Node.{Node}
+use Rattle.guard_tables.specs.declared.new_nodes.Group.{Group}
+use Rattle.guard_tables.specs.declared.new_nodes.Group.TheVariants as group
+use Rattle.guard_tables.specs.declared.new_nodes.Elements.{Elements}
+use Rattle.guard_tables.specs.declared.new_nodes.Elements.TheVariants as elements
 use Rattle.guard_tables.specs.declared.identifiers.Identifiers.{Identifiers}
-use Rattle.guard_tables.specs.declared.laid.Laid.{Laid}
+use Rattle.guard_tables.specs.declared.assembled.Assembled.{Assembled}
 use Rattle.guard_tables.specs.declared.node.Hot.{Hot}
 use Rattle.guard_tables.specs.declared.node.Cold.{Cold}
 use Rattle.guard_tables.specs.declared.conditions_list.Conditions.{Conditions}
@@ -24,18 +24,18 @@ use Rattle.guard_tables.specs.declared.node.Condition.{Condition}
 use Rattle.guard_tables.specs.declared.node.Kind.{Kind}
 use Rattle.guard_tables.specs.declared.node.Kind.TheVariants as kind
 use Rattle.guard_tables.specs.declared.node.Need.{Need}
-use Rattle.guard_tables.specs.declared.node.Raise.{Raise}
+use Rattle.guard_tables.specs.declared.node.Implication.{Implication}
 use Rattle.guard_tables.specs.declared.node.SimpleKind.{SimpleKind}
 use Rattle.guard_tables.specs.declared.node_list.Builder.{Builder}
 use Rattle.guard_tables.specs.declared.slots.Slots.{Slots}
-use Rattle.guard_tables.specs.NodeViews.{absence_of, condition_view, raise_view, kind_view, identifier_of, other_of}
-use Rattle.guard_tables.specs.Lay.{raised_of}
+use Rattle.guard_tables.specs.NodeViews.{absence_of, condition_view, implication_view, kind_view, identifier_of, other_of}
+use Rattle.guard_tables.specs.Lay.{implied_of}
 use Rattle.guard_tables.specs.Plan.{Plan, Body, Parts, plan, simple, asked, formula, asked_of, no_parts, part, body_in, tags_in, form_in}
 use Rattle.guard_tables.specs.Slots.{none}
-use Rattle.guard_tables.specs.TableNodes.{Spot, side_of, spot_of, spots_of, spot_at, blank, own_tags, tags_of_kind, form_of_kind, body_of_kind, has_inner, parts_of, parts_between, IsNode, IsFree}
+use Rattle.guard_tables.specs.TableNodes.{Spot, side_of, spot_of, spots_of, spot_at, blank, own_tags, tags_of_kind, form_of_kind, body_of_kind, has_inner, parts_of, parts_between, ascend, IsNode, IsFree}
 use Rattle.guard_tables.specs.inside.Aside.{spots_at, AreNodes, parts_then}
-use Rattle.guard_tables.specs.inside.Bare.{bare_hot, plain_hot, kind_of_group, kind_of_elements}
-use Rattle.guard_tables.specs.inside.Laid.{spots_so_far, Grows, Stacks, Lays, plan_in, body_of_group, body_of_elements}
+use Rattle.guard_tables.specs.inside.Bare.{bare_hot, plain_hot, told_hot, kind_of_group, kind_of_elements}
+use Rattle.guard_tables.specs.inside.Assembled.{spots_so_far, Grows, Stacks, Lays, plan_in, body_of_group, body_of_elements}
 use Rattle.guard_tables.proofs.Growing.{one_more, stays, kept_node}
 use Rattle.guard_tables.proofs.Spots.{spots_count}
 
@@ -50,7 +50,7 @@ pub grown_one : (before after : Builder) (h : Hot) (c : Cold) → after.hots.ite
 unfolding spots_of
 grown_one before after h c e f = rw (e, f) (one_more before.hots.items before.colds.items h c [] before.built.lengths)
 
-pub stacks : (l : Laid) (after : Builder) (first : ℕ) → after.hots.items ≡ l.builder.hots.items ++ l.node.hot ∷ [] → after.colds.items ≡ l.builder.colds.items ++ l.node.cold ∷ []
+pub stacks : (l : Assembled) (after : Builder) (first : ℕ) → after.hots.items ≡ l.builder.hots.items ++ l.node.hot ∷ [] → after.colds.items ≡ l.builder.colds.items ++ l.node.cold ∷ []
     → first ≡ length l.builder.hots.items → Stacks l after first
 stacks l after first e f at =
     let ss : List Spot = spots_so_far l.builder in
@@ -80,13 +80,15 @@ abbrev Tells : Bool → List Condition → Type 0
 Tells told cs = told ≡ false → cs ≡ []
 
 bare_comes : (kd : Kind) (ids : Identifiers) (told : Bool) (first count : ℕ) (c : Cold) (spots : List Spot) (k : ℕ) (p : Plan)
-    → (spot_of (bare_hot kd ids told first count) c spots).plan ≡ p → first + count ≤ k → (has_inner kd ≡ true → first < k)
+    → (spot_of (bare_hot kd ids told first count) c spots).plan ≡ p → first + count ≤ k → count ≤ 64 → (has_inner kd ≡ true → first < k)
     → ids.own ≡ identifier_of (tags_in p) (form_in p) → ids.other ≡ other_of (tags_in p) (form_in p)
     → c.default ≡ None → c.present ≡ none → Tells told c.conditions.list.items → Comes (bare_hot kd ids told first count) c spots k p
-bare_comes kd ids told first count c spots k p e before inner own other default present tells = record {
+bare_comes kd ids told first count c spots k p e before few inner own other default present tells = record {
   node = record {
     before = before;
     inner = inner;
+    few = few;
+    ascending = λ e. let bad : ◌≡◌ {A = Bool} false true = e in absurd cc;
     identifier = own ∙ ap (λ (p : Plan). identifier_of (tags_in p) (form_in p)) (sym e);
     other = other ∙ ap (λ (p : Plan). other_of (tags_in p) (form_in p)) (sym e);
     unwatched = λ free. (search default, present);
@@ -98,7 +100,7 @@ bare_comes kd ids told first count c spots k p e before inner own other default 
 
 -- ---- in front of a node
 
-inner_identifier : (l : Laid) → (l.node.hot.identifier ≡ identifier_of (tags_in (plan_in l)) (form_in (plan_in l))) × (l.node.hot.other ≡ other_of (tags_in (plan_in l)) (form_in (plan_in l)))
+inner_identifier : (l : Assembled) → (l.node.hot.identifier ≡ identifier_of (tags_in (plan_in l)) (form_in (plan_in l))) × (l.node.hot.other ≡ other_of (tags_in (plan_in l)) (form_in (plan_in l)))
 inner_identifier l = (l.stands.identifier, l.stands.other)
 
 asked_plan : (ids : Identifiers) (first : ℕ) (c : Cold) (spots : List Spot) (p : Plan) → (spot_at spots first).plan ≡ p
@@ -107,44 +109,44 @@ unfolding spot_of
 asked_plan ids first c spots p e = ap (λ (p : Plan). plan (tags_in p) (form_in p) (asked (map condition_view c.conditions.list.items) (body_in p))) e
 
 formula_plan : (ids : Identifiers) (first : ℕ) (c : Cold) (spots : List Spot) (p : Plan) → (spot_at spots first).plan ≡ p
-    → (spot_of (bare_hot kind.Formula ids false first 1) c spots).plan ≡ plan (tags_in p) (form_in p) (formula (map raise_view c.raises.items) (body_in p))
+    → (spot_of (bare_hot kind.Formula ids false first 1) c spots).plan ≡ plan (tags_in p) (form_in p) (formula (map implication_view c.implications.items) (body_in p))
 unfolding spot_of
-formula_plan ids first c spots p e = ap (λ (p : Plan). plan (tags_in p) (form_in p) (formula (map raise_view c.raises.items) (body_in p))) e
+formula_plan ids first c spots p e = ap (λ (p : Plan). plan (tags_in p) (form_in p) (formula (map implication_view c.implications.items) (body_in p))) e
 
 wrapper_plan : (ids : Identifiers) (first : ℕ) (c : Cold) (t : Tag) (spots : List Spot) (p : Plan) → c.tag ≡ Some t → (spot_at spots first).plan ≡ p
     → (spot_of (bare_hot kind.Wrapper ids false first 1) c spots).plan ≡ plan (t ∷ tags_in p) (form_in p) (body_in p)
 unfolding spot_of
 wrapper_plan ids first c t spots p tag e = rw (tag, e) refl
 
-pub asked_comes : (l : Laid) (after : Builder) (first : ℕ) → Stacks l after first → (c : Cold) → c.default ≡ None → c.present ≡ none
+pub asked_comes : (l : Assembled) (after : Builder) (first : ℕ) → Stacks l after first → (c : Cold) → c.default ≡ None → c.present ≡ none
     → Comes (bare_hot kind.Asked (record { own = l.node.hot.identifier; other = l.node.hot.other }) true first 1) c (spots_so_far after) (length after.hots.items)
     (plan (tags_in (plan_in l)) (form_in (plan_in l)) (asked (map condition_view c.conditions.list.items) (body_in (plan_in l))))
 asked_comes l after first s c default present =
     bare_comes kind.Asked (record { own = l.node.hot.identifier; other = l.node.hot.other }) true first 1 c (spots_so_far after) (length after.hots.items) _
     (asked_plan (record { own = l.node.hot.identifier; other = l.node.hot.other }) first c (spots_so_far after) (plan_in l) s.stands)
-    (omega (arith, s.count)) (λ e. omega (arith, s.count)) (inner_identifier l).0 (inner_identifier l).1 default present (λ e. absurd cc)
+    (omega (arith, s.count)) (omega arith) (λ e. omega (arith, s.count)) (inner_identifier l).0 (inner_identifier l).1 default present (λ e. absurd cc)
 
-pub formula_comes : (l : Laid) (after : Builder) (first : ℕ) → Stacks l after first → (c : Cold) → c.default ≡ None → c.present ≡ none → c.conditions.list.items ≡ []
+pub formula_comes : (l : Assembled) (after : Builder) (first : ℕ) → Stacks l after first → (c : Cold) → c.default ≡ None → c.present ≡ none → c.conditions.list.items ≡ []
     → Comes (bare_hot kind.Formula (record { own = l.node.hot.identifier; other = l.node.hot.other }) false first 1) c (spots_so_far after) (length after.hots.items)
-    (plan (tags_in (plan_in l)) (form_in (plan_in l)) (formula (map raise_view c.raises.items) (body_in (plan_in l))))
+    (plan (tags_in (plan_in l)) (form_in (plan_in l)) (formula (map implication_view c.implications.items) (body_in (plan_in l))))
 formula_comes l after first s c default present nothing =
     bare_comes kind.Formula (record { own = l.node.hot.identifier; other = l.node.hot.other }) false first 1 c (spots_so_far after) (length after.hots.items) _
     (formula_plan (record { own = l.node.hot.identifier; other = l.node.hot.other }) first c (spots_so_far after) (plan_in l) s.stands)
-    (omega (arith, s.count)) (λ e. omega (arith, s.count)) (inner_identifier l).0 (inner_identifier l).1 default present (λ e. nothing)
+    (omega (arith, s.count)) (omega arith) (λ e. omega (arith, s.count)) (inner_identifier l).0 (inner_identifier l).1 default present (λ e. nothing)
 
 -- an explicit tag is of the constructed form, whatever is in it
 outer_identifier : (t : Tag) (ts : List Tag) (f : Bool) → 0 < length ts → (identifier_of (t ∷ []) true ≡ identifier_of (t ∷ ts) f) × (other_of (t ∷ []) true ≡ other_of (t ∷ ts) f)
 outer_identifier t [] f h = absurd (omega (arith, h))
 outer_identifier t (u ∷ us) f h = (refl, refl)
 
-pub wrapper_comes : (l : Laid) (after : Builder) (first : ℕ) → Stacks l after first → (t : Tag) → 0 < length (tags_in (plan_in l)) → (ids : Identifiers) → ids.own ≡ identifier_of (t ∷ []) true → ids.other ≡ other_of (t ∷ []) true
+pub wrapper_comes : (l : Assembled) (after : Builder) (first : ℕ) → Stacks l after first → (t : Tag) → 0 < length (tags_in (plan_in l)) → (ids : Identifiers) → ids.own ≡ identifier_of (t ∷ []) true → ids.other ≡ other_of (t ∷ []) true
     → (c : Cold) → c.default ≡ None → c.present ≡ none → c.conditions.list.items ≡ [] → c.tag ≡ Some t
     → Comes (bare_hot kind.Wrapper ids false first 1) c (spots_so_far after) (length after.hots.items) (plan (t ∷ tags_in (plan_in l)) (form_in (plan_in l)) (body_in (plan_in l)))
 wrapper_comes l after first s t some ids own other c default present nothing tag =
     let same = outer_identifier t (tags_in (plan_in l)) (form_in (plan_in l)) some in
     bare_comes kind.Wrapper ids false first 1 c (spots_so_far after) (length after.hots.items) (plan (t ∷ tags_in (plan_in l)) (form_in (plan_in l)) (body_in (plan_in l)))
     (wrapper_plan ids first c t (spots_so_far after) (plan_in l) tag s.stands)
-    (omega (arith, s.count)) (λ e. omega (arith, s.count)) (own ∙ same.0) (other ∙ same.1) default present (λ e. nothing)
+    (omega (arith, s.count)) (omega arith) (λ e. omega (arith, s.count)) (own ∙ same.0) (other ∙ same.1) default present (λ e. nothing)
 
 -- ---- round elements, parts, and nodes alone
 
@@ -154,13 +156,13 @@ unfolding spot_of
 elements_plan elements.List ids first c tag spots p t e = rw (t, e) refl
 elements_plan elements.SetOf ids first c tag spots p t e = rw (t, e) refl
 
-pub elements_come : (l : Laid) (after : Builder) (first : ℕ) → Stacks l after first → (g : Elements) (tag : Option Tag) (ids : Identifiers) → ids.own ≡ identifier_of (own_tags tag) true → ids.other ≡ other_of (own_tags tag) true
+pub elements_come : (l : Assembled) (after : Builder) (first : ℕ) → Stacks l after first → (g : Elements) (tag : Option Tag) (ids : Identifiers) → ids.own ≡ identifier_of (own_tags tag) true → ids.other ≡ other_of (own_tags tag) true
     → (c : Cold) → c.default ≡ None → c.present ≡ none → c.conditions.list.items ≡ [] → c.tag ≡ tag
     → Comes (bare_hot (kind_of_elements g) ids false first 1) c (spots_so_far after) (length after.hots.items) (plan (own_tags tag) true (body_of_elements g (plan_in l)))
 elements_come l after first s g tag ids own other c default present nothing t =
     bare_comes (kind_of_elements g) ids false first 1 c (spots_so_far after) (length after.hots.items) (plan (own_tags tag) true (body_of_elements g (plan_in l)))
     (elements_plan g ids first c tag (spots_so_far after) (plan_in l) t s.stands)
-    (omega (arith, s.count)) (λ e. omega (arith, s.count)) own other default present (λ e. nothing)
+    (omega (arith, s.count)) (omega arith) (λ e. omega (arith, s.count)) own other default present (λ e. nothing)
 
 group_plan : (g : Group) (ids : Identifiers) (first count : ℕ) (c : Cold) (tag : Option Tag) (spots : List Spot) → c.tag ≡ tag
     → (spot_of (bare_hot (kind_of_group g) ids false first count) c spots).plan ≡ plan (own_tags tag) true (body_of_group g (parts_between spots first count))
@@ -175,12 +177,12 @@ beside group.Set = refl
 beside group.Choice = refl
 
 pub group_comes : (g : Group) (tag : Option Tag) (ids : Identifiers) → ids.own ≡ identifier_of (own_tags tag) true → ids.other ≡ other_of (own_tags tag) true → (first count : ℕ)
-    → (c : Cold) → c.default ≡ None → c.present ≡ none → c.conditions.list.items ≡ [] → c.tag ≡ tag → (spots : List Spot) (k : ℕ) → first + count ≤ k
+    → (c : Cold) → c.default ≡ None → c.present ≡ none → c.conditions.list.items ≡ [] → c.tag ≡ tag → (spots : List Spot) (k : ℕ) → first + count ≤ k → count ≤ 64
     → Comes (bare_hot (kind_of_group g) ids false first count) c spots k (plan (own_tags tag) true (body_of_group g (parts_between spots first count)))
-group_comes g tag ids own other first count c default present nothing t spots k before =
+group_comes g tag ids own other first count c default present nothing t spots k before few =
     let aside = beside g in
     bare_comes (kind_of_group g) ids false first count c spots k (plan (own_tags tag) true (body_of_group g (parts_between spots first count)))
-    (group_plan g ids first count c tag spots t) before (λ e. absurd cc) own other default present (λ e. nothing)
+    (group_plan g ids first count c tag spots t) before few (λ e. absurd cc) own other default present (λ e. nothing)
 
 pub group_stands : (g : Group) (tag : Option Tag) (ids : Identifiers) (first count : ℕ) (c : Cold) → c.tag ≡ tag → (spots : List Spot)
     → (spot_of (bare_hot (kind_of_group g) ids false first count) c spots).plan ≡ plan (own_tags tag) true (body_of_group g (parts_between spots first count))
@@ -196,7 +198,7 @@ pub simple_comes : (s : SimpleKind) (tag : Option Tag) (ids : Identifiers) → i
     → Comes (bare_hot (kind.Simple s) ids told 0 0) c spots k (plan (own_tags tag) false (simple (kind_view s c.items.items) (map condition_view c.conditions.list.items)))
 simple_comes s tag ids own other told c default present tells t spots k =
     bare_comes (kind.Simple s) ids told 0 0 c spots k (plan (own_tags tag) false (simple (kind_view s c.items.items) (map condition_view c.conditions.list.items)))
-    (simple_stands s tag ids told c t spots) (omega arith) (λ e. absurd cc) own other default present tells
+    (simple_stands s tag ids told c t spots) (omega arith) (omega arith) (λ e. absurd cc) own other default present tells
 
 -- ---- as a component
 
@@ -208,6 +210,7 @@ sided_hot h need watched low high = record {
   need = need;
   watched = watched;
   asked = h.asked;
+  ascending = h.ascending;
   low = low;
   high = high;
   first = h.first;
@@ -222,7 +225,7 @@ sided_cold c absent present default = record {
   absent = absent;
   present = present;
   default = default;
-  raises = c.raises;
+  implications = c.implications;
 }
 
 sided_body : (k : Kind) (h : Hot) (c : Cold) (need : Need) (watched : Bool) (low high : ℤ) (absent present : Slots) (default : Option (Vec ℕ Global)) (spots : List Spot)
@@ -261,6 +264,8 @@ sided h c need watched from to low high absent present default free plain spots 
     record {
       before = n.before;
       inner = n.inner;
+      few = n.few;
+      ascending = n.ascending;
       identifier = n.identifier ∙ ap (λ (p : Plan). identifier_of (tags_in p) (form_in p)) kept_plan;
       other = n.other ∙ ap (λ (p : Plan). other_of (tags_in p) (form_in p)) kept_plan;
       unwatched = free;
@@ -295,11 +300,49 @@ plained h c low high plain spots k n =
     record {
       before = n.before;
       inner = n.inner;
+      few = n.few;
+      ascending = n.ascending;
       identifier = n.identifier ∙ ap (λ (s : Spot). identifier_of (tags_in s.plan) (form_in s.plan)) same;
       other = n.other ∙ ap (λ (s : Spot). other_of (tags_in s.plan) (form_in s.plan)) same;
       unwatched = n.unwatched;
       unasked = n.unasked;
       plain = λ os lawful from_low to_high. subst (λ (s : Spot). IsFree s os) same (plain spots os lawful from_low to_high);
+    }
+
+-- ---- whether its parts ascend
+
+told_body : (k : Kind) (h : Hot) (c : Cold) (ascending : Bool) (spots : List Spot) → body_of_kind k (told_hot h ascending) c spots ≡ body_of_kind k h c spots
+told_body (kind.Simple k) h c ascending spots = refl
+told_body kind.Series h c ascending spots = refl
+told_body kind.Set h c ascending spots = refl
+told_body kind.Choice h c ascending spots = refl
+told_body kind.List h c ascending spots = refl
+told_body kind.SetOf h c ascending spots = refl
+told_body kind.Wrapper h c ascending spots = refl
+told_body kind.Asked h c ascending spots = refl
+told_body kind.Formula h c ascending spots = refl
+
+pub told_spot : (h : Hot) (c : Cold) (ascending : Bool) (spots : List Spot) → spot_of (told_hot h ascending) c spots ≡ spot_of h c spots
+unfolding spot_of
+told_spot h c ascending spots =
+    let tags : List Tag = tags_of_kind h.kind c.tag (tags_in (spot_at spots h.first).plan) in
+    let form : Bool = form_of_kind h.kind (form_in (spot_at spots h.first).plan) in
+    ap (λ (b : Body). record { side = side_of h c; plan = plan tags form b }) (told_body h.kind h c ascending spots)
+
+pub told : (h : Hot) (c : Cold) (ascending : Bool) (spots : List Spot) (k : ℕ) → (ascending ≡ true → ascend None (parts_between spots h.first h.count) ≡ true)
+    → IsNode h c spots k → IsNode (told_hot h ascending) c spots k
+told h c ascending spots k order n =
+    let same : spot_of h c spots ≡ spot_of (told_hot h ascending) c spots = sym (told_spot h c ascending spots) in
+    record {
+      before = n.before;
+      inner = n.inner;
+      few = n.few;
+      ascending = order;
+      identifier = n.identifier ∙ ap (λ (s : Spot). identifier_of (tags_in s.plan) (form_in s.plan)) same;
+      other = n.other ∙ ap (λ (s : Spot). other_of (tags_in s.plan) (form_in s.plan)) same;
+      unwatched = n.unwatched;
+      unasked = n.unasked;
+      plain = λ os lawful from_low to_high. subst (λ (s : Spot). IsFree s os) same (n.plain os lawful from_low to_high);
     }
 
 -- ---- nodes aside
@@ -310,6 +353,8 @@ kept h c spots more k last within le n =
     record {
       before = omega (arith, n.before, le);
       inner = λ e. let i = n.inner e in omega (arith, i, le);
+      few = m.few;
+      ascending = m.ascending;
       identifier = m.identifier;
       other = m.other;
       unwatched = m.unwatched;
@@ -399,7 +444,7 @@ grown_on before mid after g h = record {
   grown = h.grown ∙ ap (λ (ss : List Spot). ss ++ h.more) g.grown ∙ after_all (spots_so_far before) g.more h.more;
 }
 
-pub laid_on : (before : Builder) (l m : Laid) (p : Plan) (f : Plan → Plan) → Lays before l p → Lays l.builder m (f (plan_in l)) → Lays before m (f p)
+pub laid_on : (before : Builder) (l m : Assembled) (p : Plan) (f : Plan → Plan) → Lays before l p → Lays l.builder m (f (plan_in l)) → Lays before m (f p)
 laid_on before l m p f a b = record { grows = grown_on before l.builder m.builder a.grows b.grows; stands = b.stands ∙ ap f a.stands }
 
 -- ---- the same plan
@@ -414,7 +459,7 @@ nothing_more b = record { more = []; grown = sym (no_rest (spots_so_far b)) }
 same_plan : (p : Plan) → p ≡ plan (tags_in p) (form_in p) (body_in p)
 same_plan (plan tags form body) = refl
 
-pub unasked : (l : Laid) (cs : List Condition) → length cs ≡ 0 → Lays l.builder l (plan (tags_in (plan_in l)) (form_in (plan_in l)) (asked_of (map condition_view cs) (body_in (plan_in l))))
+pub unasked : (l : Assembled) (cs : List Condition) → length cs ≡ 0 → Lays l.builder l (plan (tags_in (plan_in l)) (form_in (plan_in l)) (asked_of (map condition_view cs) (body_in (plan_in l))))
 unasked l [] e = record { grows = nothing_more l.builder; stands = same_plan (plan_in l) }
 unasked l (x ∷ cs) e = absurd (omega (arith, e))
 
@@ -422,27 +467,27 @@ pub some_asked : (cs : List Condition) (b : Body) → 0 < length cs → asked (m
 some_asked [] b h = absurd (omega (arith, h))
 some_asked (x ∷ cs) b h = refl
 
-pub unraised : (l : Laid) (rs : List Raise) → length rs ≡ 0 → Lays l.builder l (plan (tags_in (plan_in l)) (form_in (plan_in l)) (raised_of (map raise_view rs) (body_in (plan_in l))))
-unraised l [] e = record { grows = nothing_more l.builder; stands = same_plan (plan_in l) }
-unraised l (r ∷ rs) e = absurd (omega (arith, e))
+pub unimplied : (l : Assembled) (rs : List Implication) → length rs ≡ 0 → Lays l.builder l (plan (tags_in (plan_in l)) (form_in (plan_in l)) (implied_of (map implication_view rs) (body_in (plan_in l))))
+unimplied l [] e = record { grows = nothing_more l.builder; stands = same_plan (plan_in l) }
+unimplied l (r ∷ rs) e = absurd (omega (arith, e))
 
-pub some_raised : (rs : List Raise) (b : Body) → 0 < length rs → formula (map raise_view rs) b ≡ raised_of (map raise_view rs) b
-some_raised [] b h = absurd (omega (arith, h))
-some_raised (r ∷ rs) b h = refl
+pub some_implied : (rs : List Implication) (b : Body) → 0 < length rs → formula (map implication_view rs) b ≡ implied_of (map implication_view rs) b
+some_implied [] b h = absurd (omega (arith, h))
+some_implied (r ∷ rs) b h = refl
 
-pub laid_as : (before : Builder) (l : Laid) (p q : Plan) → p ≡ q → Lays before l p → Lays before l q
+pub laid_as : (before : Builder) (l : Assembled) (p q : Plan) → p ≡ q → Lays before l p → Lays before l q
 laid_as before l p q e a = record { grows = a.grows; stands = a.stands ∙ e }
 
 -- ---- colds of new nodes
 
 abbrev pub tagged_cold : Cold → Option Tag → Cold
-tagged_cold c tag = record { tag = tag; items = c.items; conditions = c.conditions; absent = c.absent; present = c.present; default = c.default; raises = c.raises }
+tagged_cold c tag = record { tag = tag; items = c.items; conditions = c.conditions; absent = c.absent; present = c.present; default = c.default; implications = c.implications }
 
 abbrev pub asked_cold : Cold → Conditions → Cold
-asked_cold c conditions = record { tag = c.tag; items = c.items; conditions = conditions; absent = c.absent; present = c.present; default = c.default; raises = c.raises }
+asked_cold c conditions = record { tag = c.tag; items = c.items; conditions = conditions; absent = c.absent; present = c.present; default = c.default; implications = c.implications }
 
-abbrev pub raised_cold : Cold → Vec Raise Global → Cold
-raised_cold c raises = record { tag = c.tag; items = c.items; conditions = c.conditions; absent = c.absent; present = c.present; default = c.default; raises = raises }
+abbrev pub implied_cold : Cold → Vec Implication Global → Cold
+implied_cold c implications = record { tag = c.tag; items = c.items; conditions = c.conditions; absent = c.absent; present = c.present; default = c.default; implications = implications }
 
 abbrev pub simple_cold : Cold → Option Tag → Vec ℤ Global → Conditions → Cold
-simple_cold c tag items conditions = record { tag = tag; items = items; conditions = conditions; absent = c.absent; present = c.present; default = c.default; raises = c.raises }
+simple_cold c tag items conditions = record { tag = tag; items = items; conditions = conditions; absent = c.absent; present = c.present; default = c.default; implications = c.implications }

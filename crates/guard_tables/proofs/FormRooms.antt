@@ -5,16 +5,16 @@ use Rattle.guard_model.specs.AbstractType as type
 use Rattle.guard_model.specs.AbstractType.{AbstractKind, Constraint, Constraints}
 use Rattle.guard_model.specs.TypeView.{constraint_view, constraints_of}
 use Rattle.guard_model.specs.declared.ty.Cons.{Cons}
-use Rattle.guard_tables.specs.declared.asks.Ask as code
+use Rattle.guard_tables.specs.declared.demands.SlotDemand as code
 use Rattle.guard_tables.specs.declared.node.Form as node
-use Rattle.guard_tables.specs.declared.node.Raise as raise
+use Rattle.guard_tables.specs.declared.node.Implication as implication
 use Rattle.guard_tables.specs.declared.slots.Slots.{Slots}
 use Rattle.guard_tables.specs.Slots.{only}
-use Rattle.guard_tables.specs.Demands.{Ask, Term}
-use Rattle.guard_tables.specs.Formulas.{Form, Raise}
-use Rattle.guard_tables.specs.Forms.{Formula, Formulas, aside, own_form, form_one, form_element, form_all, form_each, form_own, form, conjoined, and_raise, raise_of, forms_from, nothing_yet}
-use Rattle.guard_tables.specs.NodeViews.{form_view, raise_view}
-use Rattle.guard_tables.specs.inside.AskViews.{demand_view, asks_view}
+use Rattle.guard_tables.specs.Demands.{SlotDemand, Term}
+use Rattle.guard_tables.specs.Formulas.{Form, Implication}
+use Rattle.guard_tables.specs.Forms.{Formula, Formulas, aside, own_form, form_one, form_element, form_all, form_each, form_own, form, conjoined, and_implication, implication_of, forms_from, nothing_yet}
+use Rattle.guard_tables.specs.NodeViews.{form_view, implication_view}
+use Rattle.guard_tables.specs.inside.DemandViews.{demand_view, slot_demands_view}
 use Rattle.guard_tables.proofs.SlotCounts.{all_up, each_up, own_up, conjoined_up, forms_up}
 
 abbrev pub rest_of : List Cons → Constraints
@@ -53,58 +53,58 @@ minus_room k kind a b f room = let p = own_up true kind b (form_one k kind a f) 
 
 -- ---- demands
 
-next_ask : {A : Type 0} (f : List code.Ask → A) (asks : List code.Ask) (i : ℕ) (a : code.Ask) → i < length asks → a ≡ get_or asks i a → f (drop i asks) ≡ f (a ∷ drop (i + 1) asks)
-next_ask f asks i a lt is = at_drop_more f asks i a lt ∙ ap (λ (b : code.Ask). f (b ∷ drop (i + 1) asks)) (sym is)
+next_demand : {A : Type 0} (f : List code.SlotDemand → A) (demands : List code.SlotDemand) (i : ℕ) (a : code.SlotDemand) → i < length demands → a ≡ get_or demands i a → f (drop i demands) ≡ f (a ∷ drop (i + 1) demands)
+next_demand f demands i a lt is = at_drop_more f demands i a lt ∙ ap (λ (b : code.SlotDemand). f (b ∷ drop (i + 1) demands)) (sym is)
 
-pub conjoined_so_far : (asks : List code.Ask) (i : ℕ) (a : code.Ask) (f g all : Formula) → i < length asks → a ≡ get_or asks i a → g ≡ form a.slots (demand_view a.demand) f
-    → conjoined (asks_view (drop i asks)) f ≡ all → conjoined (asks_view (drop (i + 1) asks)) g ≡ all
-conjoined_so_far asks i a f g all lt is same so_far = ap (conjoined (asks_view (drop (i + 1) asks))) same ∙ sym (next_ask (λ xs. conjoined (asks_view xs) f) asks i a lt is) ∙ so_far
+pub conjoined_so_far : (demands : List code.SlotDemand) (i : ℕ) (a : code.SlotDemand) (f g all : Formula) → i < length demands → a ≡ get_or demands i a → g ≡ form a.slots (demand_view a.demand) f
+    → conjoined (slot_demands_view (drop i demands)) f ≡ all → conjoined (slot_demands_view (drop (i + 1) demands)) g ≡ all
+conjoined_so_far demands i a f g all lt is same so_far = ap (conjoined (slot_demands_view (drop (i + 1) demands))) same ∙ sym (next_demand (λ xs. conjoined (slot_demands_view xs) f) demands i a lt is) ∙ so_far
 
-pub conjoined_room : (asks : List code.Ask) (i : ℕ) (a : code.Ask) (f all : Formula) → i < length asks → a ≡ get_or asks i a → conjoined (asks_view (drop i asks)) f ≡ all → all.next ≤ 256
+pub conjoined_room : (demands : List code.SlotDemand) (i : ℕ) (a : code.SlotDemand) (f all : Formula) → i < length demands → a ≡ get_or demands i a → conjoined (slot_demands_view (drop i demands)) f ≡ all → all.next ≤ 256
     → (form a.slots (demand_view a.demand) f).next ≤ 256
-conjoined_room asks i a f all lt is so_far room =
+conjoined_room demands i a f all lt is so_far room =
     let g : Formula = form a.slots (demand_view a.demand) f in
-    let e : (conjoined (asks_view (drop (i + 1) asks)) g).next ≡ all.next = ap (λ (h : Formula). h.next) (conjoined_so_far asks i a f g all lt is refl so_far) in
-    let p = conjoined_up (asks_view (drop (i + 1) asks)) g in
+    let e : (conjoined (slot_demands_view (drop (i + 1) demands)) g).next ≡ all.next = ap (λ (h : Formula). h.next) (conjoined_so_far demands i a f g all lt is refl so_far) in
+    let p = conjoined_up (slot_demands_view (drop (i + 1) demands)) g in
     omega (arith, e, p, room)
 
 -- with a slot of its own, the first that is left
-own_more : (i own : ℕ) (asks : List code.Ask) (a : code.Ask) (f g : Formula) → i < length asks → a ≡ get_or asks i a → own ≡ i → g ≡ aside (form (only own) (demand_view a.demand) (aside f))
-    → forms_from i (asks_view (drop i asks)) f ≡ and_raise (raise_of i a.slots (form (only own) (demand_view a.demand) (aside f))) (forms_from (i + 1) (asks_view (drop (i + 1) asks)) g)
-own_more i own asks a f g lt is place same =
-    let rest : List Ask = asks_view (drop (i + 1) asks) in
-    next_ask (λ xs. forms_from i (asks_view xs) f) asks i a lt is
-    ∙ ap (λ (h : Formula). and_raise (raise_of i a.slots h) (forms_from (suc i) rest (aside h))) (ap (λ (k : ℕ). form (only k) (demand_view a.demand) (aside f)) (sym place))
-    ∙ ap (λ (h : Formula). and_raise (raise_of i a.slots (form (only own) (demand_view a.demand) (aside f))) (forms_from (suc i) rest h)) (sym same)
-    ∙ ap (λ (j : ℕ). and_raise (raise_of i a.slots (form (only own) (demand_view a.demand) (aside f))) (forms_from j rest g)) (sym (add-one i))
+own_more : (i own : ℕ) (demands : List code.SlotDemand) (a : code.SlotDemand) (f g : Formula) → i < length demands → a ≡ get_or demands i a → own ≡ i → g ≡ aside (form (only own) (demand_view a.demand) (aside f))
+    → forms_from i (slot_demands_view (drop i demands)) f ≡ and_implication (implication_of i a.slots (form (only own) (demand_view a.demand) (aside f))) (forms_from (i + 1) (slot_demands_view (drop (i + 1) demands)) g)
+own_more i own demands a f g lt is place same =
+    let rest : List SlotDemand = slot_demands_view (drop (i + 1) demands) in
+    next_demand (λ xs. forms_from i (slot_demands_view xs) f) demands i a lt is
+    ∙ ap (λ (h : Formula). and_implication (implication_of i a.slots h) (forms_from (suc i) rest (aside h))) (ap (λ (k : ℕ). form (only k) (demand_view a.demand) (aside f)) (sym place))
+    ∙ ap (λ (h : Formula). and_implication (implication_of i a.slots (form (only own) (demand_view a.demand) (aside f))) (forms_from (suc i) rest h)) (sym same)
+    ∙ ap (λ (j : ℕ). and_implication (implication_of i a.slots (form (only own) (demand_view a.demand) (aside f))) (forms_from j rest g)) (sym (add-one i))
 
-pub terms_more : (i own : ℕ) (asks : List code.Ask) (a : code.Ask) (f g : Formula) (total : List Term) → i < length asks → a ≡ get_or asks i a → own ≡ i → g ≡ aside (form (only own) (demand_view a.demand) (aside f))
-    → (forms_from i (asks_view (drop i asks)) f).terms ≡ total → (forms_from (i + 1) (asks_view (drop (i + 1) asks)) g).terms ≡ total
-terms_more i own asks a f g total lt is place same so_far = sym (ap (λ (x : Formulas). x.terms) (own_more i own asks a f g lt is place same)) ∙ so_far
+pub terms_more : (i own : ℕ) (demands : List code.SlotDemand) (a : code.SlotDemand) (f g : Formula) (total : List Term) → i < length demands → a ≡ get_or demands i a → own ≡ i → g ≡ aside (form (only own) (demand_view a.demand) (aside f))
+    → (forms_from i (slot_demands_view (drop i demands)) f).terms ≡ total → (forms_from (i + 1) (slot_demands_view (drop (i + 1) demands)) g).terms ≡ total
+terms_more i own demands a f g total lt is place same so_far = sym (ap (λ (x : Formulas). x.terms) (own_more i own demands a f g lt is place same)) ∙ so_far
 
-pub raises_more : (i own : ℕ) (asks : List code.Ask) (a : code.Ask) (f g : Formula) (total : List Raise) (rs qs : List raise.Raise) (r : node.Form) → i < length asks → a ≡ get_or asks i a → own ≡ i
-    → g ≡ aside (form (only own) (demand_view a.demand) (aside f)) → form_view r ≡ own_form own (form (only own) (demand_view a.demand) (aside f)).besides → qs ≡ rs ++ record { slots = a.slots; where_failed = r } ∷ []
-    → map raise_view rs ++ (forms_from i (asks_view (drop i asks)) f).raises ≡ total → map raise_view qs ++ (forms_from (i + 1) (asks_view (drop (i + 1) asks)) g).raises ≡ total
-raises_more i own asks a f g total rs qs r lt is place same fails more so_far =
-    let rest : List Raise = (forms_from (i + 1) (asks_view (drop (i + 1) asks)) g).raises in
-    let code_raise : raise.Raise = record { slots = a.slots; where_failed = r } in
-    ap (λ (xs : List raise.Raise). map raise_view xs ++ rest) more
-    ∙ ap (λ (xs : List Raise). xs ++ rest) (map-append raise_view rs (code_raise ∷ []))
-    ∙ append_assoc (map raise_view rs) (raise_view code_raise ∷ []) rest
-    ∙ ap (λ (x : Form). map raise_view rs ++ record { slots = a.slots; where_failed = x } ∷ rest) (fails ∙ ap (λ (k : ℕ). own_form k (form (only own) (demand_view a.demand) (aside f)).besides) place)
-    ∙ sym (ap (λ (x : Formulas). map raise_view rs ++ x.raises) (own_more i own asks a f g lt is place same)) ∙ so_far
+pub implications_more : (i own : ℕ) (demands : List code.SlotDemand) (a : code.SlotDemand) (f g : Formula) (total : List Implication) (rs qs : List implication.Implication) (r : node.Form) → i < length demands → a ≡ get_or demands i a → own ≡ i
+    → g ≡ aside (form (only own) (demand_view a.demand) (aside f)) → form_view r ≡ own_form own (form (only own) (demand_view a.demand) (aside f)).forms → qs ≡ rs ++ record { slots = a.slots; where_failed = r } ∷ []
+    → map implication_view rs ++ (forms_from i (slot_demands_view (drop i demands)) f).implications ≡ total → map implication_view qs ++ (forms_from (i + 1) (slot_demands_view (drop (i + 1) demands)) g).implications ≡ total
+implications_more i own demands a f g total rs qs r lt is place same fails more so_far =
+    let rest : List Implication = (forms_from (i + 1) (slot_demands_view (drop (i + 1) demands)) g).implications in
+    let code_implication : implication.Implication = record { slots = a.slots; where_failed = r } in
+    ap (λ (xs : List implication.Implication). map implication_view xs ++ rest) more
+    ∙ ap (λ (xs : List Implication). xs ++ rest) (map-append implication_view rs (code_implication ∷ []))
+    ∙ append_assoc (map implication_view rs) (implication_view code_implication ∷ []) rest
+    ∙ ap (λ (x : Form). map implication_view rs ++ record { slots = a.slots; where_failed = x } ∷ rest) (fails ∙ ap (λ (k : ℕ). own_form k (form (only own) (demand_view a.demand) (aside f)).forms) place)
+    ∙ sym (ap (λ (x : Formulas). map implication_view rs ++ x.implications) (own_more i own demands a f g lt is place same)) ∙ so_far
 
-pub next_more : (i own : ℕ) (asks : List code.Ask) (a : code.Ask) (f g : Formula) (total : ℕ) → i < length asks → a ≡ get_or asks i a → own ≡ i → g ≡ aside (form (only own) (demand_view a.demand) (aside f))
-    → (forms_from i (asks_view (drop i asks)) f).next ≡ total → (forms_from (i + 1) (asks_view (drop (i + 1) asks)) g).next ≡ total
-next_more i own asks a f g total lt is place same so_far = sym (ap (λ (x : Formulas). x.next) (own_more i own asks a f g lt is place same)) ∙ so_far
+pub next_more : (i own : ℕ) (demands : List code.SlotDemand) (a : code.SlotDemand) (f g : Formula) (total : ℕ) → i < length demands → a ≡ get_or demands i a → own ≡ i → g ≡ aside (form (only own) (demand_view a.demand) (aside f))
+    → (forms_from i (slot_demands_view (drop i demands)) f).next ≡ total → (forms_from (i + 1) (slot_demands_view (drop (i + 1) demands)) g).next ≡ total
+next_more i own demands a f g total lt is place same so_far = sym (ap (λ (x : Formulas). x.next) (own_more i own demands a f g lt is place same)) ∙ so_far
 
-pub own_room : (i own : ℕ) (asks : List code.Ask) (a : code.Ask) (f : Formula) (total : ℕ) → i < length asks → a ≡ get_or asks i a → own ≡ i → (forms_from i (asks_view (drop i asks)) f).next ≡ total → total ≤ 256
+pub own_room : (i own : ℕ) (demands : List code.SlotDemand) (a : code.SlotDemand) (f : Formula) (total : ℕ) → i < length demands → a ≡ get_or demands i a → own ≡ i → (forms_from i (slot_demands_view (drop i demands)) f).next ≡ total → total ≤ 256
     → (form (only own) (demand_view a.demand) (aside f)).next ≤ 256
-own_room i own asks a f total lt is place so_far room =
+own_room i own demands a f total lt is place so_far room =
     let g : Formula = aside (form (only own) (demand_view a.demand) (aside f)) in
-    let e = next_more i own asks a f g total lt is place refl so_far in
-    let p = forms_up (i + 1) (asks_view (drop (i + 1) asks)) g in
+    let e = next_more i own demands a f g total lt is place refl so_far in
+    let p = forms_up (i + 1) (slot_demands_view (drop (i + 1) demands)) g in
     omega (arith, e, p, room)
 
-pub place_room : (i : ℕ) (asks : List code.Ask) → i < length asks → (forms_from 0 (asks_view asks) (nothing_yet (length asks))).next ≤ 256 → i < 256
-place_room i asks lt room = let p = forms_up 0 (asks_view asks) (nothing_yet (length asks)) in omega (arith, p, lt, room)
+pub place_room : (i : ℕ) (demands : List code.SlotDemand) → i < length demands → (forms_from 0 (slot_demands_view demands) (nothing_yet (length demands))).next ≤ 256 → i < 256
+place_room i demands lt room = let p = forms_up 0 (slot_demands_view demands) (nothing_yet (length demands)) in omega (arith, p, lt, room)

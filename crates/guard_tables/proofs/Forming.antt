@@ -85,7 +85,7 @@ pub record Put (k : Slots) (v : AbstractValue) (f g : Formula) (test : Bool) : T
   pub up : f.next ≤ g.next
   pub others : (j : ℕ) → has k j ≡ false → Outside j f g → terms_fail j v g.terms ≡ terms_fail j v f.terms
   pub tells : Free k v f g.next → (failed : ℕ → Bool) → Agrees failed v g.terms f.next g.next → (j : ℕ) → has k j ≡ true
-      → (terms_fail j v g.terms || fails_where (eithers g.besides never) failed) ≡ (terms_fail j v f.terms || (fails_where (eithers f.besides never) failed || not test))
+      → (terms_fail j v g.terms || fails_where (eithers g.forms never) failed) ≡ (terms_fail j v f.terms || (fails_where (eithers f.forms never) failed || not test))
 
 put_either : (b : Bool) (k : Slots) (v : AbstractValue) (f x y : Formula) (test : Bool) → (b ≡ true → Put k v f x test) → (b ≡ false → Put k v f y test) → Put k v f (cond b x y) test
 put_either true k v f x y test p q = p refl
@@ -98,7 +98,7 @@ no_put : (k : Slots) (v : AbstractValue) (f : Formula) → Put k v f f true
 no_put k v f = record {
   up = omega arith;
   others = λ j h out. refl;
-  tells = λ free failed agrees j h. ap (λ (b : Bool). terms_fail j v f.terms || b) (sym (or_no (fails_where (eithers f.besides never) failed)));
+  tells = λ free failed agrees j h. ap (λ (b : Bool). terms_fail j v f.terms || b) (sym (or_no (fails_where (eithers f.forms never) failed)));
 }
 
 put_terms : (k : Slots) (v : AbstractValue) (f : Formula) (ts : List Term) (test : Bool) → Fails k v ts test → Put k v f (and_terms f ts) test
@@ -106,9 +106,9 @@ put_terms k v f ts test p = record {
   up = omega arith;
   others = λ j h out. of_two f.terms ts v j ∙ ap (λ (b : Bool). terms_fail j v f.terms || b) (p j ∙ ap (λ (b : Bool). b && not test) h) ∙ or_no (terms_fail j v f.terms);
   tells = λ free failed agrees j h.
-      ap (λ (b : Bool). b || fails_where (eithers f.besides never) failed) (of_two f.terms ts v j ∙ ap (λ (b : Bool). terms_fail j v f.terms || b) (p j ∙ ap (λ (b : Bool). b && not test) h))
-      ∙ or_swapped (terms_fail j v f.terms) (not test) (fails_where (eithers f.besides never) failed)
-      ∙ or_again (terms_fail j v f.terms) (fails_where (eithers f.besides never) failed) (not test);
+      ap (λ (b : Bool). b || fails_where (eithers f.forms never) failed) (of_two f.terms ts v j ∙ ap (λ (b : Bool). terms_fail j v f.terms || b) (p j ∙ ap (λ (b : Bool). b && not test) h))
+      ∙ or_swapped (terms_fail j v f.terms) (not test) (fails_where (eithers f.forms never) failed)
+      ∙ or_again (terms_fail j v f.terms) (fails_where (eithers f.forms never) failed) (not test);
 }
 
 -- both, one after the other
@@ -124,10 +124,10 @@ put_both k v f g h a b p q =
       ];
       tells = λ free failed agrees j own.
           q.tells (λ i from to. let here = free i (omega (arith, from, up)) to in (p.others i here.1 (inr from) ∙ here.0, here.1)) failed (λ i from to. agrees i (omega (arith, from, up)) to) j own
-          ∙ sym (or_again (terms_fail j v g.terms) (fails_where (eithers g.besides never) failed) (not b))
+          ∙ sym (or_again (terms_fail j v g.terms) (fails_where (eithers g.forms never) failed) (not b))
           ∙ ap (λ (x : Bool). x || not b)
           (p.tells (λ i from to. free i from (omega (arith, to, on))) failed (λ i from to. agrees i from (omega (arith, to, on)) ∙ q.others i (free i from (omega (arith, to, on))).1 (inl to)) j own)
-          ∙ with_and (terms_fail j v f.terms) (fails_where (eithers f.besides never) failed) a b;
+          ∙ with_and (terms_fail j v f.terms) (fails_where (eithers f.forms never) failed) a b;
     }
 
 -- ---- with a slot of its own
@@ -138,7 +138,7 @@ record Alone (v : AbstractValue) (f g : Formula) (w : Form) (test : Bool) : Type
   pub others : (j : ℕ) → Outside j f g → terms_fail j v g.terms ≡ terms_fail j v f.terms
   pub tells : Unused v f g.next → (failed : ℕ → Bool) → Agrees failed v g.terms f.next g.next → fails_where w failed ≡ not test
 
-alone : (v : AbstractValue) (f g : Formula) (test : Bool) → Put (only f.next) v (taking f) g test → Alone v f g (own_form f.next g.besides) test
+alone : (v : AbstractValue) (f g : Formula) (test : Bool) → Put (only f.next) v (taking f) g test → Alone v f g (own_form f.next g.forms) test
 alone v f g test p =
     let n : ℕ = f.next in
     let up : suc n ≤ g.next = p.up in
@@ -150,7 +150,7 @@ alone v f g test p =
         | inr o ↦ p.others j (not_own j (λ e. absurd (omega (arith, o, e, up)))) (inr o)
       ];
       tells = λ unused failed agrees.
-          ap (λ (b : Bool). b || fails_where (eithers g.besides never) failed) (agrees n (omega arith) (omega (arith, up)))
+          ap (λ (b : Bool). b || fails_where (eithers g.forms never) failed) (agrees n (omega arith) (omega (arith, up)))
           ∙ p.tells (λ j from to. (unused j (omega (arith, from)) to, not_own j (λ e. absurd (omega (arith, from, e))))) failed (λ j from to. agrees j (omega (arith, from)) to) n (only_law n n ∙ eq-eqb n n refl)
           ∙ ap (λ (b : Bool). b || not test) (unused n (omega arith) (omega (arith, up)));
     }
@@ -175,8 +175,8 @@ put_form k v f g w test p = record {
   others = λ j not_own out. p.others j out;
   tells = λ free failed agrees j own.
       let unused : Unused v f g.next = λ i from to. (free i from to).0 in
-      ap (λ (b : Bool). b || fails_where (eithers (f.besides ++ w ∷ []) never) failed) (p.others j (far j k v f g free own))
-      ∙ ap (λ (b : Bool). terms_fail j v f.terms || b) (one_more f.besides w failed ∙ ap (λ (b : Bool). fails_where (eithers f.besides never) failed || b) (p.tells unused failed agrees));
+      ap (λ (b : Bool). b || fails_where (eithers (f.forms ++ w ∷ []) never) failed) (p.others j (far j k v f g free own))
+      ∙ ap (λ (b : Bool). terms_fail j v f.terms || b) (one_more f.forms w failed ∙ ap (λ (b : Bool). fails_where (eithers f.forms never) failed || b) (p.tells unused failed agrees));
 }
 
 -- ---- members of a union
@@ -185,10 +185,10 @@ record Members (v : AbstractValue) (f g : Formula) (test : Bool) : Type 0 where
   pub up : f.next ≤ g.next
   pub others : (j : ℕ) → Outside j f g → terms_fail j v g.terms ≡ terms_fail j v f.terms
   pub tells : Unused v f g.next → (failed : ℕ → Bool) → Agrees failed v g.terms f.next g.next
-      → fails_where (boths g.besides always) failed ≡ (fails_where (boths f.besides always) failed && not test)
+      → fails_where (boths g.forms always) failed ≡ (fails_where (boths f.forms always) failed && not test)
 
 no_member : (v : AbstractValue) (f : Formula) → Members v f f false
-no_member v f = record { up = omega arith; others = λ j out. refl; tells = λ unused failed agrees. sym (and_yes (fails_where (boths f.besides always) failed)) }
+no_member v f = record { up = omega arith; others = λ j out. refl; tells = λ unused failed agrees. sym (and_yes (fails_where (boths f.forms always) failed)) }
 
 member : (v : AbstractValue) (f g h : Formula) (w : Form) (a b : Bool) → Alone v f g w a → Members v (and_form f w g) h b → Members v f h (a || b)
 member v f g h w a b p q =
@@ -203,19 +203,19 @@ member v f g h w a b p q =
       tells = λ unused failed agrees.
           q.tells (λ i from to. p.others i (inr from) ∙ unused i (omega (arith, from, up)) to) failed (λ i from to. agrees i (omega (arith, from, up)) to)
           ∙ ap (λ (x : Bool). x && not b)
-          (all_more f.besides w failed ∙ ap (λ (x : Bool). fails_where (boths f.besides always) failed && x) (p.tells (λ i from to. unused i from (omega (arith, to, on))) failed (λ i from to. agrees i from (omega (arith, to, on)) ∙ q.others i (inl to))))
-          ∙ and_again (fails_where (boths f.besides always) failed) (not a) (not b)
-          ∙ ap (λ (x : Bool). fails_where (boths f.besides always) failed && x) (not_or a b);
+          (all_more f.forms w failed ∙ ap (λ (x : Bool). fails_where (boths f.forms always) failed && x) (p.tells (λ i from to. unused i from (omega (arith, to, on))) failed (λ i from to. agrees i from (omega (arith, to, on)) ∙ q.others i (inl to))))
+          ∙ and_again (fails_where (boths f.forms always) failed) (not a) (not b)
+          ∙ ap (λ (x : Bool). fails_where (boths f.forms always) failed && x) (not_or a b);
     }
 
-union_alone : (v : AbstractValue) (f g : Formula) (test : Bool) → Members v (aside f) g test → Alone v f g (boths g.besides always) test
+union_alone : (v : AbstractValue) (f g : Formula) (test : Bool) → Members v (aside f) g test → Alone v f g (boths g.forms always) test
 union_alone v f g test p = record { up = p.up; others = p.others; tells = p.tells }
 
 -- ---- all elements
 
 -- of a set with a slot of its own
-own_alone : (taken : Bool) (v : AbstractValue) (f g : Formula) (test : Bool) → Put (only f.next) v (taking f) g test → Alone v f g (turned taken (own_form f.next g.besides)) (cond taken (not test) test)
-own_alone taken v f g test p = alone_turned taken v f g (own_form f.next g.besides) test (alone v f g test p)
+own_alone : (taken : Bool) (v : AbstractValue) (f g : Formula) (test : Bool) → Put (only f.next) v (taking f) g test → Alone v f g (turned taken (own_form f.next g.forms)) (cond taken (not test) test)
+own_alone taken v f g test p = alone_turned taken v f g (own_form f.next g.forms) test (alone v f g test p)
 
 mutual
   one_put : (k : Slots) (c : Constraint) (f : Formula) (t : AbstractType) (v : AbstractValue) → IsTrue (is_proper_constraint c t) → IsTrue (fits_kind (kind_of t) v) → Put k v f (form_one k (kind_of t) c f) (holds c (kind_of t) v)
@@ -240,7 +240,7 @@ mutual
   element_put k (type.with_components partial ps) f t v h fit other = put_terms k v f _ _ (components_fail k partial ps t v h fit)
   element_put k (type.union cs) f t v h fit other =
       let g : Formula = form_each (kind_of t) cs (aside f) in
-      put_form k v f g (boths g.besides always) (some_hold cs (kind_of t) v) (union_alone v f g (some_hold cs (kind_of t) v) (each_put cs (aside f) t v h fit))
+      put_form k v f g (boths g.forms always) (some_hold cs (kind_of t) v) (union_alone v f g (some_hold cs (kind_of t) v) (each_put cs (aside f) t v h fit))
   element_put k (type.intersection cs) f t v h fit other = all_put k cs f t v h fit
   element_put k (type.except c d) f t v h fit other =
       let kind : AbstractKind = kind_of t in
@@ -265,7 +265,7 @@ mutual
       let kind : AbstractKind = kind_of t in
       let a = and_parts (is_proper_constraint c t) (are_proper_constraints cs t) h in
       let g : Formula = form_one (only f.next) kind c (taking f) in
-      member v f g (form_each kind cs (in_own false f g)) (own_form f.next g.besides) (holds c kind v) (some_hold cs kind v) (own_alone false v f g (holds c kind v) (one_put (only f.next) c (taking f) t v a.0 fit)) (each_put cs (in_own false f g) t v a.1 fit)
+      member v f g (form_each kind cs (in_own false f g)) (own_form f.next g.forms) (holds c kind v) (some_hold cs kind v) (own_alone false v f g (holds c kind v) (one_put (only f.next) c (taking f) t v a.0 fit)) (each_put cs (in_own false f g) t v a.1 fit)
 
   type_put : (k : Slots) (t : AbstractType) (f : Formula) (v : AbstractValue) → IsTrue (is_proper t) → IsTrue (fits_kind (kind_of t) v) → Put k v f (form_type k t f) (is_member t v)
   type_put k (type_of tags kind cons) f v h fit =
@@ -289,22 +289,22 @@ more_isn't_none [] x e = absurd cc
 more_isn't_none (y ∷ xs) x e = absurd cc
 
 pub record NoneTaken (f g : Formula) : Type 0 where
-  pub before : f.besides ≡ []
+  pub before : f.forms ≡ []
   pub next : g.next ≡ f.next
 
 then_none : (f g h : Formula) → NoneTaken f g → NoneTaken g h → NoneTaken f h
 then_none f g h p q = record { before = p.before; next = q.next ∙ p.next }
 
-none_either : (b : Bool) (f x y : Formula) → (x.besides ≡ [] → NoneTaken f x) → (y.besides ≡ [] → NoneTaken f y) → (cond b x y).besides ≡ [] → NoneTaken f (cond b x y)
+none_either : (b : Bool) (f x y : Formula) → (x.forms ≡ [] → NoneTaken f x) → (y.forms ≡ [] → NoneTaken f y) → (cond b x y).forms ≡ [] → NoneTaken f (cond b x y)
 none_either true f x y p q e = p e
 none_either false f x y p q e = q e
 
 mutual
-  one_none : (k : Slots) (kind : AbstractKind) (c : Constraint) (f : Formula) → (form_one k kind c f).besides ≡ [] → NoneTaken f (form_one k kind c f)
+  one_none : (k : Slots) (kind : AbstractKind) (c : Constraint) (f : Formula) → (form_one k kind c f).forms ≡ [] → NoneTaken f (form_one k kind c f)
   one_none k kind (at site e) f =
       none_either (is_scalar kind) f (and_terms f (term k (scalar kind (at site e)) ∷ [])) (form_element k kind e f) (λ e. record { before = e; next = refl }) (λ other. element_none k kind e f other)
 
-  element_none : (k : Slots) (kind : AbstractKind) (e : Element) (f : Formula) → (form_element k kind e f).besides ≡ [] → NoneTaken f (form_element k kind e f)
+  element_none : (k : Slots) (kind : AbstractKind) (e : Element) (f : Formula) → (form_element k kind e f).forms ≡ [] → NoneTaken f (form_element k kind e f)
   element_none k kind (type.single_value w) f e = record { before = e; next = refl }
   element_none k kind (type.contained_subtype t) f e = type_none k t f e
   element_none k kind (type.range low high) f e = record { before = e; next = refl }
@@ -312,22 +312,22 @@ mutual
   element_none k kind (type.permitted_alphabet ranges) f e = record { before = e; next = refl }
   element_none k kind (type.with_component c) f e = record { before = e; next = refl }
   element_none k kind (type.with_components partial ps) f e = record { before = e; next = refl }
-  element_none k kind (type.union cs) f e = absurd (more_isn't_none f.besides _ e)
+  element_none k kind (type.union cs) f e = absurd (more_isn't_none f.forms _ e)
   element_none k kind (type.intersection cs) f e = all_none k kind cs f e
-  element_none k kind (type.except c d) f e = absurd (more_isn't_none (form_one k kind c f).besides _ e)
-  element_none k kind (type.all_except c) f e = absurd (more_isn't_none f.besides _ e)
+  element_none k kind (type.except c d) f e = absurd (more_isn't_none (form_one k kind c f).forms _ e)
+  element_none k kind (type.all_except c) f e = absurd (more_isn't_none f.forms _ e)
 
-  all_none : (k : Slots) (kind : AbstractKind) (cs : Constraints) (f : Formula) → (form_all k kind cs f).besides ≡ [] → NoneTaken f (form_all k kind cs f)
+  all_none : (k : Slots) (kind : AbstractKind) (cs : Constraints) (f : Formula) → (form_all k kind cs f).forms ≡ [] → NoneTaken f (form_all k kind cs f)
   all_none k kind no_constraints f e = record { before = e; next = refl }
   all_none k kind (constraint c cs) f e =
       let g : Formula = form_one k kind c f in
       let later = all_none k kind cs g e in
       then_none f g (form_all k kind cs g) (one_none k kind c f later.before) later
 
-  type_none : (k : Slots) (t : AbstractType) (f : Formula) → (form_type k t f).besides ≡ [] → NoneTaken f (form_type k t f)
+  type_none : (k : Slots) (t : AbstractType) (f : Formula) → (form_type k t f).forms ≡ [] → NoneTaken f (form_type k t f)
   type_none k (type_of tags kind cons) f e = let p = all_none k kind cons f e in record { before = p.before; next = p.next }
 
-pub form_none : (k : Slots) (d : Demand) (f : Formula) → (form k d f).besides ≡ [] → NoneTaken f (form k d f)
+pub form_none : (k : Slots) (d : Demand) (f : Formula) → (form k d f).forms ≡ [] → NoneTaken f (form k d f)
 form_none k (by_type t) f e = type_none k t f e
 form_none k (by_constraint kind c) f e = one_none k kind c f e
 
@@ -336,26 +336,26 @@ without_own true a b m x p q e = sym (ap (λ (y : Bool). a || y) e ∙ or_no a) 
 without_own false a b m x p q e = q refl ∙ sym (or_no m)
 
 -- A conjunction more: its slots fail where it isn't met.
-pub conjunction : (kind : AbstractKind) (d : Demand) (k : Slots) (f : Formula) (v : AbstractValue) → IsApt kind d → IsTrue (fits_kind kind v) → (form k d f).besides ≡ [] → (j : ℕ)
+pub conjunction : (kind : AbstractKind) (d : Demand) (k : Slots) (f : Formula) (v : AbstractValue) → IsApt kind d → IsTrue (fits_kind kind v) → (form k d f).forms ≡ [] → (j : ℕ)
     → terms_fail j v (form k d f).terms ≡ (terms_fail j v f.terms || (has k j && not (meets d v)))
 conjunction kind d k f v apt fit e j =
     let g : Formula = form k d f in
     let p : Put k v f g (meets d v) = form_put kind d k f v apt fit in
     let none = form_none k d f e in
     let failed : ℕ → Bool = λ i. terms_fail i v g.terms in
-    let same : f.besides ≡ g.besides = none.before ∙ sym e in
-    without_own (has k j) (terms_fail j v g.terms) (fails_where (eithers g.besides never) failed) (terms_fail j v f.terms) (meets d v)
+    let same : f.forms ≡ g.forms = none.before ∙ sym e in
+    without_own (has k j) (terms_fail j v g.terms) (fails_where (eithers g.forms never) failed) (terms_fail j v f.terms) (meets d v)
     (λ own. p.tells (λ i from to. absurd (omega (arith, from, to, none.next))) failed (λ i from to. refl) j own
     ∙ ap (λ (ws : List Form). terms_fail j v f.terms || (fails_where (eithers ws never) failed || not (meets d v))) same)
     (λ other. p.others j other (elim (split j f.next) [ inl o ↦ inl o | inr o ↦ inr (omega (arith, o, none.next)) ]))
     (ap (λ (ws : List Form). fails_where (eithers ws never) failed) e)
 
-pub conjunction_law : (kind : AbstractKind) (d : Demand) → IsApt kind d → (k : Slots) (n : ℕ) → (form k d (nothing_yet n)).besides ≡ [] → (v : AbstractValue) → IsTrue (fits_kind kind v) → (slot : ℕ)
+pub conjunction_law : (kind : AbstractKind) (d : Demand) → IsApt kind d → (k : Slots) (n : ℕ) → (form k d (nothing_yet n)).forms ≡ [] → (v : AbstractValue) → IsTrue (fits_kind kind v) → (slot : ℕ)
     → terms_fail slot v (form k d (nothing_yet n)).terms ≡ (has k slot && not (meets d v))
 conjunction_law kind d apt k n e v fit j = conjunction kind d k (nothing_yet n) v apt fit e j
 
 pub form_law : (kind : AbstractKind) (d : Demand) → IsApt kind d → (k n : ℕ) → k < n → (v : AbstractValue) → IsTrue (fits_kind kind v)
     → (failed : ℕ → Bool) → Agrees failed v (form (only k) d (nothing_yet n)).terms n (form (only k) d (nothing_yet n)).next
-    → (terms_fail k v (form (only k) d (nothing_yet n)).terms || fails_where (eithers (form (only k) d (nothing_yet n)).besides never) failed) ≡ not (meets d v)
+    → (terms_fail k v (form (only k) d (nothing_yet n)).terms || fails_where (eithers (form (only k) d (nothing_yet n)).forms never) failed) ≡ not (meets d v)
 form_law kind d apt k n below v fit failed agrees =
     (form_put kind d (only k) (nothing_yet n) v apt fit).tells (λ j from to. (refl, only_law k j ∙ ne_eqb k j (λ e. absurd (omega (arith, below, from, e))))) failed agrees k (only_law k k ∙ eq-eqb k k refl)

@@ -1,5 +1,5 @@
 -- One node more.
-use Rattle.std.proofs.Common.{◌≡◌, ℕ, zero, suc, ◌<◌, ◌≤◌, List, [], ◌∷◌, ◌++◌, length, take, slice_get, Some, refl, sym, ap, subst, ◌∙◌, arith, inl, inr, length-append}
+use Rattle.std.proofs.Common.{◌≡◌, ℕ, zero, suc, ◌+◌, ◌<◌, ◌≤◌, List, [], ◌∷◌, ◌++◌, length, take, slice_get, None, Some, refl, sym, ap, subst, ◌∙◌, arith, inl, inr, length-append}
 use Rattle.std.specs.Prelude.{◌⊎◌}
 use Rattle.std.proofs.lemmas.List.{take_at}
 use Rattle.std.proofs.lemmas.Option.{same_Some}
@@ -7,8 +7,8 @@ use Rattle.guard_tables.specs.declared.node.Hot.{Hot}
 use Rattle.guard_tables.specs.declared.node.Cold.{Cold}
 use Rattle.guard_tables.specs.NodeViews.{identifier_of, other_of}
 use Rattle.guard_tables.specs.Plan.{tags_in, form_in}
-use Rattle.guard_tables.specs.TableNodes.{Spot, spot_of, spots_from, spots_of, IsNode, IsBuilt, IsPlain}
-use Rattle.guard_tables.proofs.Spots.{same_spot, spots_count}
+use Rattle.guard_tables.specs.TableNodes.{Spot, spot_of, spots_from, spots_of, parts_of, parts_between, ascend, IsNode, IsBuilt, IsPlain}
+use Rattle.guard_tables.proofs.Spots.{drop_front, same_spot, spots_count}
 
 pub one_more : (hs : List Hot) (cs : List Cold) (h : Hot) (c : Cold) (before : List Spot) → length cs ≡ length hs → spots_from (hs ++ h ∷ []) (cs ++ c ∷ []) before ≡ spots_from hs cs before ++ spot_of h c (spots_from hs cs before) ∷ []
 unfolding spots_from
@@ -23,12 +23,20 @@ stays h c spots more k within n =
     let front : take (length spots) (spots ++ more) ≡ spots = take_at spots more (length spots) refl in
     ap (spot_of h c) (sym front) ∙ same_spot h c (spots ++ more) (length spots) (omega (arith, n.before, within)) (λ e. let i = n.inner e in omega (arith, i, within))
 
+-- and so do its parts
+same_parts : (first count : ℕ) (spots more : List Spot) → first + count ≤ length spots → parts_between spots first count ≡ parts_between (spots ++ more) first count
+same_parts first count spots more within =
+    let front : take (length spots) (spots ++ more) ≡ spots = take_at spots more (length spots) refl in
+    ap (λ (ss : List Spot). parts_between ss first count) (sym front) ∙ ap parts_of (drop_front first count (length spots) (spots ++ more) within)
+
 pub kept_node : (h : Hot) (c : Cold) (spots more : List Spot) (k : ℕ) → k ≤ length spots → IsNode h c spots k → IsNode h c (spots ++ more) k
 kept_node h c spots more k within n =
     let same = stays h c spots more k within n in
     record {
       before = n.before;
       inner = n.inner;
+      few = n.few;
+      ascending = λ e. ap (ascend None) (sym (same_parts h.first h.count spots more (omega (arith, n.before, within)))) ∙ n.ascending e;
       identifier = subst (λ (s : Spot). h.identifier ≡ identifier_of (tags_in s.plan) (form_in s.plan)) same n.identifier;
       other = subst (λ (s : Spot). h.other ≡ other_of (tags_in s.plan) (form_in s.plan)) same n.other;
       unwatched = n.unwatched;

@@ -19,9 +19,9 @@ use Rattle.guard_tables.specs.declared.slots.Slots.{Slots}
 use Rattle.guard_tables.specs.Slots.{none, added, has}
 use Rattle.guard_tables.specs.Plan.{Plan}
 use Rattle.guard_tables.specs.Marking.{absence_marked, items_marked}
-use Rattle.guard_tables.specs.Demands.{Demand, Ask, Atom, scalar, equals, sized, spelled, each, within, sent, unsent, Term, meets, ask_fails, asks_fail}
+use Rattle.guard_tables.specs.Demands.{Demand, SlotDemand, Atom, scalar, equals, sized, spelled, each, within, sent, unsent, Term, meets, demand_fails, demands_fail}
 use Rattle.guard_tables.specs.Apt.{AreApt, IsAptFor, Speaks, AllSpeak}
-use Rattle.guard_tables.specs.Handed.{ask, each_in, each_of, within_in, within_of}
+use Rattle.guard_tables.specs.OfParts.{slot_demand, each_in, each_of, within_in, within_of}
 use Rattle.guard_tables.specs.Lay.{added_if, is_sent, absent_of, is_unsent, present_of, chosen_of, side_for}
 use Rattle.guard_tables.proofs.SlotSets.{none_law, added_law}
 use Rattle.guard_tables.proofs.Truths.{or_no, and_yes, and_no, or_again, crossed, nothing_more, has_added_if}
@@ -39,35 +39,35 @@ not_there (Some t) e h = absurd cc
 
 -- ---- what is asked of parts may be asked of them
 
-each_apt_step : (kind : AbstractKind) (t : AbstractType) → element_of kind ≡ Some t → (k : Slots) (a : Atom) → Speaks kind a → (asks : List Ask) → AreApt (kind_of t) asks → AreApt (kind_of t) (each_in k a ++ asks)
-each_apt_step kind t e k (each d) s asks q = (subst (λ (o : Option AbstractType). IsAptFor o d) e s, q)
-each_apt_step kind t e k (scalar own c) s asks q = q
-each_apt_step kind t e k (equals w) s asks q = q
-each_apt_step kind t e k (sized c) s asks q = q
-each_apt_step kind t e k (spelled ranges) s asks q = q
-each_apt_step kind t e k (within i d) s asks q = q
-each_apt_step kind t e k (sent i) s asks q = q
-each_apt_step kind t e k (unsent i) s asks q = q
+each_apt_step : (kind : AbstractKind) (t : AbstractType) → element_of kind ≡ Some t → (k : Slots) (a : Atom) → Speaks kind a → (demands : List SlotDemand) → AreApt (kind_of t) demands → AreApt (kind_of t) (each_in k a ++ demands)
+each_apt_step kind t e k (each d) s demands q = (subst (λ (o : Option AbstractType). IsAptFor o d) e s, q)
+each_apt_step kind t e k (scalar own c) s demands q = q
+each_apt_step kind t e k (equals w) s demands q = q
+each_apt_step kind t e k (sized c) s demands q = q
+each_apt_step kind t e k (spelled ranges) s demands q = q
+each_apt_step kind t e k (within i d) s demands q = q
+each_apt_step kind t e k (sent i) s demands q = q
+each_apt_step kind t e k (unsent i) s demands q = q
 
 pub each_apt : (kind : AbstractKind) (t : AbstractType) → element_of kind ≡ Some t → (ts : List Term) → AllSpeak kind ts → AreApt (kind_of t) (each_of ts)
 each_apt kind t e [] s = tt
 each_apt kind t e (x ∷ ts) s = each_apt_step kind t e x.slots x.atom s.0 (each_of ts) (each_apt kind t e ts s.1)
 
-within_apt_here : (b : Bool) (kind : AbstractKind) (t : AbstractType) (i j : ℕ) → eqb j i ≡ b → part_of i kind ≡ Some t → (k : Slots) (d : Demand) → IsAptFor (part_of j kind) d → (asks : List Ask) → AreApt (kind_of t) asks
-    → AreApt (kind_of t) (cond b (ask k d ∷ []) [] ++ asks)
-within_apt_here true kind t i j same e k d s asks q =
+within_apt_here : (b : Bool) (kind : AbstractKind) (t : AbstractType) (i j : ℕ) → eqb j i ≡ b → part_of i kind ≡ Some t → (k : Slots) (d : Demand) → IsAptFor (part_of j kind) d → (demands : List SlotDemand) → AreApt (kind_of t) demands
+    → AreApt (kind_of t) (cond b (slot_demand k d ∷ []) [] ++ demands)
+within_apt_here true kind t i j same e k d s demands q =
     (subst (λ (o : Option AbstractType). IsAptFor o d) e (subst (λ (n : ℕ). IsAptFor (part_of n kind) d) (eqb-true j i same) s), q)
-within_apt_here false kind t i j same e k d s asks q = q
+within_apt_here false kind t i j same e k d s demands q = q
 
-within_apt_step : (kind : AbstractKind) (t : AbstractType) (i : ℕ) → part_of i kind ≡ Some t → (k : Slots) (a : Atom) → Speaks kind a → (asks : List Ask) → AreApt (kind_of t) asks → AreApt (kind_of t) (within_in i k a ++ asks)
-within_apt_step kind t i e k (within j d) s asks q = within_apt_here (eqb j i) kind t i j refl e k d s asks q
-within_apt_step kind t i e k (scalar own c) s asks q = q
-within_apt_step kind t i e k (equals w) s asks q = q
-within_apt_step kind t i e k (sized c) s asks q = q
-within_apt_step kind t i e k (spelled ranges) s asks q = q
-within_apt_step kind t i e k (each d) s asks q = q
-within_apt_step kind t i e k (sent j) s asks q = q
-within_apt_step kind t i e k (unsent j) s asks q = q
+within_apt_step : (kind : AbstractKind) (t : AbstractType) (i : ℕ) → part_of i kind ≡ Some t → (k : Slots) (a : Atom) → Speaks kind a → (demands : List SlotDemand) → AreApt (kind_of t) demands → AreApt (kind_of t) (within_in i k a ++ demands)
+within_apt_step kind t i e k (within j d) s demands q = within_apt_here (eqb j i) kind t i j refl e k d s demands q
+within_apt_step kind t i e k (scalar own c) s demands q = q
+within_apt_step kind t i e k (equals w) s demands q = q
+within_apt_step kind t i e k (sized c) s demands q = q
+within_apt_step kind t i e k (spelled ranges) s demands q = q
+within_apt_step kind t i e k (each d) s demands q = q
+within_apt_step kind t i e k (sent j) s demands q = q
+within_apt_step kind t i e k (unsent j) s demands q = q
 
 pub within_apt : (kind : AbstractKind) (t : AbstractType) (i : ℕ) → part_of i kind ≡ Some t → (ts : List Term) → AllSpeak kind ts → AreApt (kind_of t) (within_of i ts)
 within_apt kind t i e [] s = tt
@@ -98,7 +98,7 @@ first_or_later true false y = refl
 first_or_later false x y = refl
 
 item_step : (k : Slots) (a : Atom) (v : AbstractValue) (vs : Items) (slot : ℕ)
-    → (has k slot && not (inside_passes a (value.items (value.item v vs)))) ≡ (asks_fail slot v (each_in k a) || (has k slot && not (inside_passes a (value.items vs))))
+    → (has k slot && not (inside_passes a (value.items (value.item v vs)))) ≡ (demands_fail slot v (each_in k a) || (has k slot && not (inside_passes a (value.items vs))))
 item_step k (each d) v vs slot = first_or_later (has k slot) (meets d v) (every_item (meets d) vs)
 item_step k (scalar own c) v vs slot = refl
 item_step k (equals w) v vs slot = refl
@@ -108,17 +108,17 @@ item_step k (within i d) v vs slot = refl
 item_step k (sent i) v vs slot = refl
 item_step k (unsent i) v vs slot = refl
 
-item_fails : (ts : List Term) (v : AbstractValue) (vs : Items) (slot : ℕ) → inside_fail slot (value.items (value.item v vs)) ts ≡ (asks_fail slot v (each_of ts) || inside_fail slot (value.items vs) ts)
+item_fails : (ts : List Term) (v : AbstractValue) (vs : Items) (slot : ℕ) → inside_fail slot (value.items (value.item v vs)) ts ≡ (demands_fail slot v (each_of ts) || inside_fail slot (value.items vs) ts)
 item_fails [] v vs slot = refl
 item_fails (t ∷ ts) v vs slot =
     ap (λ (b : Bool). b || inside_fail slot (value.items (value.item v vs)) ts) (item_step t.slots t.atom v vs slot)
-    ∙ ap (λ (b : Bool). (asks_fail slot v (each_in t.slots t.atom) || inside_fails slot (value.items vs) t) || b) (item_fails ts v vs slot)
-    ∙ crossed (asks_fail slot v (each_in t.slots t.atom)) (inside_fails slot (value.items vs) t) (asks_fail slot v (each_of ts)) (inside_fail slot (value.items vs) ts)
-    ∙ ap (λ (b : Bool). b || (inside_fails slot (value.items vs) t || inside_fail slot (value.items vs) ts)) (sym (list_any-append (ask_fails slot v) (each_in t.slots t.atom) (each_of ts)))
+    ∙ ap (λ (b : Bool). (demands_fail slot v (each_in t.slots t.atom) || inside_fails slot (value.items vs) t) || b) (item_fails ts v vs slot)
+    ∙ crossed (demands_fail slot v (each_in t.slots t.atom)) (inside_fails slot (value.items vs) t) (demands_fail slot v (each_of ts)) (inside_fail slot (value.items vs) ts)
+    ∙ ap (λ (b : Bool). b || (inside_fails slot (value.items vs) t || inside_fail slot (value.items vs) ts)) (sym (list_any-append (demand_fails slot v) (each_in t.slots t.atom) (each_of ts)))
 
 -- marks that fail, besides what has failed, what is asked of each value that fits
-abbrev pub Marks : (AbstractValue → Bool) → (AbstractValue → Slots → Slots) → List Ask → Type 0
-Marks fit mark asks = (v : AbstractValue) → IsTrue (fit v) → (m : Slots) (slot : ℕ) → has (mark v m) slot ≡ (has m slot || asks_fail slot v asks)
+abbrev pub Marks : (AbstractValue → Bool) → (AbstractValue → Slots → Slots) → List SlotDemand → Type 0
+Marks fit mark demands = (v : AbstractValue) → IsTrue (fit v) → (m : Slots) (slot : ℕ) → has (mark v m) slot ≡ (has m slot || demands_fail slot v demands)
 
 pub items_laid : (kind : AbstractKind) → ((i : ℕ) → part_of i kind ≡ None) → (ts : List Term) → AllSpeak kind ts → (fit : AbstractValue → Bool) (mark : AbstractValue → Slots → Slots) → Marks fit mark (each_of ts)
     → (vs : Items) → IsTrue (every_fits fit vs) → (m : Slots) (slot : ℕ) → has (items_marked mark vs m) slot ≡ (has m slot || inside_fail slot (value.items vs) ts)
@@ -128,13 +128,13 @@ items_laid kind p ts s fit mark h (value.item v vs) all m slot =
     let rest : Bool = inside_fail slot (value.items vs) ts in
     items_laid kind p ts s fit mark h vs q.1 (mark v m) slot
     ∙ ap (λ (b : Bool). b || rest) (h v q.0 m slot)
-    ∙ or_again (has m slot) (asks_fail slot v (each_of ts)) rest
+    ∙ or_again (has m slot) (demands_fail slot v (each_of ts)) rest
     ∙ ap (λ (b : Bool). has m slot || b) (sym (item_fails ts v vs slot))
 
 -- ---- the chosen alternative
 
 within_chosen : (b : Bool) (k m : Slots) (d : Demand) (v : AbstractValue) (slot : ℕ)
-    → (has m slot || asks_fail slot v (cond b (ask k d ∷ []) [])) ≡ (has m slot || (has k slot && not (if_there (meets d) (cond b (Some v) None))))
+    → (has m slot || demands_fail slot v (cond b (slot_demand k d ∷ []) [])) ≡ (has m slot || (has k slot && not (if_there (meets d) (cond b (Some v) None))))
 within_chosen true k m d v slot = ap (λ (x : Bool). has m slot || x) (or_no (has k slot && not (meets d v)))
 within_chosen false k m d v slot = or_no (has m slot) ∙ nothing_more (has m slot) (has k slot)
 
@@ -150,7 +150,7 @@ other_atom : (k m : Slots) (slot : ℕ) → (has m slot || false) ≡ (has m slo
 other_atom k m slot = or_no (has m slot) ∙ nothing_more (has m slot) (has k slot)
 
 chosen_step : (kind : AbstractKind) → element_of kind ≡ None → (i : ℕ) (k m : Slots) (a : Atom) → Speaks kind a → (v : AbstractValue) (slot : ℕ)
-    → (has (added_if (is_unsent true i a) k m) slot || asks_fail slot v (within_in i k a)) ≡ (has m slot || (has k slot && not (inside_passes a (value.chosen i v))))
+    → (has (added_if (is_unsent true i a) k m) slot || demands_fail slot v (within_in i k a)) ≡ (has m slot || (has k slot && not (inside_passes a (value.chosen i v))))
 chosen_step kind e i k m (within j d) s v slot = within_chosen (eqb j i) k m d v slot
 chosen_step kind e i k m (sent j) s v slot = sent_chosen (eqb j i) k m v slot
 chosen_step kind e i k m (unsent j) s v slot = unsent_chosen (eqb j i) k m v slot
@@ -172,14 +172,14 @@ regrouped g x w y r e = sym (or_again g x w) ∙ ap (λ (b : Bool). b || w) e �
     swapped false false false = refl
 
 pub chosen_fails : (kind : AbstractKind) → element_of kind ≡ None → (i : ℕ) (ts : List Term) → AllSpeak kind ts → (v : AbstractValue) (slot : ℕ)
-    → (has (chosen_of i ts) slot || asks_fail slot v (within_of i ts)) ≡ inside_fail slot (value.chosen i v) ts
+    → (has (chosen_of i ts) slot || demands_fail slot v (within_of i ts)) ≡ inside_fail slot (value.chosen i v) ts
 chosen_fails kind e i [] s v slot = or_no (has none slot) ∙ none_law slot
 chosen_fails kind e i (t ∷ ts) s v slot =
     let g : Slots = chosen_of i ts in
-    let w : Bool = asks_fail slot v (within_of i ts) in
+    let w : Bool = demands_fail slot v (within_of i ts) in
     let f : Bool = inside_fails slot (value.chosen i v) t in
-    ap (λ (x : Bool). has (added_if (is_unsent true i t.atom) t.slots g) slot || x) (list_any-append (ask_fails slot v) (within_in i t.slots t.atom) (within_of i ts))
-    ∙ regrouped (has (added_if (is_unsent true i t.atom) t.slots g) slot) (asks_fail slot v (within_in i t.slots t.atom)) w f (has g slot) (chosen_step kind e i t.slots g t.atom s.0 v slot)
+    ap (λ (x : Bool). has (added_if (is_unsent true i t.atom) t.slots g) slot || x) (list_any-append (demand_fails slot v) (within_in i t.slots t.atom) (within_of i ts))
+    ∙ regrouped (has (added_if (is_unsent true i t.atom) t.slots g) slot) (demands_fail slot v (within_in i t.slots t.atom)) w f (has g slot) (chosen_step kind e i t.slots g t.atom s.0 v slot)
     ∙ ap (λ (x : Bool). x || f) (chosen_fails kind e i ts s.1 v slot)
     ∙ or_turned (inside_fail slot (value.chosen i v) ts) f
   where
@@ -248,7 +248,7 @@ unsent_there true i j fs v k m slot e there =
 unsent_there false i j fs v k m slot e there = refl
 
 within_there : (e : Bool) (i j : ℕ) (fs : Fields) (v : AbstractValue) (k m : Slots) (d : Demand) (slot : ℕ) → eqb j i ≡ e → field_at i fs ≡ Some v
-    → (has m slot || asks_fail slot v (cond e (ask k d ∷ []) [])) ≡ (has m slot || (e && (has k slot && not (if_there (meets d) (field_at j fs)))))
+    → (has m slot || demands_fail slot v (cond e (slot_demand k d ∷ []) [])) ≡ (has m slot || (e && (has k slot && not (if_there (meets d) (field_at j fs)))))
 within_there true i j fs v k m d slot e there =
     ap (λ (x : Bool). has m slot || x) (or_no (has k slot && not (meets d v)))
     ∙ ap (λ (o : Option AbstractValue). has m slot || (has k slot && not (if_there (meets d) o))) (sym there)
@@ -264,7 +264,7 @@ sent_there true i j fs v k m slot e there =
 sent_there false i j fs v k m slot e there = refl
 
 there_step : (kind : AbstractKind) → element_of kind ≡ None → (i : ℕ) (k m : Slots) (a : Atom) → Speaks kind a → (fs : Fields) (v : AbstractValue) (slot : ℕ) → field_at i fs ≡ Some v
-    → (has (added_if (is_unsent false i a) k m) slot || asks_fail slot v (within_in i k a)) ≡ (has m slot || (eqb (place_of a) i && (has k slot && not (inside_passes a (value.fields fs)))))
+    → (has (added_if (is_unsent false i a) k m) slot || demands_fail slot v (within_in i k a)) ≡ (has m slot || (eqb (place_of a) i && (has k slot && not (inside_passes a (value.fields fs)))))
 there_step kind e i k m (within j d) s fs v slot there = within_there (eqb j i) i j fs v k m d slot refl there
 there_step kind e i k m (sent j) s fs v slot there = sent_there (eqb j i) i j fs v k m slot refl there
 there_step kind e i k m (unsent j) s fs v slot there = unsent_there (eqb j i) i j fs v k m slot refl there
@@ -285,19 +285,19 @@ shuffled false false true false r = refl
 shuffled false false false z r = refl
 
 pub there_fails : (kind : AbstractKind) → element_of kind ≡ None → (i : ℕ) (ts : List Term) → AllSpeak kind ts → (fs : Fields) (v : AbstractValue) (slot : ℕ) → field_at i fs ≡ Some v
-    → ((has (present_of i ts) slot || asks_fail slot v (within_of i ts)) || from_fail (suc i) slot fs ts) ≡ from_fail i slot fs ts
+    → ((has (present_of i ts) slot || demands_fail slot v (within_of i ts)) || from_fail (suc i) slot fs ts) ≡ from_fail i slot fs ts
 there_fails kind e i [] s fs v slot there = ap (λ (b : Bool). (b || false) || false) (none_law slot)
 there_fails kind e i (t ∷ ts) s fs v slot there =
     let k : Slots = t.slots in
     let a : Atom = t.atom in
     let g : Slots = present_of i ts in
-    let w : Bool = asks_fail slot v (within_of i ts) in
+    let w : Bool = demands_fail slot v (within_of i ts) in
     let r : Bool = from_fail (suc i) slot fs ts in
     let f : Bool = has k slot && not (inside_passes a (value.fields fs)) in
     let y : Bool = eqb (place_of a) i && f in
     let z : Bool = leb (suc i) (place_of a) && f in
-    ap (λ (x : Bool). (has (added_if (is_unsent false i a) k g) slot || x) || (z || r)) (list_any-append (ask_fails slot v) (within_in i k a) (within_of i ts))
-    ∙ ap (λ (x : Bool). x || (z || r)) (regrouped (has (added_if (is_unsent false i a) k g) slot) (asks_fail slot v (within_in i k a)) w y (has g slot) (there_step kind e i k g a s.0 fs v slot there))
+    ap (λ (x : Bool). (has (added_if (is_unsent false i a) k g) slot || x) || (z || r)) (list_any-append (demand_fails slot v) (within_in i k a) (within_of i ts))
+    ∙ ap (λ (x : Bool). x || (z || r)) (regrouped (has (added_if (is_unsent false i a) k g) slot) (demands_fail slot v (within_in i k a)) w y (has g slot) (there_step kind e i k g a s.0 fs v slot there))
     ∙ shuffled (has g slot) y w z r
     ∙ ap (λ (x : Bool). x || ((has g slot || w) || r)) (here_or_on i (place_of a) f)
     ∙ ap (λ (x : Bool). (leb i (place_of a) && f) || x) (there_fails kind e i ts s.1 fs v slot there)

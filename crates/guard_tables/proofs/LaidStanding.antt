@@ -27,11 +27,11 @@ use Rattle.guard_tables.specs.Slots.{added}
 use Rattle.guard_tables.specs.Plan.{AbstractCondition, Plan, Body, Parts, plan, part, series, set, choice, list, set_of, asked_of}
 use Rattle.guard_tables.specs.Marking.{type_marked}
 use Rattle.guard_tables.specs.Standing.{Spells, Tells, DefaultFor, SideFor, SimpleFor, IsWhole, PlanFor, BodyFor, PartsFor, AlternativesFor}
-use Rattle.guard_tables.specs.Demands.{Ask, Term}
-use Rattle.guard_tables.specs.Formulas.{Raise}
+use Rattle.guard_tables.specs.Demands.{SlotDemand, Term}
+use Rattle.guard_tables.specs.Formulas.{Implication}
 use Rattle.guard_tables.specs.Forms.{forms_of}
-use Rattle.guard_tables.specs.Handed.{each_of, within_of, terms_at}
-use Rattle.guard_tables.specs.Lay.{conditions_of, absent_of, present_of, inside_octets, side_for, nameless, lay, lay_kind, lay_parts, lay_alternatives, raised_of}
+use Rattle.guard_tables.specs.OfParts.{each_of, within_of, terms_at}
+use Rattle.guard_tables.specs.Lay.{conditions_of, absent_of, present_of, inside_octets, side_for, nameless, lay, lay_kind, lay_parts, lay_alternatives, implied_of}
 use Rattle.guard_tables.proofs.SlotSums.{added_again}
 use Rattle.guard_tables.proofs.Adding.{adds_type}
 use Rattle.guard_tables.proofs.Telling.{HasContents, standing_contents, one_contents, one_encoding}
@@ -122,7 +122,7 @@ asked_for : (cs : List AbstractCondition) (b : Body) (kind : AbstractKind) → S
 asked_for [] b kind spells whole h = h
 asked_for (c ∷ cs) b kind spells whole h = (spells, h, whole)
 
-formulas_for : (rs : List Raise) (b : Body) (kind : AbstractKind) → BodyFor b kind → BodyFor (raised_of rs b) kind
+formulas_for : (rs : List Implication) (b : Body) (kind : AbstractKind) → BodyFor b kind → BodyFor (implied_of rs b) kind
 formulas_for [] b kind h = h
 formulas_for (r ∷ rs) b kind h = h
 
@@ -135,15 +135,15 @@ IsWellList cs i = (are_proper cs ≡ true) × (clash_inside i cs ≡ None)
 well_list : (in_sequence : Bool) (cs : Components) → (nat_le (component_count cs) 64 && are_proper cs) ≡ true → option_or (here (first_pair in_sequence 0 cs)) (clash_inside 0 cs) ≡ None → IsWellList cs 0
 well_list in_sequence cs e clear = ((and_parts (nat_le (component_count cs) 64) (are_proper cs) e).1, (none_of_two (here (first_pair in_sequence 0 cs)) (clash_inside 0 cs) clear).1)
 
-one_part : (name : List ℕ) (t : AbstractType) (presence : AbstractPresence) (cs : Components) → IsWell t → IsTrue (is_proper_presence t presence) → (asks : List Ask) (absent present : Slots) (ps : Parts)
-    → PlanFor (lay t asks) t → PartsFor ps cs → PartsFor (part (side_for t presence (lay t asks) absent present) (lay t asks) ps) (component name t presence cs)
-one_part name (type_of tags kind cons) presence cs w h asks absent present ps stands rest =
-    (stands, side_stands tags kind cons presence w h (raised_of (forms_of asks).raises (lay_kind kind (terms_at asks))) absent present, rest)
+one_part : (name : List ℕ) (t : AbstractType) (presence : AbstractPresence) (cs : Components) → IsWell t → IsTrue (is_proper_presence t presence) → (demands : List SlotDemand) (absent present : Slots) (ps : Parts)
+    → PlanFor (lay t demands) t → PartsFor ps cs → PartsFor (part (side_for t presence (lay t demands) absent present) (lay t demands) ps) (component name t presence cs)
+one_part name (type_of tags kind cons) presence cs w h demands absent present ps stands rest =
+    (stands, side_stands tags kind cons presence w h (implied_of (forms_of demands).implications (lay_kind kind (terms_at demands))) absent present, rest)
 
 mutual
-  type_stands : (t : AbstractType) → IsWell t → (asks : List Ask) → PlanFor (lay t asks) t
-  type_stands (type_of tags kind cons) w asks =
-      (refl, refl, formulas_for (forms_of asks).raises (lay_kind kind (terms_at asks)) kind (kind_stands kind (well_kind tags kind cons w) (terms_at asks)))
+  type_stands : (t : AbstractType) → IsWell t → (demands : List SlotDemand) → PlanFor (lay t demands) t
+  type_stands (type_of tags kind cons) w demands =
+      (refl, refl, formulas_for (forms_of demands).implications (lay_kind kind (terms_at demands)) kind (kind_stands kind (well_kind tags kind cons w) (terms_at demands)))
 
   kind_stands : (kind : AbstractKind) → IsWellKind kind → (ts : List Term) → BodyFor (lay_kind kind ts) kind
   kind_stands type.boolean w ts = tt
@@ -184,5 +184,5 @@ mutual
       let n = none_of_two (inside (Component i) (first_clash t)) (clash_inside (suc i) cs) w.1 in
       (type_stands t (q.0, inside_none (Component i) (first_clash t) n.0) (within_of i ts), alternatives_stand (suc i) cs (p.1, n.1) ts)
 
-pub stands_law : (t : AbstractType) → IsTrue (is_sound t) → (asks : List Ask) → PlanFor (lay t asks) t
-stands_law t sound asks = type_stands t (well_sound t sound) asks
+pub stands_law : (t : AbstractType) → IsTrue (is_sound t) → (demands : List SlotDemand) → PlanFor (lay t demands) t
+stands_law t sound demands = type_stands t (well_sound t sound) demands

@@ -1,5 +1,5 @@
 -- From what is inside a node to the node, and from parts to the whole.
-use Rattle.std.proofs.Common.{◌≡◌, ℕ, zero, suc, ◌+◌, ◌-◌, ◌<◌, ◌≤◌, Bool, true, false, eqb, List, [], ◌∷◌, ◌++◌, length, get_or, Option, Result, Ok, Err, refl, sym, ap, subst, ◌∙◌, arith, add-one, length-append}
+use Rattle.std.proofs.Common.{◌≡◌, ℕ, zero, suc, ◌+◌, ◌-◌, ◌<◌, ◌≤◌, Bool, true, false, eqb, List, [], ◌∷◌, ◌++◌, length, get_or, Option, None, Result, Ok, Err, refl, sym, ap, subst, ◌∙◌, arith, add-one, length-append}
 use Rattle.std.specs.Prelude.{not, IsTrue}
 use Rattle.std.specs.Result.{IfOk}
 use Rattle.std.proofs.lemmas.Bool.{eqb-true, eqb-false}
@@ -11,33 +11,33 @@ use Rattle.guard_model.specs.declared.ty.Comp.{Comp}
 use Rattle.guard_model.proofs.Components.{left, left_is}
 use Rattle.guard_model.proofs.TypeViews.{component_view_is, opened}
 use Rattle.guard_der.specs.Sound.{is_proper_presence}
-use Rattle.guard_tables.specs.declared.drafts.Node.{Node}
-use Rattle.guard_tables.specs.declared.drafts.Group.{Group}
-use Rattle.guard_tables.specs.declared.drafts.Group.TheVariants as group
-use Rattle.guard_tables.specs.declared.drafts.Elements.{Elements}
-use Rattle.guard_tables.specs.declared.laid.Laid.{Laid}
-use Rattle.guard_tables.specs.declared.laid.LaidParts.{LaidParts}
+use Rattle.guard_tables.specs.declared.new_nodes.Node.{Node}
+use Rattle.guard_tables.specs.declared.new_nodes.Group.{Group}
+use Rattle.guard_tables.specs.declared.new_nodes.Group.TheVariants as group
+use Rattle.guard_tables.specs.declared.new_nodes.Elements.{Elements}
+use Rattle.guard_tables.specs.declared.assembled.Assembled.{Assembled}
+use Rattle.guard_tables.specs.declared.assembled.AssembledParts.{AssembledParts}
 use Rattle.guard_tables.specs.declared.node.Hot.{Hot}
 use Rattle.guard_tables.specs.declared.node.Cold.{Cold}
 use Rattle.guard_tables.specs.declared.node.Condition.{Condition}
 use Rattle.guard_tables.specs.declared.node_list.Builder.{Builder}
 use Rattle.guard_tables.specs.declared.node_list.Nodes.{Nodes}
-use Rattle.guard_tables.specs.Demands.{Ask, Term}
+use Rattle.guard_tables.specs.Demands.{SlotDemand, Term}
 use Rattle.guard_tables.specs.Forms.{forms_of}
 use Rattle.guard_tables.specs.Formulas as formulas
-use Rattle.guard_tables.specs.Handed.{within_of, terms_at}
-use Rattle.guard_tables.specs.Lay.{lay, lay_kind, lay_parts, lay_alternatives, raised_of}
+use Rattle.guard_tables.specs.OfParts.{within_of, terms_at}
+use Rattle.guard_tables.specs.Lay.{lay, lay_kind, lay_parts, lay_alternatives, implied_of}
 use Rattle.guard_tables.specs.Plan.{Side, Plan, Body, Parts, plan, no_parts, part, body_in, tags_in, form_in}
 use Rattle.guard_tables.specs.NodesView.{spots_in, root_of}
-use Rattle.guard_tables.specs.TableNodes.{Spot, spot_of, spots_of, spot_at, own_tags, parts_between, IsNode}
+use Rattle.guard_tables.specs.TableNodes.{Spot, spot_of, spots_of, spot_at, own_tags, parts_between, ascend, IsNode}
 use Rattle.guard_tables.specs.inside.Aside.{spots_at, AreNodes, parts_then}
-use Rattle.guard_tables.specs.inside.Laid.{spots_so_far, Grows, Stacks, Lays, MayBeLaid, PartsMayBeLaid, LaysParts, WithPart, Extends, MayCome, plan_in, parts_in, body_of_group, body_of_elements, parts_of_group, side_of_part, is_exclusive}
-use Rattle.guard_tables.specs.inside.Giving.{PartAsked, asked_at}
+use Rattle.guard_tables.specs.inside.Assembled.{spots_so_far, Grows, Stacks, Lays, MayBeLaid, PartsMayBeLaid, LaysParts, WithPart, Extends, MayCome, plan_in, parts_in, body_of_group, body_of_elements, parts_of_group, side_of_part, is_exclusive}
+use Rattle.guard_tables.specs.inside.DemandsOfParts.{PartAsked, asked_at}
 use Rattle.guard_tables.proofs.Comings.{all_kept, all_stay, grown_on, laid_as, laid_on, nodes_last, parts_last, run, so_many, spots_length}
 
 -- ---- parts
 
-pub one_aside : (others : List Node) (l : Laid) (n : Node) (s : Side) (new : LaidParts) → AreNodes others (spots_so_far l.builder) (length l.builder.hots.items)
+pub one_aside : (others : List Node) (l : Assembled) (n : Node) (s : Side) (new : AssembledParts) → AreNodes others (spots_so_far l.builder) (length l.builder.hots.items)
     → ((spots : List Spot) (k : ℕ) → IsNode l.node.hot l.node.cold spots k → IsNode n.hot n.cold spots k)
     → ((spots : List Spot) → spot_of n.hot n.cold spots ≡ record { side = s; plan = (spot_of l.node.hot l.node.cold spots).plan })
     → new.builder ≡ l.builder → new.nodes.items ≡ others ++ n ∷ [] → WithPart others l s new
@@ -56,7 +56,7 @@ longer before after g =
     omega (arith, all, so_many before, so_many after)
 
 -- those aside stay, whatever comes
-pub still_aside : (old : LaidParts) (after : Builder) → MayCome old → Grows old.builder after → AreNodes old.nodes.items (spots_so_far after) (length after.hots.items)
+pub still_aside : (old : AssembledParts) (after : Builder) → MayCome old → Grows old.builder after → AreNodes old.nodes.items (spots_so_far after) (length after.hots.items)
 still_aside old after are g =
     subst (λ (ss : List Spot). AreNodes old.nodes.items ss (length after.hots.items)) (sym g.grown)
     (all_kept old.nodes.items (spots_so_far old.builder) g.more (length old.builder.hots.items) (length after.hots.items) (omega (arith, so_many old.builder)) (longer old.builder after g) are)
@@ -68,7 +68,7 @@ one_part group.Series place name t presence rest terms = refl
 one_part group.Set place name t presence rest terms = refl
 one_part group.Choice place name t presence rest terms = refl
 
-pub extends : (old new : LaidParts) (l : Laid) (p : Plan) (s side : Side)
+pub extends : (old new : AssembledParts) (l : Assembled) (p : Plan) (s side : Side)
     → MayCome old → Lays old.builder l p → s ≡ side → WithPart old.nodes.items l s new
     → Extends old new side p
 extends old new l p s side are laid same with =
@@ -87,11 +87,11 @@ extends old new l p s side are laid same with =
     }
 
 -- with one part more it is the parts of all
-pub part_more : (old new : LaidParts) (g : Group) (comps : List Comp) (place : ℕ) (comp : Comp) (own : PartAsked) (all : List Term) → place < length comps → comp ≡ get_or comps place comp → own ≡ asked_at (is_exclusive g) place all
-    → Extends old new (side_of_part g (component_view comp) own (lay (component_view comp).ty own.asks)) (lay (component_view comp).ty own.asks)
+pub part_more : (old new : AssembledParts) (g : Group) (comps : List Comp) (place : ℕ) (comp : Comp) (own : PartAsked) (all : List Term) → place < length comps → comp ≡ get_or comps place comp → own ≡ asked_at (is_exclusive g) place all
+    → Extends old new (side_of_part g (component_view comp) own (lay (component_view comp).ty own.demands)) (lay (component_view comp).ty own.demands)
     → (ps : Parts) → parts_in old (parts_of_group g place (left comps place) all) ≡ ps → parts_in new (parts_of_group g (place + 1) (left comps (place + 1)) all) ≡ ps
 part_more old new g comps place comp own all lt at is more ps so_far =
-    let one : PartAsked → OneComponent → Parts → Parts = λ asked c rest. part (side_of_part g c asked (lay c.ty asked.asks)) (lay c.ty asked.asks) rest in
+    let one : PartAsked → OneComponent → Parts → Parts = λ asked c rest. part (side_of_part g c asked (lay c.ty asked.demands)) (lay c.ty asked.demands) rest in
     let asked : PartAsked = asked_at (is_exclusive g) place all in
     let c : OneComponent = component_view comp in
     more.stand (parts_of_group g (place + 1) (left comps (place + 1)) all)
@@ -104,10 +104,10 @@ part_more old new g comps place comp own all lt at is more ps so_far =
 
 -- what is asked of the part may be laid
 pub part_may : (g : Group) (comps : List Comp) (place : ℕ) (comp : Comp) (own : PartAsked) (all : List Term) → place < length comps → comp ≡ get_or comps place comp → own ≡ asked_at (is_exclusive g) place all
-    → PartsMayBeLaid place (left comps place) all → MayBeLaid (component_view comp).ty own.asks
+    → PartsMayBeLaid place (left comps place) all → MayBeLaid (component_view comp).ty own.demands
 part_may g comps place comp own all lt at is may =
     let here : PartsMayBeLaid place (component (opened comp).name (opened comp).ty (opened comp).presence (left comps (place + 1))) all = subst (λ (cs : Components). PartsMayBeLaid place cs all) (left_is comps place comp lt at) may in
-    subst (λ (own : PartAsked). MayBeLaid (component_view comp).ty own.asks) (sym is)
+    subst (λ (own : PartAsked). MayBeLaid (component_view comp).ty own.demands) (sym is)
     (subst (λ (c : OneComponent). MayBeLaid c.ty (within_of place all)) (sym (component_view_is comp)) here.0)
 
 pub part_proper : (comps : List Comp) (place : ℕ) (comp : Comp) (all : List Term) → place < length comps → comp ≡ get_or comps place comp
@@ -122,26 +122,33 @@ rest_may comps place comp all lt at may =
     let here : PartsMayBeLaid place (component (opened comp).name (opened comp).ty (opened comp).presence (left comps (place + 1))) all = subst (λ (cs : Components). PartsMayBeLaid place cs all) (left_is comps place comp lt at) may in
     subst (λ (i : ℕ). PartsMayBeLaid i (left comps (place + 1)) all) (sym (add-one place)) here.2
 
-pub parts_come : (parts : LaidParts) (after : Builder) (g : Group) (tag : Option Tag) (first count : ℕ) (n : Node) → spots_so_far after ≡ spots_so_far parts.builder ++ spots_at (spots_so_far parts.builder) parts.nodes.items
+-- they are there now, side by side
+parts_there : (parts : AssembledParts) (after : Builder) (first count : ℕ) → spots_so_far after ≡ spots_so_far parts.builder ++ spots_at (spots_so_far parts.builder) parts.nodes.items
+    → first ≡ length parts.builder.hots.items → count ≡ length parts.nodes.items → parts_between (spots_so_far after) first count ≡ parts_in parts no_parts
+parts_there parts after first count grown at many =
+    let ss : List Spot = spots_so_far parts.builder in
+    ap (λ (all : List Spot). parts_between all first count) grown ∙ run ss parts.nodes.items first count (at ∙ sym (so_many parts.builder)) many
+
+pub parts_come : (parts : AssembledParts) (after : Builder) (ascending : Bool) (first count : ℕ) (n : Node) → spots_so_far after ≡ spots_so_far parts.builder ++ spots_at (spots_so_far parts.builder) parts.nodes.items
     → first ≡ length parts.builder.hots.items → count ≡ length parts.nodes.items
-    → ((spots : List Spot) (k : ℕ) → first + count ≤ k → IsNode n.hot n.cold spots k)
+    → length parts.nodes.items ≤ 64 → (ascending ≡ true → ascend None (parts_in parts no_parts) ≡ true)
+    → ((spots : List Spot) (k : ℕ) → first + count ≤ k → count ≤ 64 → (ascending ≡ true → ascend None (parts_between spots first count) ≡ true) → IsNode n.hot n.cold spots k)
     → IsNode n.hot n.cold (spots_so_far after) (length after.hots.items)
-parts_come parts after g tag first count n grown at many node =
+parts_come parts after ascending first count n grown at many few order node =
     let ss : List Spot = spots_so_far parts.builder in
     let all : length (spots_so_far after) ≡ length ss + length (spots_at ss parts.nodes.items) = ap (λ (ss : List Spot). length ss) grown ∙ length-append ss (spots_at ss parts.nodes.items) in
-    node (spots_so_far after) (length after.hots.items) (omega (arith, all, at, many, so_many parts.builder, so_many after, spots_length ss parts.nodes.items))
+    node (spots_so_far after) (length after.hots.items) (omega (arith, all, at, many, so_many parts.builder, so_many after, spots_length ss parts.nodes.items)) (omega (arith, many, few))
+    (λ e. ap (ascend None) (parts_there parts after first count grown at many) ∙ order e)
 
-pub parts_stand : (parts : LaidParts) (after : Builder) (g : Group) (tag : Option Tag) (first count : ℕ) (n : Node) → spots_so_far after ≡ spots_so_far parts.builder ++ spots_at (spots_so_far parts.builder) parts.nodes.items
+pub parts_stand : (parts : AssembledParts) (after : Builder) (g : Group) (tag : Option Tag) (first count : ℕ) (n : Node) → spots_so_far after ≡ spots_so_far parts.builder ++ spots_at (spots_so_far parts.builder) parts.nodes.items
     → first ≡ length parts.builder.hots.items → count ≡ length parts.nodes.items
     → ((spots : List Spot) → (spot_of n.hot n.cold spots).plan ≡ plan (own_tags tag) true (body_of_group g (parts_between spots first count)))
     → (spot_of n.hot n.cold (spots_so_far after)).plan ≡ plan (own_tags tag) true (body_of_group g (parts_in parts no_parts))
 parts_stand parts after g tag first count n grown at many stands =
-    let ss : List Spot = spots_so_far parts.builder in
     stands (spots_so_far after)
-    ∙ ap (λ (all : List Spot). plan (own_tags tag) true (body_of_group g (parts_between all first count))) grown
-    ∙ ap (λ (ps : Parts). plan (own_tags tag) true (body_of_group g ps)) (run ss parts.nodes.items first count (at ∙ sym (so_many parts.builder)) many)
+    ∙ ap (λ (ps : Parts). plan (own_tags tag) true (body_of_group g ps)) (parts_there parts after first count grown at many)
 
-pub all_grown : (parts : LaidParts) (after : Builder) → spots_so_far after ≡ spots_so_far parts.builder ++ spots_at (spots_so_far parts.builder) parts.nodes.items → Grows parts.builder after
+pub all_grown : (parts : AssembledParts) (after : Builder) → spots_so_far after ≡ spots_so_far parts.builder ++ spots_at (spots_so_far parts.builder) parts.nodes.items → Grows parts.builder after
 all_grown parts after e = record { more = spots_at (spots_so_far parts.builder) parts.nodes.items; grown = e }
 
 -- ---- whether anything is there
@@ -165,20 +172,20 @@ pub passed_on : {A E : Type 0} (P Q : A → Type 0) (r : Result A E) → ((a : A
 passed_on P Q (Ok a) f h = f a h
 passed_on P Q (Err e) f h = tt
 
-pub tags_laid : {E : Type 0} (before : Builder) (l : Laid) (tags : List Tag) (p q : Plan) → plan tags (form_in p) (body_in p) ≡ q → Lays before l p
-    → (r : Result Laid E) → IfOk r (λ m. Lays l.builder m (plan tags (form_in (plan_in l)) (body_in (plan_in l)))) → IfOk r (λ m. Lays before m q)
+pub tags_laid : {E : Type 0} (before : Builder) (l : Assembled) (tags : List Tag) (p q : Plan) → plan tags (form_in p) (body_in p) ≡ q → Lays before l p
+    → (r : Result Assembled E) → IfOk r (λ m. Lays l.builder m (plan tags (form_in (plan_in l)) (body_in (plan_in l)))) → IfOk r (λ m. Lays before m q)
 tags_laid before l tags p q e a r h =
-    passed_on (λ (m : Laid). Lays l.builder m (plan tags (form_in (plan_in l)) (body_in (plan_in l)))) (λ (m : Laid). Lays before m q) r
+    passed_on (λ (m : Assembled). Lays l.builder m (plan tags (form_in (plan_in l)) (body_in (plan_in l)))) (λ (m : Assembled). Lays before m q) r
     (λ m c. laid_as before m (plan tags (form_in p) (body_in p)) q e (laid_on before l m p (λ (p : Plan). plan tags (form_in p) (body_in p)) a c)) h
 
-pub formulas_laid : {E : Type 0} (before : Builder) (l : Laid) (p q : Plan) (f : Body → Body) → Lays before l p → plan (tags_in p) (form_in p) (f (body_in p)) ≡ q
-    → (r : Result Laid E) → IfOk r (λ m. Lays l.builder m (plan (tags_in (plan_in l)) (form_in (plan_in l)) (f (body_in (plan_in l))))) → IfOk r (λ m. Lays before m q)
+pub formulas_laid : {E : Type 0} (before : Builder) (l : Assembled) (p q : Plan) (f : Body → Body) → Lays before l p → plan (tags_in p) (form_in p) (f (body_in p)) ≡ q
+    → (r : Result Assembled E) → IfOk r (λ m. Lays l.builder m (plan (tags_in (plan_in l)) (form_in (plan_in l)) (f (body_in (plan_in l))))) → IfOk r (λ m. Lays before m q)
 formulas_laid before l p q f a e r h =
-    passed_on (λ (m : Laid). Lays l.builder m (plan (tags_in (plan_in l)) (form_in (plan_in l)) (f (body_in (plan_in l))))) (λ (m : Laid). Lays before m q) r
+    passed_on (λ (m : Assembled). Lays l.builder m (plan (tags_in (plan_in l)) (form_in (plan_in l)) (f (body_in (plan_in l))))) (λ (m : Assembled). Lays before m q) r
     (λ m c. laid_as before m (plan (tags_in p) (form_in p) (f (body_in p))) q e (laid_on before l m p (λ (p : Plan). plan (tags_in p) (form_in p) (f (body_in p))) a c)) h
 
 -- from an element or parts to the whole
-pub elements_laid : (before : Builder) (element whole : Laid) (p : Plan) (g : Elements) (tag : Option Tag) → Lays before element p → Lays element.builder whole (plan (own_tags tag) true (body_of_elements g (plan_in element)))
+pub elements_laid : (before : Builder) (element whole : Assembled) (p : Plan) (g : Elements) (tag : Option Tag) → Lays before element p → Lays element.builder whole (plan (own_tags tag) true (body_of_elements g (plan_in element)))
     → Lays before whole (plan (own_tags tag) true (body_of_elements g p))
 elements_laid before element whole p g tag a b = laid_on before element whole p (λ (p : Plan). plan (own_tags tag) true (body_of_elements g p)) a b
 
@@ -204,34 +211,34 @@ group_length group.Series cs terms = listed_length 0 cs terms
 group_length group.Set cs terms = listed_length 0 cs terms
 group_length group.Choice cs terms = chosen_length 0 cs terms
 
-pub nodes_few : (before : Builder) (parts : LaidParts) (g : Group) (cs : Components) (terms : List Term) → LaysParts before parts (parts_of_group g 0 cs terms)
+pub nodes_few : (before : Builder) (parts : AssembledParts) (g : Group) (cs : Components) (terms : List Term) → LaysParts before parts (parts_of_group g 0 cs terms)
     → component_count cs ≤ 64 → length parts.nodes.items ≤ 64
 nodes_few before parts g cs terms laid few =
     let ss : List Spot = spots_at (spots_so_far parts.builder) parts.nodes.items in
     let all : length ss + 0 ≡ component_count cs = sym (then_length ss no_parts) ∙ ap parts_length laid.stand ∙ group_length g cs terms in
     omega (arith, all, few, spots_length (spots_so_far parts.builder) parts.nodes.items)
 
-pub group_laid : (before : Builder) (parts : LaidParts) (whole : Laid) (ps : Parts) (g : Group) (tag : Option Tag) → LaysParts before parts ps → Lays parts.builder whole (plan (own_tags tag) true (body_of_group g (parts_in parts no_parts)))
+pub group_laid : (before : Builder) (parts : AssembledParts) (whole : Assembled) (ps : Parts) (g : Group) (tag : Option Tag) → LaysParts before parts ps → Lays parts.builder whole (plan (own_tags tag) true (body_of_group g (parts_in parts no_parts)))
     → Lays before whole (plan (own_tags tag) true (body_of_group g ps))
 group_laid before parts whole ps g tag a b = record {
   grows = grown_on before parts.builder whole.builder a.grows b.grows;
   stands = b.stands ∙ ap (λ (ps : Parts). plan (own_tags tag) true (body_of_group g ps)) a.stand;
 }
 
-pub extended : {E : Type 0} (old : LaidParts) (l : Laid) (p : Plan) (s side : Side)
+pub extended : {E : Type 0} (old : AssembledParts) (l : Assembled) (p : Plan) (s side : Side)
     → MayCome old → Lays old.builder l p → s ≡ side
-    → (r : Result LaidParts E) → IfOk r (λ new. WithPart old.nodes.items l s new) → IfOk r (λ new. Extends old new side p)
+    → (r : Result AssembledParts E) → IfOk r (λ new. WithPart old.nodes.items l s new) → IfOk r (λ new. Extends old new side p)
 extended old l p s side are laid same r h =
-    passed_on (λ (new : LaidParts). WithPart old.nodes.items l s new) (λ (new : LaidParts). Extends old new side p) r (λ new with. extends old new l p s side are laid same with) h
+    passed_on (λ (new : AssembledParts). WithPart old.nodes.items l s new) (λ (new : AssembledParts). Extends old new side p) r (λ new with. extends old new l p s side are laid same with) h
 
-pub formulas_are : (asks : List Ask) (own : List Tag) (form : Bool) (kind : AbstractKind) (ts : List Term) (rs : List formulas.Raise) → ts ≡ (forms_of asks).terms → rs ≡ (forms_of asks).raises
-    → plan own form (raised_of rs (lay_kind kind ts)) ≡ plan own form (raised_of (forms_of asks).raises (lay_kind kind (terms_at asks)))
-formulas_are asks own form kind ts rs t r =
-    ap (λ (ts : List Term). plan own form (raised_of rs (lay_kind kind ts))) t
-    ∙ ap (λ (rs : List formulas.Raise). plan own form (raised_of rs (lay_kind kind (terms_at asks)))) r
+pub formulas_are : (demands : List SlotDemand) (own : List Tag) (form : Bool) (kind : AbstractKind) (ts : List Term) (rs : List formulas.Implication) → ts ≡ (forms_of demands).terms → rs ≡ (forms_of demands).implications
+    → plan own form (implied_of rs (lay_kind kind ts)) ≡ plan own form (implied_of (forms_of demands).implications (lay_kind kind (terms_at demands)))
+formulas_are demands own form kind ts rs t r =
+    ap (λ (ts : List Term). plan own form (implied_of rs (lay_kind kind ts))) t
+    ∙ ap (λ (rs : List formulas.Implication). plan own form (implied_of rs (lay_kind kind (terms_at demands)))) r
 
 -- the last of all is the whole
-pub whole_is : (before : Builder) (l : Laid) (after : Builder) (first : ℕ) (n : Nodes) (p : Plan) → Lays before l p → Stacks l after first → n.hots.items ≡ after.hots.items → n.colds.items ≡ after.colds.items → root_of n ≡ p
+pub whole_is : (before : Builder) (l : Assembled) (after : Builder) (first : ℕ) (n : Nodes) (p : Plan) → Lays before l p → Stacks l after first → n.hots.items ≡ after.hots.items → n.colds.items ≡ after.colds.items → root_of n ≡ p
 unfolding spots_in
 whole_is before l after first n p a s hots colds =
     let last : length n.hots.items - 1 ≡ first = omega (arith, ap (λ (hs : List Hot). length hs) hots, s.count) in

@@ -13,9 +13,9 @@ use Rattle.guard_tagcheck.specs.Search.{first_clash, clash_of_kind, clash_inside
 use Rattle.guard_tagcheck.proofs.Options.{inside_none}
 use Rattle.guard_der.specs.Sound.{is_proper, is_proper_kind, are_proper, is_proper_presence, none_clash, is_sound}
 use Rattle.guard_tables.specs.Apt.{AllSpeak}
-use Rattle.guard_tables.specs.Demands.{Ask, Term}
-use Rattle.guard_tables.specs.Handed.{terms_at, NeedsFewInside, NeedsFewAmong}
-use Rattle.guard_tables.specs.inside.Laid.{MayBeLaid, PartsMayBeLaid, KindMayBeLaid, AskedMayBeLaid}
+use Rattle.guard_tables.specs.Demands.{SlotDemand, Term}
+use Rattle.guard_tables.specs.OfParts.{terms_at, NeedsFewInside, NeedsFewAmong}
+use Rattle.guard_tables.specs.inside.Assembled.{MayBeLaid, PartsMayBeLaid, KindMayBeLaid, AskedMayBeLaid}
 use Rattle.guard_tables.proofs.Speaking.{terms_speak}
 use Rattle.guard_tables.proofs.SlotCounts.{conjoined_few, forms_few}
 use Rattle.guard_tables.proofs.LaidParts.{each_apt, within_apt, FollowTypes, after_component, type_here}
@@ -82,10 +82,10 @@ kind_may (type.characters k) proper clear deep ts speak few = tt
 deep_enough : (t : AbstractType) → IsTrue (is_sound t) → nesting t ≤ 32
 deep_enough t h = leb-true (nesting t) 32 (and_parts (is_proper t && none_clash (first_clash t)) (nat_le (nesting t) 32) h).1
 
-pub asked_may : (t : AbstractType) (asks : List Ask) → MayBeLaid t asks → AskedMayBeLaid (kind_of t) asks
-asked_may (type_of tags kind cons) asks m =
+pub asked_may : (t : AbstractType) (demands : List SlotDemand) → MayBeLaid t demands → AskedMayBeLaid (kind_of t) demands
+asked_may (type_of tags kind cons) demands m =
     let k = well_kind tags kind cons (well_sound (type_of tags kind cons) m.sound) in
-    let speak : AllSpeak kind (terms_at asks) = terms_speak kind asks m.apt in
+    let speak : AllSpeak kind (terms_at demands) = terms_speak kind demands m.apt in
     let deep = deep_enough (type_of tags kind cons) m.sound in
     let inner : nesting_inside kind ≤ 32 = omega (arith, deep) in
-    record { speak = speak; room = (conjoined_few asks (length asks) refl m.room.0, forms_few asks (length asks) refl m.room.0); parts = kind_may kind k.0 k.1 inner (terms_at asks) speak m.room.1 }
+    record { speak = speak; room = (conjoined_few demands (length demands) refl m.room.0, forms_few demands (length demands) refl m.room.0); parts = kind_may kind k.0 k.1 inner (terms_at demands) speak m.room.1 }

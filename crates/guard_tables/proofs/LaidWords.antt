@@ -10,22 +10,22 @@ use Rattle.guard_der.specs.Fits.{fits}
 use Rattle.guard_der.specs.Sound.{is_sound}
 use Rattle.guard_tables.specs.declared.slots.Slots.{Slots}
 use Rattle.guard_tables.specs.Slots.{none, added, has}
-use Rattle.guard_tables.specs.Formulas.{Raise, fails_where, failed_unless, raised}
+use Rattle.guard_tables.specs.Formulas.{Implication, fails_where, failed_unless, implied}
 use Rattle.guard_tables.specs.Plan.{AbstractTest, AbstractCondition, Plan, Body, series, set, choice, list, set_of, asked_of}
 use Rattle.guard_tables.specs.Marking.{Facts, facts_of, test_passes, conditions_marked, absence_marked, items_marked, marked, type_marked, fields_marked, alternative_marked}
-use Rattle.guard_tables.specs.Demands.{Ask, Atom, Term, meets, ask_fails, asks_fail}
+use Rattle.guard_tables.specs.Demands.{SlotDemand, Atom, Term, meets, demand_fails, demands_fail}
 use Rattle.guard_tables.specs.Forms.{forms_of}
 use Rattle.guard_tables.specs.Apt.{AreApt}
-use Rattle.guard_tables.specs.Handed.{each_of, within_of, terms_at}
-use Rattle.guard_tables.specs.Lay.{tests_of, conditions_in, conditions_of, added_if, slots_where, is_sent, absent_of, is_unsent, present_of, chosen_of, side_for, lay, lay_kind, lay_parts, lay_alternatives, raised_of}
-use Rattle.guard_tables.specs.inside.SideViews.{asks_marked}
-use Rattle.guard_tables.specs.inside.SlotWords.{InWords, AsksIn}
+use Rattle.guard_tables.specs.OfParts.{each_of, within_of, terms_at}
+use Rattle.guard_tables.specs.Lay.{tests_of, conditions_in, conditions_of, added_if, slots_where, is_sent, absent_of, is_unsent, present_of, chosen_of, side_for, lay, lay_kind, lay_parts, lay_alternatives, implied_of}
+use Rattle.guard_tables.specs.inside.SideViews.{demands_marked}
+use Rattle.guard_tables.specs.inside.SlotWords.{InWords, DemandsIn}
 use Rattle.guard_tables.proofs.SlotWords.{none_in, added_in, same_slots}
 use Rattle.guard_tables.proofs.Truths.{or_no, or_again, has_unless}
 use Rattle.guard_tables.proofs.Adding.{adds_type}
 use Rattle.guard_tables.proofs.SlotSets.{added_law}
 use Rattle.guard_tables.proofs.Laying.{lay_law}
-use Rattle.guard_tables.proofs.TermWords.{TermsIn, RaisesIn, terms_in, raises_in, each_asks, within_asks}
+use Rattle.guard_tables.proofs.TermWords.{TermsIn, ImplicationsIn, terms_in, implications_in, each_demands, within_demands}
 
 -- it makes such sets of such sets
 abbrev Keeps : (Slots → Slots) → Type 0
@@ -61,10 +61,10 @@ keeps_conditions kind (t ∷ ts) h f m p =
     (keeps_conditions kind ts h.1 f (conditions_marked first f m)
     (keeps_tests t.slots h.0 (tests_of kind t.atom) f m p))
 
-keeps_raised : (rs : List Raise) → RaisesIn rs → (inner : Slots) → Keeps (λ m. raised rs inner m)
-keeps_raised [] h inner m p = p
-keeps_raised (r ∷ rs) h inner m p =
-    let w : Bool = not (fails_where r.where_failed (has inner)) in keeps_raised rs h.1 inner
+keeps_implied : (rs : List Implication) → ImplicationsIn rs → (inner : Slots) → Keeps (λ m. implied rs inner m)
+keeps_implied [] h inner m p = p
+keeps_implied (r ∷ rs) h inner m p =
+    let w : Bool = not (fails_where r.where_failed (has inner)) in keeps_implied rs h.1 inner
     (failed_unless w r.slots m) (keeps_unless w r.slots h.0 m p)
 
 where_words : (test : Atom → Bool) (ts : List Term) → TermsIn ts → InWords (slots_where test ts)
@@ -82,11 +82,11 @@ keeps_asked kind ts h (c ∷ cs) e b v inside m p =
     subst (λ (ds : List AbstractCondition). InWords (conditions_marked ds (facts_of kind v) (marked kind b v m)))
     (sym e) (keeps_conditions kind ts h (facts_of kind v) (marked kind b v m) (inside m p))
 
-keeps_formulas : (rs : List Raise) → RaisesIn rs → (kind : AbstractKind) (b : Body) (v : AbstractValue)
-    → Keeps (λ m. marked kind b v m) → Keeps (λ m. marked kind (raised_of rs b) v m)
+keeps_formulas : (rs : List Implication) → ImplicationsIn rs → (kind : AbstractKind) (b : Body) (v : AbstractValue)
+    → Keeps (λ m. marked kind b v m) → Keeps (λ m. marked kind (implied_of rs b) v m)
 unfolding marked
 keeps_formulas [] h kind b v inside m p = inside m p
-keeps_formulas (r ∷ rs) h kind b v inside m p = keeps_raised (r ∷ rs) h (marked kind b v none) m p
+keeps_formulas (r ∷ rs) h kind b v inside m p = keeps_implied (r ∷ rs) h (marked kind b v none) m p
 
 keeps_items : (mark : AbstractValue → Slots → Slots) → ((v : AbstractValue) → Keeps (mark v)) → (vs : Items)
     → Keeps (λ m. items_marked mark vs m)
@@ -148,11 +148,11 @@ keeps_set_of t q h _ m p = p
 mutual
   unfolding marked
 
-  keeps_type : (t : AbstractType) (asks : List Ask) → AsksIn asks → (v : AbstractValue)
-      → Keeps (λ m. type_marked t (lay t asks) v m)
-  keeps_type (type_of tags kind cons) asks h v m p =
-      keeps_formulas (forms_of asks).raises (raises_in asks h) kind
-      (lay_kind kind (terms_at asks)) v (keeps_kind kind (terms_at asks) (terms_in asks h) v) m p
+  keeps_type : (t : AbstractType) (demands : List SlotDemand) → DemandsIn demands → (v : AbstractValue)
+      → Keeps (λ m. type_marked t (lay t demands) v m)
+  keeps_type (type_of tags kind cons) demands h v m p =
+      keeps_formulas (forms_of demands).implications (implications_in demands h) kind
+      (lay_kind kind (terms_at demands)) v (keeps_kind kind (terms_at demands) (terms_in demands h) v) m p
 
   keeps_kind : (kind : AbstractKind) (ts : List Term) → TermsIn ts → (v : AbstractValue)
       → Keeps (λ m. marked kind (lay_kind kind ts) v m)
@@ -164,10 +164,10 @@ mutual
       (choice (lay_alternatives 0 cs ts)) v (keeps_choice cs ts (λ j v m q. keeps_alternative cs 0 j ts h v m q) v) m p
   keeps_kind (type.sequence_of t) ts h v m p = keeps_asked (type.sequence_of t) ts h
       (conditions_of (type.sequence_of t) ts) refl (list (lay t (each_of ts))) v
-      (keeps_list t (lay t (each_of ts)) (λ v m q. keeps_type t (each_of ts) (each_asks ts h) v m q) v) m p
+      (keeps_list t (lay t (each_of ts)) (λ v m q. keeps_type t (each_of ts) (each_demands ts h) v m q) v) m p
   keeps_kind (type.set_of t) ts h v m p = keeps_asked (type.set_of t) ts h (conditions_of (type.set_of t) ts) refl
       (set_of (lay t (each_of ts))) v
-      (keeps_set_of t (lay t (each_of ts)) (λ v m q. keeps_type t (each_of ts) (each_asks ts h) v m q) v) m p
+      (keeps_set_of t (lay t (each_of ts)) (λ v m q. keeps_type t (each_of ts) (each_demands ts h) v m q) v) m p
   keeps_kind type.boolean ts h v m p = keeps_conditions type.boolean ts h (facts_of type.boolean v) m p
   keeps_kind (type.integer names) ts h v m p = keeps_conditions (type.integer names) ts h
       (facts_of (type.integer names) v) m p
@@ -187,50 +187,50 @@ mutual
   keeps_fields no_components i ts h fs m p = p
   keeps_fields (component name t presence cs) i ts h value.no_fields m p = p
   keeps_fields (component name t presence cs) i ts h (value.present v fs) m p =
-      let asks : List Ask = within_of i ts in
-      let q : Plan = lay t asks in
+      let demands : List SlotDemand = within_of i ts in
+      let q : Plan = lay t demands in
       let g : Slots = (side_for t presence q (absent_of i ts) (present_of i ts)).present in
       keeps_fields cs (suc i) ts h fs (type_marked t q v (added m g))
-      (keeps_type t asks (within_asks i ts h) v (added m g)
+      (keeps_type t demands (within_demands i ts h) v (added m g)
       (added_in m g p (keeps_there t presence q (absent_of i ts) (present_of i ts) (where_words (is_unsent false i) ts h))))
   keeps_fields (component name t presence cs) i ts h (value.absent fs) m p =
-      let asks : List Ask = within_of i ts in
-      let q : Plan = lay t asks in
+      let demands : List SlotDemand = within_of i ts in
+      let q : Plan = lay t demands in
       keeps_fields cs (suc i) ts h fs
       (absence_marked (side_for t presence q (absent_of i ts) (present_of i ts)).absent m)
       (keeps_gone t presence q (absent_of i ts) (present_of i ts) (where_words (is_sent i) ts h) (where_words (is_unsent false i) ts h)
-      (λ v m r. keeps_type t asks (within_asks i ts h) v m r) m p)
+      (λ v m r. keeps_type t demands (within_demands i ts h) v m r) m p)
 
   keeps_alternative : (cs : Components) (i j : ℕ) (ts : List Term) → TermsIn ts → (v : AbstractValue)
       → Keeps (λ m. alternative_marked cs (lay_alternatives i cs ts) j v m)
   keeps_alternative no_components i j ts h v m p = p
   keeps_alternative (component name t presence cs) i zero ts h v m p =
-      keeps_type t (within_of i ts) (within_asks i ts h) v (added m (chosen_of i ts))
+      keeps_type t (within_of i ts) (within_demands i ts h) v (added m (chosen_of i ts))
       (added_in m (chosen_of i ts) p (where_words (is_unsent true i) ts h))
   keeps_alternative (component name t presence cs) i (suc j) ts h v m p = keeps_alternative cs (suc i) j ts h v m p
 
 -- ---- what a value fails is what it doesn't meet
 
-failed_in : (v : AbstractValue) (asks : List Ask) → AsksIn asks → Keeps (λ m. asks_marked v asks m)
+failed_in : (v : AbstractValue) (demands : List SlotDemand) → DemandsIn demands → Keeps (λ m. demands_marked v demands m)
 failed_in v [] h m p = p
-failed_in v (a ∷ asks) h m p = failed_in v asks h.1 (failed_unless (meets a.demand v) a.slots m)
+failed_in v (a ∷ demands) h m p = failed_in v demands h.1 (failed_unless (meets a.demand v) a.slots m)
     (keeps_unless (meets a.demand v) a.slots h.0 m p)
 
-has_failed : (v : AbstractValue) (asks : List Ask) (m : Slots) (slot : ℕ)
-    → has (asks_marked v asks m) slot ≡ (has m slot || asks_fail slot v asks)
+has_failed : (v : AbstractValue) (demands : List SlotDemand) (m : Slots) (slot : ℕ)
+    → has (demands_marked v demands m) slot ≡ (has m slot || demands_fail slot v demands)
 has_failed v [] m slot = sym (or_no (has m slot))
-has_failed v (a ∷ asks) m slot =
-    has_failed v asks (failed_unless (meets a.demand v) a.slots m) slot
-    ∙ ap (λ (b : Bool). b || asks_fail slot v asks) (has_unless (meets a.demand v) a.slots m slot)
-    ∙ or_again (has m slot) (ask_fails slot v a) (asks_fail slot v asks)
+has_failed v (a ∷ demands) m slot =
+    has_failed v demands (failed_unless (meets a.demand v) a.slots m) slot
+    ∙ ap (λ (b : Bool). b || demands_fail slot v demands) (has_unless (meets a.demand v) a.slots m slot)
+    ∙ or_again (has m slot) (demand_fails slot v a) (demands_fail slot v demands)
 
-pub failed_by : (t : AbstractType) → IsTrue (is_sound t) → (asks : List Ask) → AreApt (kind_of t) asks → AsksIn asks
+pub failed_by : (t : AbstractType) → IsTrue (is_sound t) → (demands : List SlotDemand) → AreApt (kind_of t) demands → DemandsIn demands
     → (v : AbstractValue) → IsTrue (fits t v) → (m : Slots) → InWords m
-    → asks_marked v asks m ≡ type_marked t (lay t asks) v m
-failed_by t sound asks apt h v fit m p =
-    same_slots (asks_marked v asks m) (type_marked t (lay t asks) v m) (failed_in v asks h m p)
-    (keeps_type t asks h v m p)
-    (λ slot. has_failed v asks m slot
-    ∙ sym (ap (λ (k : Slots). has k slot) (adds_type t (lay t asks) v m) ∙ added_law m
-    (type_marked t (lay t asks) v none) slot
-    ∙ ap (λ (b : Bool). has m slot || b) (lay_law t sound asks apt v fit slot)))
+    → demands_marked v demands m ≡ type_marked t (lay t demands) v m
+failed_by t sound demands apt h v fit m p =
+    same_slots (demands_marked v demands m) (type_marked t (lay t demands) v m) (failed_in v demands h m p)
+    (keeps_type t demands h v m p)
+    (λ slot. has_failed v demands m slot
+    ∙ sym (ap (λ (k : Slots). has k slot) (adds_type t (lay t demands) v m) ∙ added_law m
+    (type_marked t (lay t demands) v none) slot
+    ∙ ap (λ (b : Bool). has m slot || b) (lay_law t sound demands apt v fit slot)))

@@ -21,9 +21,9 @@ use Rattle.guard_tables.specs.declared.slots.Slots.{Slots}
 use Rattle.guard_tables.specs.Slots.{none, added, has}
 use Rattle.guard_tables.specs.Plan.{Plan, Body, AbstractCondition, series, set, choice, list, set_of, asked_of}
 use Rattle.guard_tables.specs.Marking.{facts_of, conditions_marked, marked, type_marked, fields_marked, alternative_marked}
-use Rattle.guard_tables.specs.Demands.{Ask, Term, asks_fail, terms_fail}
+use Rattle.guard_tables.specs.Demands.{SlotDemand, Term, demands_fail, terms_fail}
 use Rattle.guard_tables.specs.Apt.{AreApt, AllSpeak}
-use Rattle.guard_tables.specs.Handed.{each_of, within_of, terms_at}
+use Rattle.guard_tables.specs.OfParts.{each_of, within_of, terms_at}
 use Rattle.guard_tables.specs.Lay.{conditions_of, absent_of, present_of, chosen_of, lay, lay_kind, lay_parts, lay_alternatives}
 use Rattle.guard_tables.proofs.SlotSets.{none_law, added_law}
 use Rattle.guard_tables.proofs.Truths.{or_no, or_again}
@@ -96,10 +96,10 @@ Laid kind b ts v = (m : Slots) (slot : ℕ) → has (marked kind b v m) slot ≡
 mutual
   unfolding marked
 
-  type_laid : (t : AbstractType) → IsWell t → (asks : List Ask) → AreApt (kind_of t) asks → (v : AbstractValue) → IsTrue (fits t v) → (m : Slots) (slot : ℕ)
-      → has (type_marked t (lay t asks) v m) slot ≡ (has m slot || asks_fail slot v asks)
-  type_laid (type_of tags kind cons) w asks apt v fit m slot =
-      node_laid kind asks apt (lay_kind kind (terms_at asks)) v fit (kind_laid kind (well_kind tags kind cons w) (terms_at asks) (terms_speak kind asks apt) v fit) m slot
+  type_laid : (t : AbstractType) → IsWell t → (demands : List SlotDemand) → AreApt (kind_of t) demands → (v : AbstractValue) → IsTrue (fits t v) → (m : Slots) (slot : ℕ)
+      → has (type_marked t (lay t demands) v m) slot ≡ (has m slot || demands_fail slot v demands)
+  type_laid (type_of tags kind cons) w demands apt v fit m slot =
+      node_laid kind demands apt (lay_kind kind (terms_at demands)) v fit (kind_laid kind (well_kind tags kind cons w) (terms_at demands) (terms_speak kind demands apt) v fit) m slot
 
   kind_laid : (kind : AbstractKind) → IsWellKind kind → (ts : List Term) → AllSpeak kind ts → (v : AbstractValue) → IsTrue (fits_kind kind v) → Laid kind (lay_kind kind ts) ts v
   kind_laid type.boolean w ts s v fit m slot = simple_laid type.boolean w.0 w.1 refl (λ i. refl) ts s v fit m slot
@@ -151,16 +151,16 @@ mutual
   fields_laid kind e (component name t presence cs) i w ts s fs (value.present v rs) fit h p m slot =
       let q = and_parts (fits t v) (fits_fields cs rs) fit in
       let there : field_at i fs ≡ Some v = subst (λ (n : ℕ). field_at n fs ≡ Some v) (omega arith) (h 0) in
-      let asks : List Ask = within_of i ts in
-      let plan : Plan = lay t asks in
+      let demands : List SlotDemand = within_of i ts in
+      let plan : Plan = lay t demands in
       let g : Slots = present_of i ts in
       let rest : Bool = from_fail (suc i) slot fs ts in
       ap (λ (k : Slots). has (fields_marked cs (lay_parts (suc i) cs ts) rs (type_marked t plan v (added m k))) slot) (present_is t presence plan (absent_of i ts) g)
       ∙ fields_laid kind e cs (suc i) w.1 ts s fs rs q.1 (after_present i fs rs v h) (after_component i cs kind name t presence p) (type_marked t plan v (added m g)) slot
-      ∙ ap (λ (b : Bool). b || rest) (type_laid t w.0 asks (within_apt kind t i (type_here i cs kind name t presence p) ts s) v q.0 (added m g) slot)
-      ∙ ap (λ (b : Bool). (b || asks_fail slot v asks) || rest) (added_law m g slot)
-      ∙ ap (λ (b : Bool). b || rest) (or_again (has m slot) (has g slot) (asks_fail slot v asks))
-      ∙ or_again (has m slot) (has g slot || asks_fail slot v asks) rest
+      ∙ ap (λ (b : Bool). b || rest) (type_laid t w.0 demands (within_apt kind t i (type_here i cs kind name t presence p) ts s) v q.0 (added m g) slot)
+      ∙ ap (λ (b : Bool). (b || demands_fail slot v demands) || rest) (added_law m g slot)
+      ∙ ap (λ (b : Bool). b || rest) (or_again (has m slot) (has g slot) (demands_fail slot v demands))
+      ∙ or_again (has m slot) (has g slot || demands_fail slot v demands) rest
       ∙ ap (λ (b : Bool). has m slot || b) (there_fails kind e i ts s fs v slot there)
   fields_laid kind e (component name t presence cs) i w ts s fs (value.absent rs) fit h p m slot =
       let q = and_parts (may_be_absent presence) (fits_fields cs rs) fit in
@@ -178,16 +178,16 @@ mutual
       → FollowTypes i cs kind → (m : Slots) (slot : ℕ) → has (alternative_marked cs (lay_alternatives i cs ts) n v m) slot ≡ (has m slot || inside_fail slot (value.chosen j v) ts)
   chosen_laid kind e no_components i n j w ts s v fit same p m slot = absurd cc
   chosen_laid kind e (component name t presence cs) i zero j w ts s v fit same p m slot =
-      let asks : List Ask = within_of i ts in
+      let demands : List SlotDemand = within_of i ts in
       let g : Slots = chosen_of i ts in
-      type_laid t w.0 asks (within_apt kind t i (type_here i cs kind name t presence p) ts s) v fit (added m g) slot
-      ∙ ap (λ (b : Bool). b || asks_fail slot v asks) (added_law m g slot)
-      ∙ or_again (has m slot) (has g slot) (asks_fail slot v asks)
+      type_laid t w.0 demands (within_apt kind t i (type_here i cs kind name t presence p) ts s) v fit (added m g) slot
+      ∙ ap (λ (b : Bool). b || demands_fail slot v demands) (added_law m g slot)
+      ∙ or_again (has m slot) (has g slot) (demands_fail slot v demands)
       ∙ ap (λ (b : Bool). has m slot || b) (chosen_fails kind e i ts s v slot)
       ∙ ap (λ (n : ℕ). has m slot || inside_fail slot (value.chosen n v) ts) (omega (arith, same))
   chosen_laid kind e (component name t presence cs) i (suc n) j w ts s v fit same p m slot =
       chosen_laid kind e cs (suc i) n j w.1 ts s v fit (omega (arith, same)) (after_component i cs kind name t presence p) m slot
 
-pub lay_law : (t : AbstractType) → IsTrue (is_sound t) → (asks : List Ask) → AreApt (kind_of t) asks → (v : AbstractValue) → IsTrue (fits t v) → (slot : ℕ)
-    → has (type_marked t (lay t asks) v none) slot ≡ asks_fail slot v asks
-lay_law t sound asks apt v fit slot = type_laid t (well_sound t sound) asks apt v fit none slot ∙ ap (λ (b : Bool). b || asks_fail slot v asks) (none_law slot)
+pub lay_law : (t : AbstractType) → IsTrue (is_sound t) → (demands : List SlotDemand) → AreApt (kind_of t) demands → (v : AbstractValue) → IsTrue (fits t v) → (slot : ℕ)
+    → has (type_marked t (lay t demands) v none) slot ≡ demands_fail slot v demands
+lay_law t sound demands apt v fit slot = type_laid t (well_sound t sound) demands apt v fit none slot ∙ ap (λ (b : Bool). b || demands_fail slot v demands) (none_law slot)

@@ -18,7 +18,7 @@ pub mod Failing
 -- ---- demands of any form, and how many slots they take
 pub mod SlotCounts
 pub mod Forming
-pub mod Handing
+pub mod PartCounts
 pub mod FewSlots
 -- ---- a plan that asks all that is asked
 pub mod Telling
@@ -31,9 +31,10 @@ pub mod Laying
 pub mod Spots
 pub mod Growing
 pub mod Comings
-pub mod GivenOut
+pub mod AskedOfParts
 pub mod LaidSteps
 pub mod LaidTypes
+pub mod AscendingParts
 -- ---- what loops gather
 pub mod Gathered
 -- ---- ranges of integers

@@ -25,10 +25,10 @@ use Rattle.guard_tables.specs.declared.node_list.Nodes.{Nodes}
 use Rattle.guard_tables.specs.Alike.{AreConsistent}
 use Rattle.guard_tables.specs.Apt.{AreApt}
 use Rattle.guard_tables.specs.Conditions.{has_crowded_node}
-use Rattle.guard_tables.specs.Demands.{Ask}
-use Rattle.guard_tables.specs.Handed.{asks_from, NeedsFew}
+use Rattle.guard_tables.specs.Demands.{SlotDemand}
+use Rattle.guard_tables.specs.OfParts.{demands_from, NeedsFew}
 use Rattle.guard_tables.specs.inside.SharedTypes.{type_at, types_at}
-use Rattle.guard_tables.specs.inside.Sharing.{shared, places_of, asks_by}
+use Rattle.guard_tables.specs.inside.Sharing.{shared, places_of, demands_by}
 use Rattle.guard_tables.specs.Laws.{AllMayJudge, has_failed}
 use Rattle.guard_tables.specs.Lay.{lay}
 use Rattle.guard_tables.specs.Marking.{fails_at}
@@ -74,67 +74,67 @@ all_judge declared place (t ∷ ts) e sound =
     (matching_base declared t m.0, sound.0, all_judge declared (suc place) ts m.1 sound.1)
 
 pub table_members : (declared : AbstractType) (rules : List AbstractType) → AreConsistent declared rules → (v : AbstractValue) → IsTrue (fits declared v) → (slot : ℕ)
-    → fails_at declared (lay declared (asks_from 0 (declared ∷ rules))) v slot ≡ has_failed (declared ∷ rules) v slot
+    → fails_at declared (lay declared (demands_from 0 (declared ∷ rules))) v slot ≡ has_failed (declared ∷ rules) v slot
 table_members declared rules c v fit slot =
     member_law declared (declared ∷ rules) c.declared_sound
     (refl, c.declared_sound, all_judge declared 0 rules (goes declared rules c.faultless).matching (recursion_from_All (λ t. IsTrue (is_sound t)) rules c.rules_sound)) v fit slot
 
-pub table_room : (declared : AbstractType) (rules : List AbstractType) → AreConsistent declared rules → NeedsFew declared (asks_from 0 (declared ∷ rules))
+pub table_room : (declared : AbstractType) (rules : List AbstractType) → AreConsistent declared rules → NeedsFew declared (demands_from 0 (declared ∷ rules))
 table_room declared rules c = few_law declared (declared ∷ rules) (goes declared rules c.faultless).room
 
 -- ---- the nodes of a table
 
 -- what all types ask, each kept once
-abbrev shared_asks : AbstractType → List AbstractType → List Ask
-shared_asks declared rules = asks_by 0 (shared (declared ∷ []) rules) (0 ∷ places_of (declared ∷ []) rules)
+abbrev shared_demands : AbstractType → List AbstractType → List SlotDemand
+shared_demands declared rules = demands_by 0 (shared (declared ∷ []) rules) (0 ∷ places_of (declared ∷ []) rules)
 
 judges : (declared : AbstractType) (rules : List AbstractType) → AreConsistent declared rules → AllMayJudge declared (shared (declared ∷ []) rules)
 judges declared rules c =
     judge_shared declared rules (declared ∷ []) (refl, c.declared_sound, tt)
     (all_judge declared 0 rules (goes declared rules c.faultless).matching (recursion_from_All (λ t. IsTrue (is_sound t)) rules c.rules_sound))
 
-shared_apt : (declared : AbstractType) (rules : List AbstractType) → AreConsistent declared rules → AreApt (kind_of declared) (shared_asks declared rules)
+shared_apt : (declared : AbstractType) (rules : List AbstractType) → AreConsistent declared rules → AreApt (kind_of declared) (shared_demands declared rules)
 shared_apt declared rules c = by_apt declared 0 (shared (declared ∷ []) rules) (0 ∷ places_of (declared ∷ []) rules) (judges declared rules c)
 
-shared_room : (declared : AbstractType) (rules : List AbstractType) → AreConsistent declared rules → NeedsFew declared (shared_asks declared rules)
+shared_room : (declared : AbstractType) (rules : List AbstractType) → AreConsistent declared rules → NeedsFew declared (shared_demands declared rules)
 shared_room declared rules c =
-    few_asked declared (declared ∷ rules) (shared_asks declared rules) (λ way. ask_no_more declared rules (0 ∷ places_of (declared ∷ []) rules) way) (goes declared rules c.faultless).room
+    few_asked declared (declared ∷ rules) (shared_demands declared rules) (λ way. ask_no_more declared rules (0 ∷ places_of (declared ∷ []) rules) way) (goes declared rules c.faultless).room
 
 all_at : (declared : AbstractType) (rules : List AbstractType) → map (slice_get (shared (declared ∷ []) rules)) (0 ∷ places_of (declared ∷ []) rules) ≡ map Some (declared ∷ rules)
 all_at declared rules =
     ap (λ (x : Option AbstractType). x ∷ map (slice_get (shared (declared ∷ []) rules)) (places_of (declared ∷ []) rules)) (first_at rules declared)
     ∙ ap (λ (xs : List (Option AbstractType)). Some declared ∷ xs) (are_at rules (declared ∷ []))
 
-shared_stands : (nodes : Nodes) (declared : AbstractType) (rules : List AbstractType) → AreConsistent declared rules → root_of nodes ≡ lay declared (shared_asks declared rules) → StandsFor nodes declared rules
+shared_stands : (nodes : Nodes) (declared : AbstractType) (rules : List AbstractType) → AreConsistent declared rules → root_of nodes ≡ lay declared (shared_demands declared rules) → StandsFor nodes declared rules
 shared_stands nodes declared rules c laid = record {
-  plan = subst (λ (p : Plan). PlanFor p declared) (sym laid) (stands_law declared c.declared_sound (shared_asks declared rules));
+  plan = subst (λ (p : Plan). PlanFor p declared) (sym laid) (stands_law declared c.declared_sound (shared_demands declared rules));
   fails = λ v fit slot.
       ap (λ (p : Plan). fails_at declared p v slot) laid
-      ∙ lay_law declared c.declared_sound (shared_asks declared rules) (shared_apt declared rules c) v fit slot
+      ∙ lay_law declared c.declared_sound (shared_demands declared rules) (shared_apt declared rules c) v fit slot
       ∙ by_places (shared (declared ∷ []) rules) (0 ∷ places_of (declared ∷ []) rules) (declared ∷ rules) v slot (all_at declared rules);
 }
 
 -- ---- of types that are kept so
 
-shared_are : (declared : AbstractType) (rules others : List AbstractType) (places : List ℕ) (asks : List Ask) → asks ≡ asks_by 0 (declared ∷ others) (0 ∷ places)
-    → declared ∷ others ≡ shared (declared ∷ []) rules → places ≡ places_of (declared ∷ []) rules → asks ≡ shared_asks declared rules
-shared_are declared rules others places asks is same at =
-    is ∙ ap (λ (ts : List AbstractType). asks_by 0 ts (0 ∷ places)) same ∙ ap (λ (ps : List ℕ). asks_by 0 (shared (declared ∷ []) rules) (0 ∷ ps)) at
+shared_are : (declared : AbstractType) (rules others : List AbstractType) (places : List ℕ) (demands : List SlotDemand) → demands ≡ demands_by 0 (declared ∷ others) (0 ∷ places)
+    → declared ∷ others ≡ shared (declared ∷ []) rules → places ≡ places_of (declared ∷ []) rules → demands ≡ shared_demands declared rules
+shared_are declared rules others places demands is same at =
+    is ∙ ap (λ (ts : List AbstractType). demands_by 0 ts (0 ∷ places)) same ∙ ap (λ (ps : List ℕ). demands_by 0 (shared (declared ∷ []) rules) (0 ∷ ps)) at
 
-pub kept_apt : (declared : AbstractType) (rules others : List AbstractType) (places : List ℕ) (asks : List Ask) → AreConsistent declared rules → asks ≡ asks_by 0 (declared ∷ others) (0 ∷ places)
-    → declared ∷ others ≡ shared (declared ∷ []) rules → places ≡ places_of (declared ∷ []) rules → AreApt (kind_of declared) asks
-kept_apt declared rules others places asks c is same at =
-    subst (λ (asks : List Ask). AreApt (kind_of declared) asks) (sym (shared_are declared rules others places asks is same at)) (shared_apt declared rules c)
+pub kept_apt : (declared : AbstractType) (rules others : List AbstractType) (places : List ℕ) (demands : List SlotDemand) → AreConsistent declared rules → demands ≡ demands_by 0 (declared ∷ others) (0 ∷ places)
+    → declared ∷ others ≡ shared (declared ∷ []) rules → places ≡ places_of (declared ∷ []) rules → AreApt (kind_of declared) demands
+kept_apt declared rules others places demands c is same at =
+    subst (λ (demands : List SlotDemand). AreApt (kind_of declared) demands) (sym (shared_are declared rules others places demands is same at)) (shared_apt declared rules c)
 
-pub kept_room : (declared : AbstractType) (rules others : List AbstractType) (places : List ℕ) (asks : List Ask) → AreConsistent declared rules → asks ≡ asks_by 0 (declared ∷ others) (0 ∷ places)
-    → declared ∷ others ≡ shared (declared ∷ []) rules → places ≡ places_of (declared ∷ []) rules → NeedsFew declared asks
-kept_room declared rules others places asks c is same at =
-    subst (λ (asks : List Ask). NeedsFew declared asks) (sym (shared_are declared rules others places asks is same at)) (shared_room declared rules c)
+pub kept_room : (declared : AbstractType) (rules others : List AbstractType) (places : List ℕ) (demands : List SlotDemand) → AreConsistent declared rules → demands ≡ demands_by 0 (declared ∷ others) (0 ∷ places)
+    → declared ∷ others ≡ shared (declared ∷ []) rules → places ≡ places_of (declared ∷ []) rules → NeedsFew declared demands
+kept_room declared rules others places demands c is same at =
+    subst (λ (demands : List SlotDemand). NeedsFew declared demands) (sym (shared_are declared rules others places demands is same at)) (shared_room declared rules c)
 
-pub kept_stand : (nodes : Nodes) (declared : AbstractType) (rules others : List AbstractType) (places : List ℕ) (asks : List Ask) → AreConsistent declared rules → asks ≡ asks_by 0 (declared ∷ others) (0 ∷ places)
-    → declared ∷ others ≡ shared (declared ∷ []) rules → places ≡ places_of (declared ∷ []) rules → root_of nodes ≡ lay declared asks → StandsFor nodes declared rules
-kept_stand nodes declared rules others places asks c is same at laid =
-    shared_stands nodes declared rules c (laid ∙ ap (lay declared) (shared_are declared rules others places asks is same at))
+pub kept_stand : (nodes : Nodes) (declared : AbstractType) (rules others : List AbstractType) (places : List ℕ) (demands : List SlotDemand) → AreConsistent declared rules → demands ≡ demands_by 0 (declared ∷ others) (0 ∷ places)
+    → declared ∷ others ≡ shared (declared ∷ []) rules → places ≡ places_of (declared ∷ []) rules → root_of nodes ≡ lay declared demands → StandsFor nodes declared rules
+kept_stand nodes declared rules others places demands c is same at laid =
+    shared_stands nodes declared rules c (laid ∙ ap (lay declared) (shared_are declared rules others places demands is same at))
 
 pub kept_types : (declared : AbstractType) (rules others : List AbstractType) (places : List ℕ) → declared ∷ others ≡ shared (declared ∷ []) rules → places ≡ places_of (declared ∷ []) rules → types_at declared others places ≡ rules
 kept_types declared rules others places same at =

@@ -5,10 +5,10 @@ use Rattle.std.proofs.lemmas.Bool.{eq-eqb, ne_eqb}
 use Rattle.guard_model.specs.AbstractType.{AbstractType}
 use Rattle.guard_model.specs.AbstractValue.{AbstractValue}
 use Rattle.guard_eval.specs.Member.{is_member}
-use Rattle.guard_tables.specs.Demands.{asks_fail}
+use Rattle.guard_tables.specs.Demands.{demands_fail}
 use Rattle.guard_tables.specs.Laws.{has_failed}
 use Rattle.guard_tables.specs.Slots.{none, only, has}
-use Rattle.guard_tables.specs.inside.Sharing.{slots_for, asks_by}
+use Rattle.guard_tables.specs.inside.Sharing.{slots_for, demands_by}
 use Rattle.guard_tables.proofs.SlotSets.{none_law, only_law}
 use Rattle.guard_tables.proofs.Truths.{or_no, has_added_if}
 
@@ -86,10 +86,10 @@ told_at at (suc i) place (p ∷ ps) e = told_at at i place ps e
 
 -- a slot whose number has this place
 at_place : (at slot i place : ℕ) (ts : List AbstractType) (places : List ℕ) (v : AbstractValue) → slot ≡ i → slice_get places i ≡ Some place
-    → asks_fail slot v (asks_by at ts places) ≡ by_place place at ts v
+    → demands_fail slot v (demands_by at ts places) ≡ by_place place at ts v
 at_place at slot i place [] places v e there = refl
 at_place at slot i place (t ∷ ts) places v e there =
-    ap (λ (b : Bool). (b && not (is_member t v)) || asks_fail slot v (asks_by (suc at) ts places)) (slots_told at 0 i slot places (omega (arith, e)) ∙ told_at at i place places there)
+    ap (λ (b : Bool). (b && not (is_member t v)) || demands_fail slot v (demands_by (suc at) ts places)) (slots_told at 0 i slot places (omega (arith, e)) ∙ told_at at i place places there)
     ∙ ap (λ (b : Bool). (eqb place at && not (is_member t v)) || b) (at_place (suc at) slot i place ts places v e there)
 
 told_none : (at i : ℕ) (places : List ℕ) → slice_get places i ≡ None → is_told at places i ≡ false
@@ -98,10 +98,10 @@ told_none at zero (p ∷ ps) e = absurd cc
 told_none at (suc i) (p ∷ ps) e = told_none at i ps e
 
 -- a slot whose number has none
-at_none : (at slot : ℕ) (ts : List AbstractType) (places : List ℕ) (v : AbstractValue) → slice_get places slot ≡ None → asks_fail slot v (asks_by at ts places) ≡ false
+at_none : (at slot : ℕ) (ts : List AbstractType) (places : List ℕ) (v : AbstractValue) → slice_get places slot ≡ None → demands_fail slot v (demands_by at ts places) ≡ false
 at_none at slot [] places v e = refl
 at_none at slot (t ∷ ts) places v e =
-    ap (λ (b : Bool). (b && not (is_member t v)) || asks_fail slot v (asks_by (suc at) ts places)) (slots_told at 0 slot slot places (omega arith) ∙ told_none at slot places e)
+    ap (λ (b : Bool). (b && not (is_member t v)) || demands_fail slot v (demands_by (suc at) ts places)) (slots_told at 0 slot slot places (omega arith) ∙ told_none at slot places e)
     ∙ at_none (suc at) slot ts places v e
 
 -- ---- by all of them
@@ -125,7 +125,7 @@ failed_none ts (p ∷ ps) (t ∷ all) zero e there v = absurd cc
 failed_none ts (p ∷ ps) (t ∷ all) (suc slot) e there v = let tail : map (slice_get ts) ps ≡ map Some all = cc in failed_none ts ps all slot tail there v
 
 by_found : (ts : List AbstractType) (places : List ℕ) (all : List AbstractType) (slot : ℕ) (v : AbstractValue) → map (slice_get ts) places ≡ map Some all → (r : Option ℕ) → slice_get places slot ≡ r
-    → asks_fail slot v (asks_by 0 ts places) ≡ has_failed all v slot
+    → demands_fail slot v (demands_by 0 ts places) ≡ has_failed all v slot
 by_found ts places all slot v e None none = at_none 0 slot ts places v none ∙ sym (failed_none ts places all slot e none v)
 by_found ts places all slot v e (Some place) there =
     let f = failed_some ts places all slot place e there v in
@@ -133,5 +133,5 @@ by_found ts places all slot v e (Some place) there =
 
 -- the slots of those of which the value is no member
 pub by_places : (ts : List AbstractType) (places : List ℕ) (all : List AbstractType) (v : AbstractValue) (slot : ℕ) → map (slice_get ts) places ≡ map Some all
-    → asks_fail slot v (asks_by 0 ts places) ≡ has_failed all v slot
+    → demands_fail slot v (demands_by 0 ts places) ≡ has_failed all v slot
 by_places ts places all v slot e = by_found ts places all slot v e (slice_get places slot) refl

@@ -11,10 +11,10 @@ use Rattle.guard_model.specs.declared.ty.Ty.{Ty}
 use Rattle.guard_model.proofs.SameTypes.{same_type-Decides}
 use Rattle.guard_tables.specs.Apt.{AreApt}
 use Rattle.guard_tables.specs.Conditions.{of_type, conditions}
-use Rattle.guard_tables.specs.Handed.{of_asks}
+use Rattle.guard_tables.specs.OfParts.{of_demands}
 use Rattle.guard_tables.specs.Laws.{AllMayJudge}
 use Rattle.guard_tables.specs.Tables.{types_view}
-use Rattle.guard_tables.specs.inside.Sharing.{place_of, with_type, shared, places_of, asks_by}
+use Rattle.guard_tables.specs.inside.Sharing.{place_of, with_type, shared, places_of, demands_by}
 use Rattle.guard_tables.proofs.Bases.{base_is}
 use Rattle.guard_tables.proofs.Speaking.{proper_of_sound}
 
@@ -132,13 +132,13 @@ conditions_shared (t ∷ rest) ts way =
     let b = conditions_with ts t way in
     omega (arith, a, b)
 
-count_by : (at : ℕ) (ts : List AbstractType) (places : List ℕ) (way : List ℕ) → of_asks (asks_by at ts places) way ≡ conditions ts way
+count_by : (at : ℕ) (ts : List AbstractType) (places : List ℕ) (way : List ℕ) → of_demands (demands_by at ts places) way ≡ conditions ts way
 count_by at [] places way = refl
 count_by at (t ∷ ts) places way = let e = count_by (suc at) ts places way in omega (arith, e)
 
 -- no more than all
 pub ask_no_more : (declared : AbstractType) (rest : List AbstractType) (places : List ℕ) (way : List ℕ)
-    → of_asks (asks_by 0 (shared (declared ∷ []) rest) places) way ≤ conditions (declared ∷ rest) way
+    → of_demands (demands_by 0 (shared (declared ∷ []) rest) places) way ≤ conditions (declared ∷ rest) way
 ask_no_more declared rest places way =
     let a = count_by 0 (shared (declared ∷ []) rest) places way in
     let b = conditions_shared rest (declared ∷ []) way in
@@ -159,6 +159,6 @@ pub judge_shared : (declared : AbstractType) (rest ts : List AbstractType) → A
 judge_shared declared [] ts a h = a
 judge_shared declared (t ∷ rest) ts a h = judge_shared declared rest (with_type ts t) (judge_with declared ts t a (h.0, h.1, tt)) h.2
 
-pub by_apt : (declared : AbstractType) (at : ℕ) (ts : List AbstractType) (places : List ℕ) → AllMayJudge declared ts → AreApt (kind_of declared) (asks_by at ts places)
+pub by_apt : (declared : AbstractType) (at : ℕ) (ts : List AbstractType) (places : List ℕ) → AllMayJudge declared ts → AreApt (kind_of declared) (demands_by at ts places)
 by_apt declared at [] places h = tt
 by_apt declared at (t ∷ ts) places h = ((base_is t declared h.0, proper_of_sound t h.1), by_apt declared (suc at) ts places h.2)

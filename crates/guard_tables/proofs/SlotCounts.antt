@@ -5,10 +5,10 @@ use Rattle.guard_model.specs.AbstractType.{AbstractType, AbstractKind, Constrain
 use Rattle.guard_tables.specs.declared.slots.Slots.{Slots}
 use Rattle.guard_tables.specs.Conditions.{of_type, of_kind, of_constraints, of_constraint, of_element}
 use Rattle.guard_tables.specs.Slots.{only}
-use Rattle.guard_tables.specs.Demands.{Demand, by_type, by_constraint, Ask, scalar}
+use Rattle.guard_tables.specs.Demands.{Demand, by_type, by_constraint, SlotDemand, scalar}
 use Rattle.guard_tables.specs.Terms.{term, is_scalar}
 use Rattle.guard_tables.specs.Forms.{Formula, and_terms, aside, taking, form_one, form_element, form_all, form_each, form_own, form_type, form, conjoined, forms_from, nothing_yet}
-use Rattle.guard_tables.specs.Handed.{of_demand, of_asks}
+use Rattle.guard_tables.specs.OfParts.{of_demand, of_demands}
 
 at_most_either : (b : Bool) (x y : Formula) (most : ℕ) → x.next ≤ most → y.next ≤ most → (cond b x y).next ≤ most
 at_most_either true x y most p q = p
@@ -78,25 +78,25 @@ count_law k (by_constraint kind c) f = one_count k kind c f
 
 -- ---- all that is asked
 
-conjoined_count : (asks : List Ask) (f : Formula) → (conjoined asks f).next + length asks ≤ f.next + of_asks asks []
+conjoined_count : (demands : List SlotDemand) (f : Formula) → (conjoined demands f).next + length demands ≤ f.next + of_demands demands []
 conjoined_count [] f = omega arith
-conjoined_count (a ∷ asks) f =
+conjoined_count (a ∷ demands) f =
     let p = count_law a.slots a.demand f in
-    let q = conjoined_count asks (form a.slots a.demand f) in
+    let q = conjoined_count demands (form a.slots a.demand f) in
     omega (arith, p, q)
 
-forms_count : (k : ℕ) (asks : List Ask) (f : Formula) → (forms_from k asks f).next + length asks ≤ f.next + of_asks asks []
+forms_count : (k : ℕ) (demands : List SlotDemand) (f : Formula) → (forms_from k demands f).next + length demands ≤ f.next + of_demands demands []
 forms_count k [] f = omega arith
-forms_count k (a ∷ asks) f =
+forms_count k (a ∷ demands) f =
     let p = count_law (only k) a.demand (aside f) in
-    let q = forms_count (suc k) asks (aside (form (only k) a.demand (aside f))) in
+    let q = forms_count (suc k) demands (aside (form (only k) a.demand (aside f))) in
     omega (arith, p, q)
 
-pub conjoined_few : (asks : List Ask) (n : ℕ) → n ≡ length asks → of_asks asks [] ≤ 256 → (conjoined asks (nothing_yet n)).next ≤ 256
-conjoined_few asks n e h = let p = conjoined_count asks (nothing_yet n) in omega (arith, p, e, h)
+pub conjoined_few : (demands : List SlotDemand) (n : ℕ) → n ≡ length demands → of_demands demands [] ≤ 256 → (conjoined demands (nothing_yet n)).next ≤ 256
+conjoined_few demands n e h = let p = conjoined_count demands (nothing_yet n) in omega (arith, p, e, h)
 
-pub forms_few : (asks : List Ask) (n : ℕ) → n ≡ length asks → of_asks asks [] ≤ 256 → (forms_from 0 asks (nothing_yet n)).next ≤ 256
-forms_few asks n e h = let p = forms_count 0 asks (nothing_yet n) in omega (arith, p, e, h)
+pub forms_few : (demands : List SlotDemand) (n : ℕ) → n ≡ length demands → of_demands demands [] ≤ 256 → (forms_from 0 demands (nothing_yet n)).next ≤ 256
+forms_few demands n e h = let p = forms_count 0 demands (nothing_yet n) in omega (arith, p, e, h)
 
 -- ---- from the first free one on
 
@@ -146,14 +146,14 @@ form_up k (by_constraint kind c) f = one_up k kind c f
 pub own_up : (taken : Bool) (kind : AbstractKind) (c : Constraint) (f : Formula) → f.next + 1 ≤ (form_own taken kind c f).next
 own_up taken kind c f = let p = one_up (only f.next) kind c (taking f) in omega (arith, p)
 
-pub conjoined_up : (asks : List Ask) (f : Formula) → f.next ≤ (conjoined asks f).next
+pub conjoined_up : (demands : List SlotDemand) (f : Formula) → f.next ≤ (conjoined demands f).next
 conjoined_up [] f = omega arith
-conjoined_up (a ∷ asks) f = let p = form_up a.slots a.demand f in let q = conjoined_up asks (form a.slots a.demand f) in omega (arith, p, q)
+conjoined_up (a ∷ demands) f = let p = form_up a.slots a.demand f in let q = conjoined_up demands (form a.slots a.demand f) in omega (arith, p, q)
 
-pub forms_up : (k : ℕ) (asks : List Ask) (f : Formula) → f.next ≤ (forms_from k asks f).next
+pub forms_up : (k : ℕ) (demands : List SlotDemand) (f : Formula) → f.next ≤ (forms_from k demands f).next
 forms_up k [] f = omega arith
-forms_up k (a ∷ asks) f =
+forms_up k (a ∷ demands) f =
     let g : Formula = form (only k) a.demand (aside f) in
     let p = form_up (only k) a.demand (aside f) in
-    let q = forms_up (suc k) asks (aside g) in
+    let q = forms_up (suc k) demands (aside g) in
     omega (arith, p, q)

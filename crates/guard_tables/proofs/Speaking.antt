@@ -20,12 +20,12 @@ use Rattle.guard_der.specs.ProperConstraints.{is_there_and, takes_size}
 use Rattle.guard_der.specs.Sound.{is_proper, is_proper_kind, is_proper_presence, are_proper, are_proper_constraints, is_proper_constraint, is_proper_element, are_proper_parts, has_distinct_tags, is_sound}
 use Rattle.guard_eval.specs.Presence.{element_kind, kind_at, kind_found, is_ruled_out}
 use Rattle.guard_tables.specs.declared.slots.Slots.{Slots}
-use Rattle.guard_tables.specs.Demands.{Demand, by_type, by_constraint, Ask, scalar, within, sent, unsent, Term}
+use Rattle.guard_tables.specs.Demands.{Demand, by_type, by_constraint, SlotDemand, scalar, within, sent, unsent, Term}
 use Rattle.guard_tables.specs.Slots.{only}
 use Rattle.guard_tables.specs.Formulas.{Form}
 use Rattle.guard_tables.specs.Terms.{term, is_scalar, said, placed, ruled_out, unlisted, listed_terms, parts_from, kind_terms}
 use Rattle.guard_tables.specs.Forms.{Formula, and_terms, aside, taking, form_one, form_element, form_all, form_each, form_own, form_type, form, Formulas, conjoined, forms_from, if_conjoined, nothing_yet}
-use Rattle.guard_tables.specs.Handed.{terms_at}
+use Rattle.guard_tables.specs.OfParts.{terms_at}
 use Rattle.guard_tables.specs.Apt.{IsApt, AreApt, IsAptFor, AllSpeak}
 use Rattle.guard_tables.proofs.Bases.{base_is, all_alike}
 
@@ -217,21 +217,21 @@ sound_law t h = (refl, proper_of_sound t h)
 
 -- ---- all that is asked at a node
 
-conjoined_speak : (kind : AbstractKind) (asks : List Ask) (f : Formula) → AreApt kind asks → AllSpeak kind f.terms → AllSpeak kind (conjoined asks f).terms
+conjoined_speak : (kind : AbstractKind) (demands : List SlotDemand) (f : Formula) → AreApt kind demands → AllSpeak kind f.terms → AllSpeak kind (conjoined demands f).terms
 conjoined_speak kind [] f apt s = s
-conjoined_speak kind (a ∷ asks) f apt s = conjoined_speak kind asks (form a.slots a.demand f) apt.1 (form_speaks kind a.demand a.slots f apt.0 s)
+conjoined_speak kind (a ∷ demands) f apt s = conjoined_speak kind demands (form a.slots a.demand f) apt.1 (form_speaks kind a.demand a.slots f apt.0 s)
 
-formulas_speak : (kind : AbstractKind) (k : ℕ) (asks : List Ask) (f : Formula) → AreApt kind asks → AllSpeak kind f.terms → AllSpeak kind (forms_from k asks f).terms
+formulas_speak : (kind : AbstractKind) (k : ℕ) (demands : List SlotDemand) (f : Formula) → AreApt kind demands → AllSpeak kind f.terms → AllSpeak kind (forms_from k demands f).terms
 formulas_speak kind k [] f apt s = s
-formulas_speak kind k (a ∷ asks) f apt s =
-    formulas_speak kind (suc k) asks (aside (form (only k) a.demand (aside f))) apt.1 (form_speaks kind a.demand (only k) (aside f) apt.0 s)
+formulas_speak kind k (a ∷ demands) f apt s =
+    formulas_speak kind (suc k) demands (aside (form (only k) a.demand (aside f))) apt.1 (form_speaks kind a.demand (only k) (aside f) apt.0 s)
 
 -- of both where there is the one or the other
 pub either_forms : (P : List Term → Type 0) (ws : List Form) (own others : Formulas) → P own.terms → P others.terms → P (if_conjoined ws own others).terms
 either_forms P [] own others p q = p
 either_forms P (w ∷ ws) own others p q = q
 
-pub terms_speak : (kind : AbstractKind) (asks : List Ask) → AreApt kind asks → AllSpeak kind (terms_at asks)
-terms_speak kind asks apt =
-    let n : ℕ = length asks in
-    either_forms (AllSpeak kind) (conjoined asks (nothing_yet n)).besides _ (forms_from 0 asks (nothing_yet n)) (conjoined_speak kind asks (nothing_yet n) apt tt) (formulas_speak kind 0 asks (nothing_yet n) apt tt)
+pub terms_speak : (kind : AbstractKind) (demands : List SlotDemand) → AreApt kind demands → AllSpeak kind (terms_at demands)
+terms_speak kind demands apt =
+    let n : ℕ = length demands in
+    either_forms (AllSpeak kind) (conjoined demands (nothing_yet n)).forms _ (forms_from 0 demands (nothing_yet n)) (conjoined_speak kind demands (nothing_yet n) apt tt) (formulas_speak kind 0 demands (nothing_yet n) apt tt)

@@ -9,7 +9,7 @@ use Rattle.guard_tables.specs.declared.node.Cold.{Cold}
 use Rattle.guard_tables.specs.declared.node.Kind.{Kind}
 use Rattle.guard_tables.specs.declared.node.Kind.TheVariants as kind
 use Rattle.guard_tables.specs.declared.node_list.Nodes.{Nodes}
-use Rattle.guard_tables.specs.NodeViews.{raise_view}
+use Rattle.guard_tables.specs.NodeViews.{implication_view}
 use Rattle.guard_tables.specs.NodesView.{spots_in}
 use Rattle.guard_tables.specs.Plan.{Plan, plan, series, set, choice, list, set_of, asked, formula, part, body_in, tags_in, form_in}
 use Rattle.guard_tables.specs.TableNodes.{Spot, side_of, spot_at, spot_of, spots_from, spots_of, blank, body_of_kind, tags_of_kind, form_of_kind, own_tags, conditions_of, parts_between, parts_of, IsNode, has_inner}
@@ -22,7 +22,7 @@ take_twice (suc n) zero xs h = absurd (omega (arith, h))
 take_twice (suc n) (suc m) [] h = refl
 take_twice (suc n) (suc m) (x ∷ xs) h = ap (λ ys. x ∷ ys) (take_twice n m xs (omega (arith, h)))
 
-drop_front : (first count k : ℕ) (xs : List Spot) → first + count ≤ k → take count (drop first (take k xs)) ≡ take count (drop first xs)
+pub drop_front : (first count k : ℕ) (xs : List Spot) → first + count ≤ k → take count (drop first (take k xs)) ≡ take count (drop first xs)
 drop_front first count k xs h =
     let whole : k ≡ first + (k - first) = omega (arith, h) in
     ap (λ (k : ℕ). take count (drop first (take k xs))) whole ∙ ap (take count) (drop-take first (k - first) xs) ∙ take_twice count (k - first) (drop first xs) (omega (arith, h))
@@ -82,7 +82,7 @@ same_plan kind.List h c spots n before inner = ap (λ (s : Spot). plan (own_tags
 same_plan kind.SetOf h c spots n before inner = ap (λ (s : Spot). plan (own_tags c.tag) true (set_of s.plan)) (get_or-take n spots h.first blank (inner refl))
 same_plan kind.Wrapper h c spots n before inner = ap (λ (s : Spot). plan (tags_of_kind kind.Wrapper c.tag (tags_in s.plan)) (form_in s.plan) (body_in s.plan)) (get_or-take n spots h.first blank (inner refl))
 same_plan kind.Asked h c spots n before inner = ap (λ (s : Spot). plan (tags_in s.plan) (form_in s.plan) (asked (conditions_of c) (body_in s.plan))) (get_or-take n spots h.first blank (inner refl))
-same_plan kind.Formula h c spots n before inner = ap (λ (s : Spot). plan (tags_in s.plan) (form_in s.plan) (formula (map raise_view c.raises.items) (body_in s.plan))) (get_or-take n spots h.first blank (inner refl))
+same_plan kind.Formula h c spots n before inner = ap (λ (s : Spot). plan (tags_in s.plan) (form_in s.plan) (formula (map implication_view c.implications.items) (body_in s.plan))) (get_or-take n spots h.first blank (inner refl))
 
 abbrev pub spot_with : Hot → Cold → Plan → Spot
 spot_with h c p = record { side = side_of h c; plan = p }

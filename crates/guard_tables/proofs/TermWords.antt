@@ -11,12 +11,12 @@ use Rattle.guard_der.specs.Fits.{may_be_absent}
 use Rattle.guard_eval.specs.Presence.{is_ruled_out}
 use Rattle.guard_tables.specs.declared.slots.Slots.{Slots}
 use Rattle.guard_tables.specs.Slots.{only}
-use Rattle.guard_tables.specs.Demands.{Demand, by_type, by_constraint, Ask, Atom, scalar, each, within, sent, unsent, Term}
-use Rattle.guard_tables.specs.Formulas.{Form, Raise}
+use Rattle.guard_tables.specs.Demands.{Demand, by_type, by_constraint, SlotDemand, Atom, scalar, each, within, sent, unsent, Term}
+use Rattle.guard_tables.specs.Formulas.{Form, Implication}
 use Rattle.guard_tables.specs.Terms.{term, is_scalar, said, placed, ruled_out, unlisted, parts_from, kind_terms, listed_terms}
 use Rattle.guard_tables.specs.Forms.{Formula, formulas, and_terms, aside, taking, form_one, form_element, form_all, form_each, form_own, form_type, form, conjoined, forms_from, forms_of, if_conjoined, nothing_yet}
-use Rattle.guard_tables.specs.Handed.{ask, each_in, each_of, within_in, within_of, terms_at}
-use Rattle.guard_tables.specs.inside.SlotWords.{InWords, AsksIn}
+use Rattle.guard_tables.specs.OfParts.{slot_demand, each_in, each_of, within_in, within_of, terms_at}
+use Rattle.guard_tables.specs.inside.SlotWords.{InWords, DemandsIn}
 use Rattle.guard_tables.proofs.SlotWords.{only_in}
 use Rattle.guard_tables.proofs.Speaking.{either_forms}
 
@@ -24,9 +24,9 @@ abbrev pub TermsIn : List Term → Type 0
 TermsIn [] = ⊤
 TermsIn (t ∷ ts) = InWords t.slots × TermsIn ts
 
-abbrev pub RaisesIn : List Raise → Type 0
-RaisesIn [] = ⊤
-RaisesIn (r ∷ rs) = InWords r.slots × RaisesIn rs
+abbrev pub ImplicationsIn : List Implication → Type 0
+ImplicationsIn [] = ⊤
+ImplicationsIn (r ∷ rs) = InWords r.slots × ImplicationsIn rs
 
 both_in : (xs ys : List Term) → TermsIn xs → TermsIn ys → TermsIn (xs ++ ys)
 both_in [] ys p q = q
@@ -123,53 +123,53 @@ form_in : (k : Slots) (d : Demand) (f : Formula) → InWords k → TermsIn f.ter
 form_in k (by_type t) f h p = type_in k t f h p
 form_in k (by_constraint kind c) f h p = one_in k kind c f h p
 
-conjoined_in : (asks : List Ask) (f : Formula) → AsksIn asks → TermsIn f.terms → TermsIn (conjoined asks f).terms
+conjoined_in : (demands : List SlotDemand) (f : Formula) → DemandsIn demands → TermsIn f.terms → TermsIn (conjoined demands f).terms
 conjoined_in [] f h p = p
-conjoined_in (a ∷ asks) f h p = conjoined_in asks (form a.slots a.demand f) h.1 (form_in a.slots a.demand f h.0 p)
+conjoined_in (a ∷ demands) f h p = conjoined_in demands (form a.slots a.demand f) h.1 (form_in a.slots a.demand f h.0 p)
 
-forms_in : (k : ℕ) (asks : List Ask) (f : Formula) → AsksIn asks → TermsIn f.terms → TermsIn (forms_from k asks f).terms
+forms_in : (k : ℕ) (demands : List SlotDemand) (f : Formula) → DemandsIn demands → TermsIn f.terms → TermsIn (forms_from k demands f).terms
 forms_in k [] f h p = p
-forms_in k (a ∷ asks) f h p = forms_in (suc k) asks (aside (form (only k) a.demand (aside f))) h.1 (form_in (only k) a.demand (aside f) (only_in k) p)
+forms_in k (a ∷ demands) f h p = forms_in (suc k) demands (aside (form (only k) a.demand (aside f))) h.1 (form_in (only k) a.demand (aside f) (only_in k) p)
 
-raised_in : (k : ℕ) (asks : List Ask) (f : Formula) → AsksIn asks → RaisesIn (forms_from k asks f).raises
-raised_in k [] f h = tt
-raised_in k (a ∷ asks) f h = (h.0, raised_in (suc k) asks (aside (form (only k) a.demand (aside f))) h.1)
+implied_in : (k : ℕ) (demands : List SlotDemand) (f : Formula) → DemandsIn demands → ImplicationsIn (forms_from k demands f).implications
+implied_in k [] f h = tt
+implied_in k (a ∷ demands) f h = (h.0, implied_in (suc k) demands (aside (form (only k) a.demand (aside f))) h.1)
 
 -- ---- all that is asked at a node, and of its parts
 
-pub terms_in : (asks : List Ask) → AsksIn asks → TermsIn (terms_at asks)
-terms_in asks h =
-    let n : ℕ = length asks in
-    either_forms TermsIn (conjoined asks (nothing_yet n)).besides _ (forms_from 0 asks (nothing_yet n)) (conjoined_in asks (nothing_yet n) h tt) (forms_in 0 asks (nothing_yet n) h tt)
+pub terms_in : (demands : List SlotDemand) → DemandsIn demands → TermsIn (terms_at demands)
+terms_in demands h =
+    let n : ℕ = length demands in
+    either_forms TermsIn (conjoined demands (nothing_yet n)).forms _ (forms_from 0 demands (nothing_yet n)) (conjoined_in demands (nothing_yet n) h tt) (forms_in 0 demands (nothing_yet n) h tt)
 
-some_raised : (ws : List Form) (f : Formula) (asks : List Ask) → AsksIn asks → RaisesIn (if_conjoined ws (formulas f.terms [] f.next) (forms_from 0 asks (nothing_yet (length asks)))).raises
-some_raised [] f asks h = tt
-some_raised (w ∷ ws) f asks h = raised_in 0 asks (nothing_yet (length asks)) h
+some_implied : (ws : List Form) (f : Formula) (demands : List SlotDemand) → DemandsIn demands → ImplicationsIn (if_conjoined ws (formulas f.terms [] f.next) (forms_from 0 demands (nothing_yet (length demands)))).implications
+some_implied [] f demands h = tt
+some_implied (w ∷ ws) f demands h = implied_in 0 demands (nothing_yet (length demands)) h
 
-pub raises_in : (asks : List Ask) → AsksIn asks → RaisesIn (forms_of asks).raises
-raises_in asks h = some_raised (conjoined asks (nothing_yet (length asks))).besides (conjoined asks (nothing_yet (length asks))) asks h
+pub implications_in : (demands : List SlotDemand) → DemandsIn demands → ImplicationsIn (forms_of demands).implications
+implications_in demands h = some_implied (conjoined demands (nothing_yet (length demands))).forms (conjoined demands (nothing_yet (length demands))) demands h
 
-all_asks : (xs ys : List Ask) → AsksIn xs → AsksIn ys → AsksIn (xs ++ ys)
-all_asks [] ys p q = q
-all_asks (x ∷ xs) ys p q = (p.0, all_asks xs ys p.1 q)
+all_demands : (xs ys : List SlotDemand) → DemandsIn xs → DemandsIn ys → DemandsIn (xs ++ ys)
+all_demands [] ys p q = q
+all_demands (x ∷ xs) ys p q = (p.0, all_demands xs ys p.1 q)
 
-each_one : (k : Slots) (a : Atom) → InWords k → AsksIn (each_in k a)
+each_one : (k : Slots) (a : Atom) → InWords k → DemandsIn (each_in k a)
 each_one k (each d) h = (h, tt)
 each_one k _ h = tt
 
-pub each_asks : (ts : List Term) → TermsIn ts → AsksIn (each_of ts)
-each_asks [] h = tt
-each_asks (t ∷ ts) h = all_asks (each_in t.slots t.atom) (each_of ts) (each_one t.slots t.atom h.0) (each_asks ts h.1)
+pub each_demands : (ts : List Term) → TermsIn ts → DemandsIn (each_of ts)
+each_demands [] h = tt
+each_demands (t ∷ ts) h = all_demands (each_in t.slots t.atom) (each_of ts) (each_one t.slots t.atom h.0) (each_demands ts h.1)
 
-if_asked : (b : Bool) (k : Slots) (d : Demand) → InWords k → AsksIn (cond b (ask k d ∷ []) [])
+if_asked : (b : Bool) (k : Slots) (d : Demand) → InWords k → DemandsIn (cond b (slot_demand k d ∷ []) [])
 if_asked true k d h = (h, tt)
 if_asked false k d h = tt
 
-within_one : (i : ℕ) (k : Slots) (a : Atom) → InWords k → AsksIn (within_in i k a)
+within_one : (i : ℕ) (k : Slots) (a : Atom) → InWords k → DemandsIn (within_in i k a)
 within_one i k (within j d) h = if_asked (nat_eq j i) k d h
 within_one i k _ h = tt
 
-pub within_asks : (i : ℕ) (ts : List Term) → TermsIn ts → AsksIn (within_of i ts)
-within_asks i [] h = tt
-within_asks i (t ∷ ts) h = all_asks (within_in i t.slots t.atom) (within_of i ts) (within_one i t.slots t.atom h.0)
-    (within_asks i ts h.1)
+pub within_demands : (i : ℕ) (ts : List Term) → TermsIn ts → DemandsIn (within_of i ts)
+within_demands i [] h = tt
+within_demands i (t ∷ ts) h = all_demands (within_in i t.slots t.atom) (within_of i ts) (within_one i t.slots t.atom h.0)
+    (within_demands i ts h.1)

@@ -6,7 +6,7 @@ use Rattle.guard_model.specs.Kinds.{kind_of, element_of, part_of, is_string, typ
 use Rattle.guard_model.specs.SameBase.{bare_kind}
 use Rattle.guard_der.specs.ProperConstraints.{may_stand_in, takes_size}
 use Rattle.guard_der.specs.Sound.{is_proper, is_proper_constraint}
-use Rattle.guard_tables.specs.Demands.{Demand, by_type, by_constraint, Ask, Atom, scalar, equals, sized, spelled, each, within, sent, unsent, Term}
+use Rattle.guard_tables.specs.Demands.{Demand, by_type, by_constraint, SlotDemand, Atom, scalar, equals, sized, spelled, each, within, sent, unsent, Term}
 use Rattle.guard_tables.specs.Terms.{is_scalar}
 
 -- kinds of the same base: the same values fit both, constraints aside
@@ -22,9 +22,9 @@ abbrev pub IsApt : AbstractKind → Demand → Type 0
 IsApt kind (by_type t) = IsAlike (kind_of t) kind × IsTrue (is_proper t)
 IsApt kind (by_constraint own c) = IsAlike own kind × MayStandOn own c
 
-abbrev pub AreApt : AbstractKind → List Ask → Type 0
+abbrev pub AreApt : AbstractKind → List SlotDemand → Type 0
 AreApt kind [] = ⊤
-AreApt kind (a ∷ asks) = IsApt kind a.demand × AreApt kind asks
+AreApt kind (a ∷ demands) = IsApt kind a.demand × AreApt kind demands
 
 -- there is such a part, and the demand may be made of it
 abbrev pub IsAptFor : Option AbstractType → Demand → Type 0

@@ -19,8 +19,8 @@ pub data Demand : Type 0 where
   by_type : AbstractType → Demand
   by_constraint : AbstractKind → Constraint → Demand
 
--- with the slots that fail where it isn't met
-pub record Ask : Type 0 where
+-- a demand, with the slots that fail where it isn't met
+pub record SlotDemand : Type 0 where
   pub slots : Slots
   pub demand : Demand
 
@@ -29,12 +29,12 @@ meets (by_type t) v = is_member t v
 meets (by_constraint kind c) v = holds c kind v
 
 -- the slot fails for this
-abbrev pub ask_fails : ℕ → AbstractValue → Ask → Bool
-ask_fails slot v a = has a.slots slot && not (meets a.demand v)
+abbrev pub demand_fails : ℕ → AbstractValue → SlotDemand → Bool
+demand_fails slot v a = has a.slots slot && not (meets a.demand v)
 
 -- the slot fails for some of these
-abbrev pub asks_fail : ℕ → AbstractValue → List Ask → Bool
-asks_fail slot v asks = list_any (ask_fails slot v) asks
+abbrev pub demands_fail : ℕ → AbstractValue → List SlotDemand → Bool
+demands_fail slot v demands = list_any (demand_fails slot v) demands
 
 -- ---- what it comes down to at one node, with the clause of X.680
 
@@ -56,7 +56,7 @@ pub data Atom : Type 0 where
   sent : ℕ → Atom
   unsent : ℕ → Atom
 
--- with the slots that fail where it doesn't pass
+-- a test or a demand on a part, with the slots that fail where it doesn't pass
 pub record Term : Type 0 where
   pub slots : Slots
   pub atom : Atom

@@ -6,31 +6,31 @@ use Rattle.guard_model.specs.AbstractType.{AbstractType, AbstractKind, Constrain
 use Rattle.guard_eval.specs.Presence.{element_kind}
 use Rattle.guard_tables.specs.declared.slots.Slots.{Slots}
 use Rattle.guard_tables.specs.Slots.{only}
-use Rattle.guard_tables.specs.Formulas.{Form, never, always, slot, both, either, unless, Raise}
-use Rattle.guard_tables.specs.Demands.{Demand, by_type, by_constraint, Ask, scalar, equals, sized, spelled, each, Term}
+use Rattle.guard_tables.specs.Formulas.{Form, never, always, slot, both, either, unless, Implication}
+use Rattle.guard_tables.specs.Demands.{Demand, by_type, by_constraint, SlotDemand, scalar, equals, sized, spelled, each, Term}
 use Rattle.guard_tables.specs.Terms.{term, is_scalar, unlisted, listed_terms, kind_terms}
 
--- What is asked so far: terms; formulas, of which each says where it fails besides; and the next slot that is free. A
+-- What is asked so far: terms; formulas, of which each says where it fails too; and the next slot that is free. A
 -- conjunction has no formulas.
 pub record Formula : Type 0 where
   pub terms : List Term
-  pub besides : List Form
+  pub forms : List Form
   pub next : ℕ
 
 abbrev pub and_terms : Formula → List Term → Formula
-and_terms f ts = record { terms = f.terms ++ ts; besides = f.besides; next = f.next }
+and_terms f ts = record { terms = f.terms ++ ts; forms = f.forms; next = f.next }
 
--- nothing besides yet
+-- without formulas yet
 abbrev pub aside : Formula → Formula
-aside f = record { terms = f.terms; besides = []; next = f.next }
+aside f = record { terms = f.terms; forms = []; next = f.next }
 
 -- nor that, with the next slot taken
 abbrev pub taking : Formula → Formula
-taking f = record { terms = f.terms; besides = []; next = suc f.next }
+taking f = record { terms = f.terms; forms = []; next = suc f.next }
 
 -- the first, and what came after it as this form
 abbrev pub and_form : Formula → Form → Formula → Formula
-and_form f w g = record { terms = g.terms; besides = f.besides ++ w ∷ []; next = g.next }
+and_form f w g = record { terms = g.terms; forms = f.forms ++ w ∷ []; next = g.next }
 
 -- one of these, or the last
 abbrev pub eithers : List Form → Form → Form
@@ -42,7 +42,7 @@ abbrev pub boths : List Form → Form → Form
 boths [] last = last
 boths (f ∷ fs) last = both f (boths fs last)
 
--- where its own slot has failed, or what is besides says so
+-- where its own slot has failed, or one of the formulas says so
 abbrev pub own_form : ℕ → List Form → Form
 own_form n ws = either (slot n) (eithers ws never)
 
@@ -52,14 +52,14 @@ turned true w = unless w
 turned false w = w
 
 abbrev pub in_own : Bool → Formula → Formula → Formula
-in_own taken f g = and_form f (turned taken (own_form f.next g.besides)) g
+in_own taken f g = and_form f (turned taken (own_form f.next g.forms)) g
 
 -- what comes of it with the next free slot as its own
 abbrev pub with_own : Bool → Formula → (Slots → Formula → Formula) → Formula
 with_own taken f more = in_own taken f (more (only f.next) (taking f))
 
 abbrev pub in_union : Formula → Formula → Formula
-in_union f g = and_form f (boths g.besides always) g
+in_union f g = and_form f (boths g.forms always) g
 
 -- With the slots k: what is asked together has them too; each member of a union, and each set that is taken away, has
 -- the next free slot as its own.
@@ -109,42 +109,42 @@ form k (by_constraint kind c) f = form_one k kind c f
 
 pub record Formulas : Type 0 where
   pub terms : List Term
-  pub raises : List Raise
+  pub implications : List Implication
   pub next : ℕ
 
-abbrev pub formulas : List Term → List Raise → ℕ → Formulas
-formulas terms raises next = record { terms = terms; raises = raises; next = next }
+abbrev pub formulas : List Term → List Implication → ℕ → Formulas
+formulas terms implications next = record { terms = terms; implications = implications; next = next }
 
 -- all of these, with their own slots
-abbrev pub conjoined : List Ask → Formula → Formula
+abbrev pub conjoined : List SlotDemand → Formula → Formula
 conjoined [] f = f
-conjoined (a ∷ asks) f = conjoined asks (form a.slots a.demand f)
+conjoined (a ∷ demands) f = conjoined demands (form a.slots a.demand f)
 
-abbrev pub and_raise : Raise → Formulas → Formulas
-and_raise r fs = formulas fs.terms (r ∷ fs.raises) fs.next
+abbrev pub and_implication : Implication → Formulas → Formulas
+and_implication r fs = formulas fs.terms (r ∷ fs.implications) fs.next
 
-abbrev pub raise_of : ℕ → Slots → Formula → Raise
-raise_of k slots f = record { slots = slots; where_failed = own_form k f.besides }
+abbrev pub implication_of : ℕ → Slots → Formula → Implication
+implication_of k slots f = record { slots = slots; where_failed = own_form k f.forms }
 
 -- The first of them has slot k, each other the next one.
-abbrev pub forms_from : ℕ → List Ask → Formula → Formulas
+abbrev pub forms_from : ℕ → List SlotDemand → Formula → Formulas
 forms_from k [] f = formulas f.terms [] f.next
-forms_from k (a ∷ asks) f =
-    and_raise (raise_of k a.slots (form (only k) a.demand (aside f)))
-    (forms_from (suc k) asks (aside (form (only k) a.demand (aside f))))
+forms_from k (a ∷ demands) f =
+    and_implication (implication_of k a.slots (form (only k) a.demand (aside f)))
+    (forms_from (suc k) demands (aside (form (only k) a.demand (aside f))))
 
 -- so many slots are taken
 abbrev pub nothing_yet : ℕ → Formula
-nothing_yet n = record { terms = []; besides = []; next = n }
+nothing_yet n = record { terms = []; forms = []; next = n }
 
--- conjunctions as they are, with nothing raised; otherwise the others
+-- conjunctions as they are, with no implications; otherwise the others
 abbrev pub if_conjoined : List Form → Formulas → Formulas → Formulas
 if_conjoined [] own others = own
 if_conjoined (w ∷ ws) own others = others
 
 abbrev pub chosen_forms : Formula → Formulas → Formulas
-chosen_forms f others = if_conjoined f.besides (formulas f.terms [] f.next) others
+chosen_forms f others = if_conjoined f.forms (formulas f.terms [] f.next) others
 
-abbrev pub forms_of : List Ask → Formulas
-forms_of asks =
-    chosen_forms (conjoined asks (nothing_yet (length asks))) (forms_from 0 asks (nothing_yet (length asks)))
+abbrev pub forms_of : List SlotDemand → Formulas
+forms_of demands =
+    chosen_forms (conjoined demands (nothing_yet (length demands))) (forms_from 0 demands (nothing_yet (length demands)))

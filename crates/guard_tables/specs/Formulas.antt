@@ -22,7 +22,7 @@ fails_where (either a b) failed = fails_where a failed || fails_where b failed
 fails_where (unless a) failed = not (fails_where a failed)
 
 -- these slots fail where the formula says so
-pub record Raise : Type 0 where
+pub record Implication : Type 0 where
   pub slots : Slots
   pub where_failed : Form
 
@@ -32,6 +32,6 @@ failed_unless true slots m = m
 failed_unless false slots m = added m slots
 
 -- what fails outside, after m, where the inner set is what has failed inside
-abbrev pub raised : List Raise → Slots → Slots → Slots
-raised [] inner m = m
-raised (r ∷ rs) inner m = raised rs inner (failed_unless (not (fails_where r.where_failed (has inner))) r.slots m)
+abbrev pub implied : List Implication → Slots → Slots → Slots
+implied [] inner m = m
+implied (r ∷ rs) inner m = implied rs inner (failed_unless (not (fails_where r.where_failed (has inner))) r.slots m)

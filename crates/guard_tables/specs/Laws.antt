@@ -9,13 +9,13 @@ use Rattle.guard_der.specs.Sound.{is_sound}
 use Rattle.guard_eval.specs.Member.{is_member}
 use Rattle.guard_tables.specs.declared.slots.Slots.{Slots}
 use Rattle.guard_tables.specs.Slots.{none, only, added, below, without, has}
-use Rattle.guard_tables.specs.Demands.{Demand, by_type, Ask, Term, meets, asks_fail, terms_fail}
+use Rattle.guard_tables.specs.Demands.{Demand, by_type, SlotDemand, Term, meets, demands_fail, terms_fail}
 use Rattle.guard_tables.specs.Alike.{AreConsistent}
 use Rattle.guard_tables.specs.Apt.{IsApt, AreApt, AllSpeak}
 use Rattle.guard_tables.specs.Conditions.{has_crowded_node}
 use Rattle.guard_tables.specs.Formulas.{never, fails_where}
 use Rattle.guard_tables.specs.Forms.{Formula, eithers, form, nothing_yet}
-use Rattle.guard_tables.specs.Handed.{each_of, within_of, terms_at, of_demand, of_asks, asks_from, NeedsFew}
+use Rattle.guard_tables.specs.OfParts.{each_of, within_of, terms_at, of_demand, of_demands, demands_from, NeedsFew}
 use Rattle.guard_tables.specs.Lay.{lay}
 use Rattle.guard_tables.specs.Marking.{fails_at}
 use Rattle.guard_tables.specs.Standing.{PlanFor}
@@ -53,12 +53,12 @@ FormLaw = (kind : AbstractKind) (d : Demand) → IsApt kind d → (k n : ℕ) �
     → (v : AbstractValue) → IsTrue (fits_kind kind v)
     → (failed : ℕ → Bool) → Agrees failed v (form (only k) d (nothing_yet n)).terms n (form (only k) d (nothing_yet n)).next
     → (terms_fail k v (form (only k) d (nothing_yet n)).terms
-    || fails_where (eithers (form (only k) d (nothing_yet n)).besides never) failed) ≡ not (meets d v)
+    || fails_where (eithers (form (only k) d (nothing_yet n)).forms never) failed) ≡ not (meets d v)
 
 -- One without formulas is a conjunction: its slots fail exactly where one of its terms does.
 abbrev pub ConjunctionLaw : Type 0
 ConjunctionLaw = (kind : AbstractKind) (d : Demand) → IsApt kind d → (k : Slots) (n : ℕ)
-    → (form k d (nothing_yet n)).besides ≡ [] → (v : AbstractValue) → IsTrue (fits_kind kind v) → (slot : ℕ)
+    → (form k d (nothing_yet n)).forms ≡ [] → (v : AbstractValue) → IsTrue (fits_kind kind v) → (slot : ℕ)
     → terms_fail slot v (form k d (nothing_yet n)).terms ≡ (has k slot && not (meets d v))
 
 -- Each term is one of the values of the kind, and what it asks of a part may be asked of it.
@@ -73,26 +73,26 @@ CountLaw = (k : Slots) (d : Demand) (f : Formula) → (form k d f).next + 1 ≤ 
 -- ---- all nodes
 
 -- What is asked of a part, counted from there on, is no more than what was asked of the whole.
-abbrev pub EachHandLaw : Type 0
-EachHandLaw = (asks : List Ask) (place : ℕ) (way : List ℕ)
-    → of_asks (each_of (terms_at asks)) way ≤ of_asks asks (place ∷ way)
+abbrev pub EachPartLaw : Type 0
+EachPartLaw = (demands : List SlotDemand) (place : ℕ) (way : List ℕ)
+    → of_demands (each_of (terms_at demands)) way ≤ of_demands demands (place ∷ way)
 
-abbrev pub WithinHandLaw : Type 0
-WithinHandLaw = (asks : List Ask) (place : ℕ) (way : List ℕ)
-    → of_asks (within_of place (terms_at asks)) way ≤ of_asks asks (place ∷ way)
+abbrev pub WithinPartLaw : Type 0
+WithinPartLaw = (demands : List SlotDemand) (place : ℕ) (way : List ℕ)
+    → of_demands (within_of place (terms_at demands)) way ≤ of_demands demands (place ∷ way)
 
 -- Where no node of the declared type has too many conditions, no node needs more slots than a set can have.
 abbrev pub FewLaw : Type 0
 FewLaw = (declared : AbstractType) (types : List AbstractType) → has_crowded_node types declared ≡ false
-    → NeedsFew declared (asks_from 0 types)
+    → NeedsFew declared (demands_from 0 types)
 
 -- ---- plans
 
 -- Once a value of a sound type has passed the plan that is laid for what is asked, a slot has failed exactly where it
 -- is one of something that isn't met.
 abbrev pub LayLaw : Type 0
-LayLaw = (t : AbstractType) → IsTrue (is_sound t) → (asks : List Ask) → AreApt (kind_of t) asks
-    → (v : AbstractValue) → IsTrue (fits t v) → (slot : ℕ) → fails_at t (lay t asks) v slot ≡ asks_fail slot v asks
+LayLaw = (t : AbstractType) → IsTrue (is_sound t) → (demands : List SlotDemand) → AreApt (kind_of t) demands
+    → (v : AbstractValue) → IsTrue (fits t v) → (slot : ℕ) → fails_at t (lay t demands) v slot ≡ demands_fail slot v demands
 
 -- ---- what a table's types fail
 
@@ -113,21 +113,21 @@ abbrev pub MemberLaw : Type 0
 MemberLaw = (declared : AbstractType) (types : List AbstractType)
     → IsTrue (is_sound declared) → AllMayJudge declared types
     → (v : AbstractValue) → IsTrue (fits declared v) → (slot : ℕ)
-    → fails_at declared (lay declared (asks_from 0 types)) v slot ≡ has_failed types v slot
+    → fails_at declared (lay declared (demands_from 0 types)) v slot ≡ has_failed types v slot
 
 -- Of the types of a table: slot 0 is the declared type's, and slot i + 1 that of rule i.
 abbrev pub TableMembersLaw : Type 0
 TableMembersLaw = (declared : AbstractType) (rules : List AbstractType) → AreConsistent declared rules
     → (v : AbstractValue) → IsTrue (fits declared v) → (slot : ℕ)
-    → fails_at declared (lay declared (asks_from 0 (declared ∷ rules))) v slot ≡ has_failed (declared ∷ rules) v slot
+    → fails_at declared (lay declared (demands_from 0 (declared ∷ rules))) v slot ≡ has_failed (declared ∷ rules) v slot
 
 -- At each node of a table there is room for all slots that are needed.
 abbrev pub TableRoomLaw : Type 0
 TableRoomLaw = (declared : AbstractType) (rules : List AbstractType) → AreConsistent declared rules
-    → NeedsFew declared (asks_from 0 (declared ∷ rules))
+    → NeedsFew declared (demands_from 0 (declared ∷ rules))
 
 -- ---- which type a plan stands for
 
 -- The plan that is laid for a sound type stands for the type, whatever is asked.
 abbrev pub StandsLaw : Type 0
-StandsLaw = (t : AbstractType) → IsTrue (is_sound t) → (asks : List Ask) → PlanFor (lay t asks) t
+StandsLaw = (t : AbstractType) → IsTrue (is_sound t) → (demands : List SlotDemand) → PlanFor (lay t demands) t

@@ -16,13 +16,13 @@ use Rattle.guard_eval.specs.Elements.{is_in_some}
 use Rattle.guard_eval.specs.Member.{holds}
 use Rattle.guard_tables.specs.declared.slots.Slots.{Slots}
 use Rattle.guard_tables.specs.Slots.{none, added}
-use Rattle.guard_tables.specs.Formulas.{Raise}
+use Rattle.guard_tables.specs.Formulas.{Implication}
 use Rattle.guard_tables.specs.Plan as plans
 use Rattle.guard_tables.specs.Plan.{AbstractTest, numbers, sizes, stored, AbstractCondition, Side, Plan, Body, Parts, plan, simple, series, set, choice, list, set_of, formula, no_parts, part, asked_of}
 use Rattle.guard_tables.specs.Marking.{type_marked}
-use Rattle.guard_tables.specs.Demands.{Ask, Atom, scalar, equals, sized, spelled, each, within, sent, unsent, Term}
+use Rattle.guard_tables.specs.Demands.{SlotDemand, Atom, scalar, equals, sized, spelled, each, within, sent, unsent, Term}
 use Rattle.guard_tables.specs.Forms.{forms_of}
-use Rattle.guard_tables.specs.Handed.{each_of, within_of, terms_at}
+use Rattle.guard_tables.specs.OfParts.{each_of, within_of, terms_at}
 
 -- ---- tests of the value at a node
 
@@ -162,15 +162,15 @@ side_for t type.pending p absent present = record { absent = None; present = pre
 abbrev pub side_chosen : Slots → Side
 side_chosen present = record { absent = None; present = present; default = None }
 
--- where nothing is raised there is no node for it
-abbrev pub raised_of : List Raise → Body → Body
-raised_of [] b = b
-raised_of (r ∷ rs) b = formula (r ∷ rs) b
+-- where nothing is implied there is no node for it
+abbrev pub implied_of : List Implication → Body → Body
+implied_of [] b = b
+implied_of (r ∷ rs) b = formula (r ∷ rs) b
 
 abbrev mutual
-  pub lay : AbstractType → List Ask → Plan
-  lay (type_of tags kind cons) asks =
-      plan tags (is_constructed kind) (raised_of (forms_of asks).raises (lay_kind kind (terms_at asks)))
+  pub lay : AbstractType → List SlotDemand → Plan
+  lay (type_of tags kind cons) demands =
+      plan tags (is_constructed kind) (implied_of (forms_of demands).implications (lay_kind kind (terms_at demands)))
 
   pub lay_kind : AbstractKind → List Term → Body
   lay_kind (type.sequence cs) terms =

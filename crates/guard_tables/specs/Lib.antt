@@ -15,7 +15,7 @@ pub mod Demands
 pub mod Terms
 pub mod Apt
 pub mod Forms
-pub mod Handed
+pub mod OfParts
 pub mod Lay
 -- ---- the nodes
 pub mod Alphabets

@@ -10,7 +10,7 @@ use Rattle.guard_der.specs.Der.{contents_octets}
 use Rattle.guard_eval.specs.Elements.{size_of}
 use Rattle.guard_tables.specs.declared.slots.Slots.{Slots}
 use Rattle.guard_tables.specs.Slots.{none, added, has}
-use Rattle.guard_tables.specs.Formulas.{failed_unless, raised}
+use Rattle.guard_tables.specs.Formulas.{failed_unless, implied}
 use Rattle.guard_tables.specs.Plan.{AbstractTest, numbers, sizes, stored, spelled, AbstractCondition, Plan, Body, Parts, plan, simple, series, set, choice, list, set_of, asked, formula, part}
 
 -- ---- conditions
@@ -83,7 +83,7 @@ unfoldable mutual
   marked (type.sequence_of t) (list p) (value.items vs) m = items_marked (λ v m. type_marked t p v m) vs m
   marked (type.set_of t) (set_of p) (value.items vs) m = items_marked (λ v m. type_marked t p v m) vs m
   marked kind (asked cs body) v m = conditions_marked cs (facts_of kind v) (marked kind body v m)
-  marked kind (formula raises body) v m = raised raises (marked kind body v none) m
+  marked kind (formula implications body) v m = implied implications (marked kind body v none) m
   marked _ _ _ m = m
 
   -- by the body of a plan for a type

@@ -12,7 +12,7 @@ use Rattle.guard_tables.specs.declared.node.Form.TheFolds.{fold-Form}
 use Rattle.guard_tables.specs.declared.node.Form.TheOpen.{Form-F}
 use Rattle.guard_tables.specs.declared.node.Need.{Need}
 use Rattle.guard_tables.specs.declared.node.Need.TheVariants as need
-use Rattle.guard_tables.specs.declared.node.Raise.{Raise}
+use Rattle.guard_tables.specs.declared.node.Implication.{Implication}
 use Rattle.guard_tables.specs.declared.node.SimpleKind.{SimpleKind}
 use Rattle.guard_tables.specs.declared.node.SimpleKind.TheVariants as kind
 use Rattle.guard_tables.specs.declared.node.Test.{Test}
@@ -59,8 +59,8 @@ form_step (Form-F.Unless a) = formulas.unless a.value
 abbrev pub form_view : Form → formulas.Form
 form_view = fold-Form formulas.Form form_step
 
-abbrev pub raise_view : Raise → formulas.Raise
-raise_view r = record { slots = r.slots; where_failed = form_view r.where_failed }
+abbrev pub implication_view : Implication → formulas.Implication
+implication_view r = record { slots = r.slots; where_failed = form_view r.where_failed }
 
 -- ---- beside other components
 

@@ -4,7 +4,7 @@ use Rattle.std.specs.Prelude.{ℕ, ℤ, Bool, List, [], ◌∷◌, Option}
 use Rattle.guard_model.specs.declared.tag.Tag.{Tag}
 use Rattle.guard_model.specs.AbstractType.{AbstractKind}
 use Rattle.guard_tables.specs.declared.slots.Slots.{Slots}
-use Rattle.guard_tables.specs.Formulas.{Raise}
+use Rattle.guard_tables.specs.Formulas.{Implication}
 
 -- a test of a value, with the clause of X.680; sets of numbers are tests too, however the nodes keep them
 pub data AbstractTest : Type 0 where
@@ -52,7 +52,7 @@ mutual
     -- what is asked of a value that has parts as a whole: its size, or that it is one single value
     asked : List AbstractCondition → Body → Body
     -- formulas over what fails in a set of the node's own
-    formula : List Raise → Body → Body
+    formula : List Implication → Body → Body
 
   pub data Parts : Type 0 where
     no_parts : Parts

@@ -79,7 +79,7 @@ IsWhole (choice ps) = ⊤
 IsWhole (list p) = ⊤
 IsWhole (set_of p) = ⊤
 IsWhole (asked cs body) = IsWhole body
-IsWhole (formula raises body) = IsWhole body
+IsWhole (formula implications body) = IsWhole body
 
 abbrev mutual
   pub PlanFor : Plan → AbstractType → Type 0
@@ -95,7 +95,7 @@ abbrev mutual
   BodyFor (set_of p) (type.set_of t) = PlanFor p t
   -- of a simple kind its own node asks
   BodyFor (asked cs body) kind = Spells kind × BodyFor body kind × IsWhole body
-  BodyFor (formula raises body) kind = BodyFor body kind
+  BodyFor (formula implications body) kind = BodyFor body kind
   BodyFor body kind = ⊥
 
   pub PartsFor : Parts → Components → Type 0

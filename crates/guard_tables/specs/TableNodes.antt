@@ -1,10 +1,12 @@
 -- How the nodes of a table stand for plans: parts before wholes, so each stands for what those before it make of it.
-use Rattle.std.specs.Prelude.{ℕ, ◌+◌, ◌<◌, ◌≤◌, ◌≡◌, ◌≤ℤ◌, Bool, true, false, List, [], ◌∷◌, ◌++◌, length, take, drop, map, slice_get, get_or, Option, Some, None, option_map}
+use Rattle.std.specs.Prelude.{ℕ, ◌+◌, ◌<◌, ◌≤◌, ◌≡◌, ◌≤ℤ◌, Bool, true, false, ◌&&◌, List, [], ◌∷◌, ◌++◌, length, take, drop, map, slice_get, get_or, Option, Some, None, option_map}
 use Rattle.std.specs.Option.{is_none}
 use Rattle.guard_model.specs.declared.tag.Tag.{Tag}
 use Rattle.guard_model.specs.AbstractType as type
+use Rattle.guard_model.specs.Limits.{most_components}
 use Rattle.guard_model.specs.Same.{same_numbers}
 use Rattle.guard_der.specs.Octets.{twos_complement}
+use Rattle.guard_der.specs.Reading.{follows}
 use Rattle.guard_der.specs.Simple.{integer_fault, simple_fault, simple_value}
 use Rattle.guard_tables.specs.declared.node.Hot.{Hot}
 use Rattle.guard_tables.specs.declared.node.Cold.{Cold}
@@ -14,7 +16,7 @@ use Rattle.guard_tables.specs.declared.slots.Slots.{Slots}
 use Rattle.guard_tables.specs.Slots.{none}
 use Rattle.guard_tables.specs.Plan.{AbstractCondition, Side, Plan, Body, Parts, plan, simple, series, set, choice, list, set_of, asked, formula, no_parts, part, body_in, tags_in, form_in}
 use Rattle.guard_tables.specs.Marking.{facts, conditions_marked}
-use Rattle.guard_tables.specs.NodeViews.{kind_view, condition_view, raise_view, absence_of, identifier_of, other_of}
+use Rattle.guard_tables.specs.NodeViews.{kind_view, condition_view, implication_view, absence_of, identifier_of, other_of}
 
 -- ---- what nodes stand for
 
@@ -55,7 +57,7 @@ body_of_kind kind.List h c spots = list (spot_at spots h.first).plan
 body_of_kind kind.SetOf h c spots = set_of (spot_at spots h.first).plan
 body_of_kind kind.Wrapper h c spots = body_at spots h.first
 body_of_kind kind.Asked h c spots = asked (conditions_of c) (body_at spots h.first)
-body_of_kind kind.Formula h c spots = formula (map raise_view c.raises.items) (body_at spots h.first)
+body_of_kind kind.Formula h c spots = formula (map implication_view c.implications.items) (body_at spots h.first)
 
 abbrev pub own_tags : Option Tag → List Tag
 own_tags None = []
@@ -137,6 +139,22 @@ abbrev pub IsPlain : Hot → Spot → Type 0
 IsPlain h s =
     (os : List ℕ) → integer_fault os ≡ None → h.low ≤ℤ twos_complement os → twos_complement os ≤ℤ h.high → IsFree s os
 
+-- the outermost of these tags
+abbrev pub outer_tag : List Tag → Option Tag
+outer_tag [] = None
+outer_tag (t ∷ ts) = Some t
+
+-- there is this tag, and it comes after the one before (X.680 8.6)
+abbrev pub comes_next : Option Tag → Option Tag → Bool
+comes_next last None = false
+comes_next last (Some tag) = follows last tag
+
+-- After this tag, each part has an outermost one that comes after that of the part before: as a SET's elements come
+-- (X.690 10.3).
+abbrev pub ascend : Option Tag → Parts → Bool
+ascend last no_parts = true
+ascend last (part side p ps) = comes_next last (outer_tag (tags_in p)) && ascend (outer_tag (tags_in p)) ps
+
 abbrev pub has_inner : Kind → Bool
 has_inner (kind.Simple k) = false
 has_inner kind.Series = false
@@ -153,6 +171,10 @@ pub record IsNode (h : Hot) (c : Cold) (spots : List Spot) (k : ℕ) : Type 0 wh
   -- its parts are before it
   pub before : h.first + h.count ≤ k
   pub inner : has_inner h.kind ≡ true → h.first < k
+  -- no more of them than a type has components
+  pub few : h.count ≤ most_components
+  -- they ascend by their tags where the node says so
+  pub ascending : h.ascending ≡ true → ascend None (parts_between spots h.first h.count) ≡ true
   pub identifier : h.identifier ≡ identifier_of (tags_in (spot_of h c spots).plan) (form_in (spot_of h c spots).plan)
   pub other : h.other ≡ other_of (tags_in (spot_of h c spots).plan) (form_in (spot_of h c spots).plan)
   -- a node that isn't watched has no default, and its presence costs nothing

@@ -1,5 +1,5 @@
 -- What only private contracts and proofs cite.
-pub mod AskViews
+pub mod DemandViews
 pub mod OnePart
 pub mod FormViews
 pub mod JoinedRanges
@@ -11,7 +11,8 @@ pub mod SlotWords
 pub mod Intervals
 pub mod Aside
 pub mod Bare
-pub mod Laid
-pub mod Giving
+pub mod Assembled
+pub mod Ascending
+pub mod DemandsOfParts
 pub mod Sharing
 pub mod SharedTypes

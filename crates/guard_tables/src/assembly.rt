@@ -1,20 +1,20 @@
 //! Steps in which nodes are put together, from the inside out.
-ghost use Rattle.std.specs.Prelude.{◌≡◌, ◌<◌, ◌≤◌, ◌-◌, ◌++◌, ◌∷◌, [], length, map, drop, Some, IfOk, true};
+ghost use Rattle.std.specs.Prelude.{◌≡◌, ◌<◌, ◌≤◌, ◌-◌, ◌++◌, ◌∷◌, [], length, map, drop, None, Some, IfOk, true};
 ghost use Rattle.guard_model.specs.Limits.{most_components};
-ghost use Rattle.guard_tables.specs.Lay.{raised_of};
-ghost use Rattle.guard_tables.specs.NodeViews.{condition_view, raise_view};
+ghost use Rattle.guard_tables.specs.Lay.{implied_of};
+ghost use Rattle.guard_tables.specs.NodeViews.{condition_view, implication_view};
 ghost use Rattle.guard_tables.specs.Plan as plans;
 ghost use Rattle.guard_tables.specs.Plan.{body_in, tags_in, form_in, asked_of};
-ghost use Rattle.guard_tables.specs.TableNodes.{IsNode, spots_of, own_tags};
+ghost use Rattle.guard_tables.specs.TableNodes.{IsNode, ascend, spots_of, own_tags};
 ghost use Rattle.guard_tables.specs.inside.Aside.{AreNodes, spots_at};
-ghost use Rattle.guard_tables.specs.inside.Laid.{Lays, Stacks, WithPart, MayCome, plan_in, parts_in, body_of_group, body_of_elements, spots_so_far};
+ghost use Rattle.guard_tables.specs.inside.Assembled.{Lays, Stacks, WithPart, MayCome, plan_in, parts_in, body_of_group, body_of_elements, spots_so_far};
 ghost use Rattle.guard_tables.specs.inside.SideViews.{part_side_view};
 
+use crate::assembled::{Assembled, AssembledParts};
 use crate::conditions_list::Conditions;
-use crate::drafts::{Elements, Group, Node, bare, group_node, with_side};
 use crate::identifiers::{Identifiers, identifiers_of};
-use crate::laid::{Laid, LaidParts};
-use crate::node::{Kind, Raise};
+use crate::new_nodes::{Elements, Group, Node, bare, group_node, with_side};
+use crate::node::{Implication, Kind};
 use crate::node_list::Builder;
 use crate::sides::PartSide;
 use guard_model::{OutOfMemory, Tag};
@@ -28,7 +28,7 @@ pub(crate) struct Stacked {
 }
 
 /// With the one that wasn't with them.
-pub(crate) fn with_last(laid: Laid) -> Result<Stacked, OutOfMemory>
+pub(crate) fn with_last(laid: Assembled) -> Result<Stacked, OutOfMemory>
     ensures { IfOk result (λ s. Stacks laid s.builder s.first) }
 {
     let first = laid.builder.hots.len();
@@ -41,9 +41,9 @@ pub(crate) fn with_last(laid: Laid) -> Result<Stacked, OutOfMemory>
 /// What is asked of a value that has parts as a whole; where that is nothing no node comes in front.
 pub(crate) fn with_conditions(
     alloc: Global,
-    laid: Laid,
+    laid: Assembled,
     conditions: Conditions,
-) -> Result<Laid, OutOfMemory>
+) -> Result<Assembled, OutOfMemory>
     ensures { IfOk result (λ l. Lays laid.builder l (plans.plan (tags_in (plan_in laid)) (form_in (plan_in laid))
         (asked_of (map condition_view conditions.list.items) (body_in (plan_in laid))))) }
 {
@@ -57,22 +57,22 @@ pub(crate) fn with_conditions(
     let inner = with_last(laid)?;
     let mut node = bare(alloc, Kind::Asked, identifiers, true, inner.first, 1);
     node.cold.conditions = conditions;
-    Ok(Laid {
+    Ok(Assembled {
         builder: inner.builder,
         node,
     })
 }
 
-/// Formulas over what fails there; where they raise nothing no node comes in front.
+/// Formulas over what fails there; where they imply nothing no node comes in front.
 pub(crate) fn with_formulas(
     alloc: Global,
-    laid: Laid,
-    raises: Vec<Raise>,
-) -> Result<Laid, OutOfMemory>
+    laid: Assembled,
+    implications: Vec<Implication>,
+) -> Result<Assembled, OutOfMemory>
     ensures { IfOk result (λ l. Lays laid.builder l (plans.plan (tags_in (plan_in laid)) (form_in (plan_in laid))
-        (raised_of (map raise_view raises.items) (body_in (plan_in laid))))) }
+        (implied_of (map implication_view implications.items) (body_in (plan_in laid))))) }
 {
-    if raises.is_empty() {
+    if implications.is_empty() {
         return Ok(laid);
     }
     let identifiers = Identifiers {
@@ -81,15 +81,15 @@ pub(crate) fn with_formulas(
     };
     let inner = with_last(laid)?;
     let mut node = bare(alloc, Kind::Formula, identifiers, false, inner.first, 1);
-    node.cold.raises = raises;
-    Ok(Laid {
+    node.cold.implications = implications;
+    Ok(Assembled {
         builder: inner.builder,
         node,
     })
 }
 
 /// An explicit tag round it.
-fn wrapped(alloc: Global, laid: Laid, tag: Tag) -> Result<Laid, OutOfMemory>
+fn wrapped(alloc: Global, laid: Assembled, tag: Tag) -> Result<Assembled, OutOfMemory>
     requires { 0 < length (tags_in (plan_in laid)) }
     ensures { IfOk result (λ l. Lays laid.builder l (plans.plan (tag ∷ tags_in (plan_in laid)) (form_in (plan_in laid)) (body_in (plan_in laid)))) }
 {
@@ -97,7 +97,7 @@ fn wrapped(alloc: Global, laid: Laid, tag: Tag) -> Result<Laid, OutOfMemory>
     let identifiers = identifiers_of(Some(tag), true);
     let mut node = bare(alloc, Kind::Wrapper, identifiers, false, inner.first, 1);
     node.cold.tag = Some(tag);
-    Ok(Laid {
+    Ok(Assembled {
         builder: inner.builder,
         node,
     })
@@ -114,7 +114,11 @@ pub(crate) fn innermost(tags: &[Tag]) -> Option<Tag>
 }
 
 /// All tags but the last round it, from the inside out.
-pub(crate) fn with_tags(alloc: Global, laid: Laid, tags: &[Tag]) -> Result<Laid, OutOfMemory>
+pub(crate) fn with_tags(
+    alloc: Global,
+    laid: Assembled,
+    tags: &[Tag],
+) -> Result<Assembled, OutOfMemory>
     requires { tags_in (plan_in laid) ≡ drop (length tags.now - 1) tags.now }
     ensures { IfOk result (λ l. Lays laid.builder l (plans.plan tags.now (form_in (plan_in laid)) (body_in (plan_in laid)))) }
 {
@@ -132,59 +136,61 @@ pub(crate) fn with_tags(alloc: Global, laid: Laid, tags: &[Tag]) -> Result<Laid,
 /// A list of such elements.
 pub(crate) fn as_elements(
     alloc: Global,
-    element: Laid,
+    element: Assembled,
     elements: Elements,
     tag: Option<Tag>,
-) -> Result<Laid, OutOfMemory>
+) -> Result<Assembled, OutOfMemory>
     ensures { IfOk result (λ l. Lays element.builder l (plans.plan (own_tags tag) true (body_of_elements elements (plan_in element)))) }
 {
     let inner = with_last(element)?;
     let identifiers = identifiers_of(tag, true);
     let mut node = bare(alloc, elements.kind(), identifiers, false, inner.first, 1);
     node.cold.tag = tag;
-    Ok(Laid {
+    Ok(Assembled {
         builder: inner.builder,
         node,
     })
 }
 
-/// A node that has these parts.
+/// A node that has these parts, and whether they ascend.
 pub(crate) fn as_parts(
     alloc: Global,
-    parts: LaidParts,
+    parts: AssembledParts,
     group: Group,
     tag: Option<Tag>,
-) -> Result<Laid, OutOfMemory>
+    ascending: bool,
+) -> Result<Assembled, OutOfMemory>
     requires come { MayCome parts }
     requires few { length parts.nodes.items ≤ most_components }
+    requires order { ascending ≡ true → ascend None (parts_in parts plans.no_parts) ≡ true }
     ensures { IfOk result (λ l. Lays parts.builder l (plans.plan (own_tags tag) true (body_of_group group (parts_in parts plans.no_parts)))) }
 {
     let first = parts.builder.hots.len();
     let count = parts.nodes.len() as u32;
     let builder = with_all(parts)?;
-    let node = group_node(alloc, group, tag, first, count);
-    Ok(Laid { builder, node })
+    let node = group_node(alloc, group, tag, first, count, ascending);
+    Ok(Assembled { builder, node })
 }
 
 /// One part more, of which this is said.
 pub(crate) fn with_part(
-    part: Laid,
+    part: Assembled,
     others: Vec<Node>,
     side: PartSide,
-) -> Result<LaidParts, OutOfMemory>
+) -> Result<AssembledParts, OutOfMemory>
     requires { AreNodes others.items (spots_so_far part.builder) (length part.builder.hots.items) }
     ensures { IfOk result (λ l. WithPart others.items part (part_side_view side) l) }
 {
     let mut nodes = others;
     nodes.push(with_side(part.node, side))?;
-    Ok(LaidParts {
+    Ok(AssembledParts {
         builder: part.builder,
         nodes,
     })
 }
 
 /// The parts side by side.
-fn with_all(parts: LaidParts) -> Result<Builder, OutOfMemory>
+fn with_all(parts: AssembledParts) -> Result<Builder, OutOfMemory>
     requires { MayCome parts }
     ensures { IfOk result (λ b. spots_so_far b ≡ spots_so_far parts.builder ++ spots_at (spots_so_far parts.builder) parts.nodes.items) }
 {

@@ -15,10 +15,10 @@ ghost use Rattle.guard_tables.specs.Demands.{by_constraint};
 ghost use Rattle.guard_tables.specs.Lay.{truth_tests, scalar_tests, stored_test, tests_of, conditions_in, conditions_of};
 ghost use Rattle.guard_tables.specs.NodeViews.{test_view, condition_view};
 ghost use Rattle.guard_tables.specs.Plan.{numbers};
-ghost use Rattle.guard_tables.specs.inside.AskViews.{atom_view, terms_view};
+ghost use Rattle.guard_tables.specs.inside.DemandViews.{atom_view, terms_view};
 
-use crate::asks::{Atom, Demand, Term};
 use crate::conditions_list::Conditions;
+use crate::demands::{Atom, Demand, Term};
 use crate::encoded::if_short;
 use crate::node::{Condition, Test};
 use crate::sides::is_met;

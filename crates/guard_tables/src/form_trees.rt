@@ -9,10 +9,10 @@ use guard_model::OutOfMemory;
 use std::alloc::Global;
 
 /// It fails where this slot has failed or one of these says so.
-pub(crate) fn own_form(alloc: Global, slot: u8, besides: Vec<Form>) -> Result<Form, OutOfMemory>
-    ensures { IfOk result (λ f. form_view f ≡ own_form slot (map form_view besides.items)) }
+pub(crate) fn own_form(alloc: Global, slot: u8, forms: Vec<Form>) -> Result<Form, OutOfMemory>
+    ensures { IfOk result (λ f. form_view f ≡ own_form slot (map form_view forms.items)) }
 {
-    let other = one_of(alloc, besides)?;
+    let other = one_of(alloc, forms)?;
     either(alloc, Form::Slot(slot), other)
 }
 

@@ -4,10 +4,10 @@ ghost use Rattle.std.specs.Prelude.{◌≡◌, ◌<◌, ◌≤◌, ◌++◌, ◌
 ghost use Rattle.guard_model.specs.TypeView.{type_view, kind_view, constraint_view, element_view, constraints_of};
 ghost use Rattle.guard_tables.specs.Forms.{form, form_one, form_element, form_all, form_each, form_own, form_type, turned};
 ghost use Rattle.guard_tables.specs.NodeViews.{form_view};
-ghost use Rattle.guard_tables.specs.inside.AskViews.{demand_view};
+ghost use Rattle.guard_tables.specs.inside.DemandViews.{demand_view};
 ghost use Rattle.guard_tables.specs.inside.FormViews.{formula_of};
 
-use crate::asks::{Atom, Demand, Term, push};
+use crate::demands::{Atom, Demand, Term, push};
 use crate::form_trees::{all_of, own_form, unless};
 use crate::node::Form;
 use crate::parts::{is_scalar, push_kind, push_parts};
@@ -29,16 +29,16 @@ pub(crate) fn form<'a>(
     demand: Demand<'a>,
     slots: Slots,
     tests: &mut Tests<'a>,
-    besides: &mut Vec<Form>,
+    forms: &mut Vec<Form>,
 ) -> Result<(), OutOfMemory>
-    requires { (form slots (demand_view demand) (formula_of tests.now besides.now.items)).next ≤ 256 }
-    ensures { OnOk result (formula_of tests.new besides.new.items
-        ≡ form slots (demand_view demand.entry) (formula_of tests.old besides.old.items)) }
+    requires { (form slots (demand_view demand) (formula_of tests.now forms.now.items)).next ≤ 256 }
+    ensures { OnOk result (formula_of tests.new forms.new.items
+        ≡ form slots (demand_view demand.entry) (formula_of tests.old forms.old.items)) }
 {
     match demand {
-        Demand::Type(ty) => form_type(alloc, ty, slots, tests, besides),
+        Demand::Type(ty) => form_type(alloc, ty, slots, tests, forms),
         Demand::Constraint(kind, constraint) => {
-            form_one(alloc, constraint, kind, slots, tests, besides)
+            form_one(alloc, constraint, kind, slots, tests, forms)
         }
     }
 }
@@ -49,13 +49,13 @@ fn form_type<'a>(
     ty: &'a Ty,
     slots: Slots,
     tests: &mut Tests<'a>,
-    besides: &mut Vec<Form>,
+    forms: &mut Vec<Form>,
 ) -> Result<(), OutOfMemory>
-    requires { (form_type slots (type_view ty.now) (formula_of tests.now besides.now.items)).next ≤ 256 }
-    ensures { OnOk result (formula_of tests.new besides.new.items
-        ≡ form_type slots (type_view ty.now) (formula_of tests.old besides.old.items)) }
+    requires { (form_type slots (type_view ty.now) (formula_of tests.now forms.now.items)).next ≤ 256 }
+    ensures { OnOk result (formula_of tests.new forms.new.items
+        ≡ form_type slots (type_view ty.now) (formula_of tests.old forms.old.items)) }
 {
-    form_all(alloc, &ty.cons, &ty.kind, slots, tests, besides)?;
+    form_all(alloc, &ty.cons, &ty.kind, slots, tests, forms)?;
     push_kind(&ty.kind, slots, &mut tests.terms)
 }
 
@@ -67,14 +67,14 @@ fn form_all<'a>(
     kind: &'a Kind,
     slots: Slots,
     tests: &mut Tests<'a>,
-    besides: &mut Vec<Form>,
+    forms: &mut Vec<Form>,
 ) -> Result<(), OutOfMemory>
-    requires { (form_all slots (kind_view kind.now) (constraints_of (map constraint_view constraints.now)) (formula_of tests.now besides.now.items)).next ≤ 256 }
-    ensures { OnOk result (formula_of tests.new besides.new.items
-        ≡ form_all slots (kind_view kind.now) (constraints_of (map constraint_view constraints.now)) (formula_of tests.old besides.old.items)) }
+    requires { (form_all slots (kind_view kind.now) (constraints_of (map constraint_view constraints.now)) (formula_of tests.now forms.now.items)).next ≤ 256 }
+    ensures { OnOk result (formula_of tests.new forms.new.items
+        ≡ form_all slots (kind_view kind.now) (constraints_of (map constraint_view constraints.now)) (formula_of tests.old forms.old.items)) }
 {
     for constraint in constraints {
-        form_one(alloc, constraint, kind, slots, tests, besides)?;
+        form_one(alloc, constraint, kind, slots, tests, forms)?;
     }
     Ok(())
 }
@@ -86,14 +86,14 @@ fn form_each<'a>(
     constraints: &'a [Cons],
     kind: &'a Kind,
     tests: &mut Tests<'a>,
-    besides: &mut Vec<Form>,
+    forms: &mut Vec<Form>,
 ) -> Result<(), OutOfMemory>
-    requires { (form_each (kind_view kind.now) (constraints_of (map constraint_view constraints.now)) (formula_of tests.now besides.now.items)).next ≤ 256 }
-    ensures { OnOk result (formula_of tests.new besides.new.items
-        ≡ form_each (kind_view kind.now) (constraints_of (map constraint_view constraints.now)) (formula_of tests.old besides.old.items)) }
+    requires { (form_each (kind_view kind.now) (constraints_of (map constraint_view constraints.now)) (formula_of tests.now forms.now.items)).next ≤ 256 }
+    ensures { OnOk result (formula_of tests.new forms.new.items
+        ≡ form_each (kind_view kind.now) (constraints_of (map constraint_view constraints.now)) (formula_of tests.old forms.old.items)) }
 {
     for constraint in constraints {
-        form_own(alloc, constraint, kind, false, tests, besides)?;
+        form_own(alloc, constraint, kind, false, tests, forms)?;
     }
     Ok(())
 }
@@ -107,11 +107,11 @@ fn form_own<'a>(
     kind: &'a Kind,
     taken: bool,
     tests: &mut Tests<'a>,
-    besides: &mut Vec<Form>,
+    forms: &mut Vec<Form>,
 ) -> Result<(), OutOfMemory>
-    requires { (form_own taken (kind_view kind.now) (constraint_view constraint.now) (formula_of tests.now besides.now.items)).next ≤ 256 }
-    ensures { OnOk result (formula_of tests.new besides.new.items
-        ≡ form_own taken (kind_view kind.now) (constraint_view constraint.now) (formula_of tests.old besides.old.items)) }
+    requires { (form_own taken (kind_view kind.now) (constraint_view constraint.now) (formula_of tests.now forms.now.items)).next ≤ 256 }
+    ensures { OnOk result (formula_of tests.new forms.new.items
+        ≡ form_own taken (kind_view kind.now) (constraint_view constraint.now) (formula_of tests.old forms.old.items)) }
 {
     let slot = slot_at(tests.next);
     tests.next += 1;
@@ -125,7 +125,7 @@ fn form_own<'a>(
         &mut inner,
     )?;
     let form = own_form(alloc, slot, inner)?;
-    push_form(alloc, form, taken, besides)
+    push_form(alloc, form, taken, forms)
 }
 
 #[cycle(formulas)]
@@ -135,16 +135,16 @@ fn form_one<'a>(
     kind: &'a Kind,
     slots: Slots,
     tests: &mut Tests<'a>,
-    besides: &mut Vec<Form>,
+    forms: &mut Vec<Form>,
 ) -> Result<(), OutOfMemory>
-    requires { (form_one slots (kind_view kind.now) (constraint_view constraint.now) (formula_of tests.now besides.now.items)).next ≤ 256 }
-    ensures { OnOk result (formula_of tests.new besides.new.items
-        ≡ form_one slots (kind_view kind.now) (constraint_view constraint.now) (formula_of tests.old besides.old.items)) }
+    requires { (form_one slots (kind_view kind.now) (constraint_view constraint.now) (formula_of tests.now forms.now.items)).next ≤ 256 }
+    ensures { OnOk result (formula_of tests.new forms.new.items
+        ≡ form_one slots (kind_view kind.now) (constraint_view constraint.now) (formula_of tests.old forms.old.items)) }
 {
     if is_scalar(kind) {
         return push(&mut tests.terms, slots, Atom::Scalar(kind, constraint));
     }
-    form_rule(alloc, &constraint.rule, kind, slots, tests, besides)
+    form_rule(alloc, &constraint.rule, kind, slots, tests, forms)
 }
 
 /// On a kind that isn't scalar; a range is on INTEGER alone.
@@ -155,15 +155,15 @@ fn form_rule<'a>(
     kind: &'a Kind,
     slots: Slots,
     tests: &mut Tests<'a>,
-    besides: &mut Vec<Form>,
+    forms: &mut Vec<Form>,
 ) -> Result<(), OutOfMemory>
-    requires { (form_element slots (kind_view kind.now) (element_view rule.now) (formula_of tests.now besides.now.items)).next ≤ 256 }
-    ensures { OnOk result (formula_of tests.new besides.new.items
-        ≡ form_element slots (kind_view kind.now) (element_view rule.now) (formula_of tests.old besides.old.items)) }
+    requires { (form_element slots (kind_view kind.now) (element_view rule.now) (formula_of tests.now forms.now.items)).next ≤ 256 }
+    ensures { OnOk result (formula_of tests.new forms.new.items
+        ≡ form_element slots (kind_view kind.now) (element_view rule.now) (formula_of tests.old forms.old.items)) }
 {
     match rule {
         Rule::One(value) => push(&mut tests.terms, slots, Atom::Equals(value)),
-        Rule::Inside(ty) => form_type(alloc, ty, slots, tests, besides),
+        Rule::Inside(ty) => form_type(alloc, ty, slots, tests, forms),
         Rule::Range(_, _) => Ok(()),
         Rule::Size(size) => push(&mut tests.terms, slots, Atom::Sized(size)),
         Rule::Alphabet(ranges) => push(&mut tests.terms, slots, Atom::Spelled(ranges)),
@@ -178,14 +178,14 @@ fn form_rule<'a>(
             let mut members = Vec::new(alloc);
             form_each(alloc, constraints, kind, tests, &mut members)?;
             let form = all_of(alloc, members)?;
-            push_form(alloc, form, false, besides)
+            push_form(alloc, form, false, forms)
         }
-        Rule::Both(constraints) => form_all(alloc, constraints, kind, slots, tests, besides),
+        Rule::Both(constraints) => form_all(alloc, constraints, kind, slots, tests, forms),
         Rule::Minus(kept, taken) => {
-            form_one(alloc, kept, kind, slots, tests, besides)?;
-            form_own(alloc, taken, kind, true, tests, besides)
+            form_one(alloc, kept, kind, slots, tests, forms)?;
+            form_own(alloc, taken, kind, true, tests, forms)
         }
-        Rule::Other(other) => form_own(alloc, other, kind, true, tests, besides),
+        Rule::Other(other) => form_own(alloc, other, kind, true, tests, forms),
     }
 }
 

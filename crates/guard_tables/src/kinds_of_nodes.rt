@@ -4,7 +4,7 @@ ghost use Rattle.guard_der.specs.Der as der;
 ghost use Rattle.guard_model.specs.TypeView.{kind_view, named_view};
 ghost use Rattle.guard_tables.specs.Lay.{nameless};
 ghost use Rattle.guard_tables.specs.NodeViews as views;
-ghost use Rattle.guard_tables.specs.inside.Laid.{item_numbers};
+ghost use Rattle.guard_tables.specs.inside.Assembled.{item_numbers};
 
 use crate::node::SimpleKind;
 use guard_model::{Kind, Named, OutOfMemory};

@@ -1,5 +1,5 @@
 //! Laws of the definitions alone. Each is carried by a function that does nothing when it runs.
-ghost use Rattle.guard_tables.specs.Laws.{NoneLaw, OnlyLaw, AddedLaw, BelowLaw, WithoutLaw, SoundLaw, FormLaw, ConjunctionLaw, SpeakLaw, CountLaw, EachHandLaw, WithinHandLaw, FewLaw, LayLaw, MemberLaw, TableMembersLaw, TableRoomLaw, StandsLaw};
+ghost use Rattle.guard_tables.specs.Laws.{NoneLaw, OnlyLaw, AddedLaw, BelowLaw, WithoutLaw, SoundLaw, FormLaw, ConjunctionLaw, SpeakLaw, CountLaw, EachPartLaw, WithinPartLaw, FewLaw, LayLaw, MemberLaw, TableMembersLaw, TableRoomLaw, StandsLaw};
 
 /// Which slots a set has.
 pub fn law_slots()
@@ -22,14 +22,14 @@ pub fn law_forms()
 /// 256 slots suffice at each node of a type, whatever the depth, where no node has too many conditions.
 pub fn law_few_slots()
     ensures one { CountLaw }
-    ensures each { EachHandLaw }
-    ensures within { WithinHandLaw }
+    ensures each { EachPartLaw }
+    ensures within { WithinPartLaw }
     ensures all { FewLaw }
 {}
 
 /// The plan that is laid for a sound type asks of each value all that is asked of it, and nothing else.
 pub fn law_lay()
-    ensures asks { LayLaw }
+    ensures demands { LayLaw }
     ensures members { MemberLaw }
 {}
 

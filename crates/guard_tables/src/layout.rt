@@ -9,30 +9,31 @@ ghost use Rattle.guard_model.specs.Limits.{most_components};
 ghost use Rattle.guard_model.specs.TypeView.{type_view, kind_view, component_view, components_of};
 ghost use Rattle.guard_tables.specs.Apt.{AreApt, AllSpeak};
 ghost use Rattle.guard_tables.specs.Forms.{forms_of};
-ghost use Rattle.guard_tables.specs.Handed.{each_of, terms_at, NeedsFew};
+ghost use Rattle.guard_tables.specs.OfParts.{each_of, terms_at, NeedsFew};
 ghost use Rattle.guard_tables.specs.Lay as plan;
 ghost use Rattle.guard_tables.specs.NodeViews.{condition_view};
 ghost use Rattle.guard_tables.specs.NodesView.{root_of};
 ghost use Rattle.guard_tables.specs.Plan as plans;
 ghost use Rattle.guard_tables.specs.Plan.{asked_of};
 ghost use Rattle.guard_tables.specs.TableNodes.{own_tags};
-ghost use Rattle.guard_tables.specs.inside.AskViews.{asks_view, terms_view};
-ghost use Rattle.guard_tables.specs.inside.Giving.{part_asked};
-ghost use Rattle.guard_tables.specs.inside.Laid.{Lays, LaysParts, Extends, MayCome, MayBeLaid, AskedMayBeLaid, KindMayBeLaid, PartsMayBeLaid, body_of_group, parts_of_group, body_of_elements, side_of_part};
+ghost use Rattle.guard_tables.specs.inside.DemandViews.{slot_demands_view, terms_view};
+ghost use Rattle.guard_tables.specs.inside.DemandsOfParts.{part_asked};
+ghost use Rattle.guard_tables.specs.inside.Assembled.{Lays, LaysParts, Extends, MayCome, MayBeLaid, AskedMayBeLaid, KindMayBeLaid, PartsMayBeLaid, body_of_group, parts_of_group, body_of_elements, side_of_part};
 ghost use Rattle.guard_tables.specs.inside.SideViews.{part_side_view};
 
-use crate::asks::{Ask, Term};
-use crate::asks_at_node::forms_of;
+use crate::ascending::ascend;
+use crate::assembled::{Assembled, AssembledParts};
 use crate::assembly::{
     as_elements, as_parts, innermost, with_conditions, with_formulas, with_last, with_part,
     with_tags,
 };
 use crate::conditions_at_node::conditions_of;
 use crate::conditions_list::Conditions;
-use crate::drafts::{Elements, Group, simple_node};
-use crate::giving::{PartAsks, each_of, give_out};
+use crate::demands::{SlotDemand, Term};
+use crate::demands_at_node::forms_of;
+use crate::demands_of_parts::{PartDemands, demands_of_parts, each_of};
 use crate::kinds_of_nodes::{item_numbers, simple_kind};
-use crate::laid::{Laid, LaidParts};
+use crate::new_nodes::{Elements, Group, simple_node};
 use crate::node_list::{Builder, Nodes};
 use crate::sides::{PartSide, side_chosen, side_for};
 use guard_model::{Comp, Kind, OutOfMemory, Tag, Ty};
@@ -42,26 +43,31 @@ use std::alloc::Global;
 pub(crate) fn lay_nodes(
     alloc: Global,
     declared: &Ty,
-    asks: &[Ask<'_>],
+    demands: &[SlotDemand<'_>],
 ) -> Result<Nodes, OutOfMemory>
     requires sound { IsTrue (is_sound (type_view declared.now)) }
-    requires apt { AreApt (kind_of (type_view declared.now)) (asks_view asks.now) }
-    requires room { NeedsFew (type_view declared.now) (asks_view asks.now) }
-    ensures { IfOk result (λ n. root_of n ≡ plan.lay (type_view declared.now) (asks_view asks.now)) }
+    requires apt { AreApt (kind_of (type_view declared.now)) (slot_demands_view demands.now) }
+    requires room { NeedsFew (type_view declared.now) (slot_demands_view demands.now) }
+    ensures { IfOk result (λ n. root_of n ≡ plan.lay (type_view declared.now) (slot_demands_view demands.now)) }
 {
-    let laid = lay(alloc, declared, asks, Builder::new(alloc))?;
+    let laid = lay(alloc, declared, demands, Builder::new(alloc))?;
     let whole = with_last(laid)?;
     Ok(whole.builder.finish())
 }
 
 /// The node of a type, and what is inside it.
 #[cycle(layout)]
-fn lay(alloc: Global, ty: &Ty, asks: &[Ask<'_>], builder: Builder) -> Result<Laid, OutOfMemory>
-    requires { MayBeLaid (type_view ty.now) (asks_view asks.now) }
-    ensures { IfOk result (λ l. Lays builder l (plan.lay (type_view ty.now) (asks_view asks.now))) }
+fn lay(
+    alloc: Global,
+    ty: &Ty,
+    demands: &[SlotDemand<'_>],
+    builder: Builder,
+) -> Result<Assembled, OutOfMemory>
+    requires { MayBeLaid (type_view ty.now) (slot_demands_view demands.now) }
+    ensures { IfOk result (λ l. Lays builder l (plan.lay (type_view ty.now) (slot_demands_view demands.now))) }
 {
     let tag = innermost(&ty.tags);
-    let laid = lay_asked(alloc, &ty.kind, asks, tag, builder)?;
+    let laid = lay_asked(alloc, &ty.kind, demands, tag, builder)?;
     with_tags(alloc, laid, &ty.tags)
 }
 
@@ -70,17 +76,17 @@ fn lay(alloc: Global, ty: &Ty, asks: &[Ask<'_>], builder: Builder) -> Result<Lai
 fn lay_asked(
     alloc: Global,
     kind: &Kind,
-    asks: &[Ask<'_>],
+    demands: &[SlotDemand<'_>],
     tag: Option<Tag>,
     builder: Builder,
-) -> Result<Laid, OutOfMemory>
-    requires { AskedMayBeLaid (kind_view kind.now) (asks_view asks.now) }
+) -> Result<Assembled, OutOfMemory>
+    requires { AskedMayBeLaid (kind_view kind.now) (slot_demands_view demands.now) }
     ensures { IfOk result (λ l. Lays builder l (plans.plan (own_tags tag) (der.is_constructed (kind_view kind.now))
-        (plan.raised_of (forms_of (asks_view asks.now)).raises (plan.lay_kind (kind_view kind.now) (terms_at (asks_view asks.now)))))) }
+        (plan.implied_of (forms_of (slot_demands_view demands.now)).implications (plan.lay_kind (kind_view kind.now) (terms_at (slot_demands_view demands.now)))))) }
 {
-    let formulas = forms_of(alloc, asks)?;
+    let formulas = forms_of(alloc, demands)?;
     let laid = lay_kind(alloc, kind, &formulas.terms, tag, builder)?;
-    with_formulas(alloc, laid, formulas.raises)
+    with_formulas(alloc, laid, formulas.implications)
 }
 
 /// Where demands are tests of the node and of its parts.
@@ -91,7 +97,7 @@ fn lay_kind(
     terms: &[Term<'_>],
     tag: Option<Tag>,
     builder: Builder,
-) -> Result<Laid, OutOfMemory>
+) -> Result<Assembled, OutOfMemory>
     requires speak { AllSpeak (kind_view kind.now) (terms_view terms.now) }
     requires parts { KindMayBeLaid (kind_view kind.now) (terms_view terms.now) }
     ensures { IfOk result (λ l. Lays builder l (plans.plan (own_tags tag) (der.is_constructed (kind_view kind.now))
@@ -147,14 +153,14 @@ fn lay_simple(
     tag: Option<Tag>,
     conditions: Conditions,
     builder: Builder,
-) -> Result<Laid, OutOfMemory>
+) -> Result<Assembled, OutOfMemory>
     requires { der.is_constructed (kind_view kind.now) ≡ false }
     ensures { IfOk result (λ l. Lays builder l (plans.plan (own_tags tag) false
         (plans.simple (plan.nameless (kind_view kind.now)) (map condition_view conditions.list.items)))) }
 {
     let items = item_numbers(alloc, kind)?;
     let node = simple_node(alloc, simple_kind(kind), items, conditions, tag);
-    Ok(Laid { builder, node })
+    Ok(Assembled { builder, node })
 }
 
 /// SEQUENCE OF and SET OF: one node for all elements.
@@ -167,13 +173,13 @@ fn lay_elements(
     tag: Option<Tag>,
     conditions: Conditions,
     builder: Builder,
-) -> Result<Laid, OutOfMemory>
+) -> Result<Assembled, OutOfMemory>
     requires { MayBeLaid (type_view element.now) (each_of (terms_view terms.now)) }
     ensures { IfOk result (λ l. Lays builder l (plans.plan (own_tags tag) true (asked_of (map condition_view conditions.list.items)
         (body_of_elements elements (plan.lay (type_view element.now) (each_of (terms_view terms.now))))))) }
 {
-    let asks = each_of(alloc, terms)?;
-    let laid = lay(alloc, element, &asks, builder)?;
+    let demands = each_of(alloc, terms)?;
+    let laid = lay(alloc, element, &demands, builder)?;
     let whole = as_elements(alloc, laid, elements, tag)?;
     with_conditions(alloc, whole, conditions)
 }
@@ -188,14 +194,14 @@ fn lay_group(
     tag: Option<Tag>,
     conditions: Conditions,
     builder: Builder,
-) -> Result<Laid, OutOfMemory>
+) -> Result<Assembled, OutOfMemory>
     requires few { component_count (components_of (map component_view comps.now)) ≤ most_components }
     requires parts { PartsMayBeLaid 0 (components_of (map component_view comps.now)) (terms_view terms.now) }
     ensures { IfOk result (λ l. Lays builder l (plans.plan (own_tags tag) true (asked_of (map condition_view conditions.list.items)
         (body_of_group group (parts_of_group group 0 (components_of (map component_view comps.now)) (terms_view terms.now)))))) }
 {
     let parts = lay_each(alloc, comps, group, terms, builder)?;
-    let whole = as_parts(alloc, parts, group, tag)?;
+    let whole = as_parts(alloc, parts, group, tag, ascend(comps))?;
     with_conditions(alloc, whole, conditions)
 }
 
@@ -207,17 +213,17 @@ fn lay_each(
     group: Group,
     terms: &[Term<'_>],
     builder: Builder,
-) -> Result<LaidParts, OutOfMemory>
+) -> Result<AssembledParts, OutOfMemory>
     requires { PartsMayBeLaid 0 (components_of (map component_view comps.now)) (terms_view terms.now) }
     ensures { IfOk result (λ l. LaysParts builder l (parts_of_group group 0 (components_of (map component_view comps.now)) (terms_view terms.now))) }
 {
-    let mut parts = LaidParts {
+    let mut parts = AssembledParts {
         builder,
         nodes: Vec::new(alloc),
     };
-    let given = give_out(alloc, group.is_exclusive(), terms, comps.len())?;
+    let asked = demands_of_parts(alloc, group.is_exclusive(), terms, comps.len())?;
     for (place, comp) in comps.iter().enumerate() {
-        parts = lay_part(alloc, comp, group, &given[place], parts)?;
+        parts = lay_part(alloc, comp, group, &asked[place], parts)?;
     }
     Ok(parts)
 }
@@ -228,18 +234,18 @@ fn lay_part(
     alloc: Global,
     comp: &Comp,
     group: Group,
-    asked: &PartAsks<'_>,
-    parts: LaidParts,
-) -> Result<LaidParts, OutOfMemory>
+    asked: &PartDemands<'_>,
+    parts: AssembledParts,
+) -> Result<AssembledParts, OutOfMemory>
     requires nodes { MayCome parts }
-    requires laid { MayBeLaid (component_view comp.now).ty (part_asked asked.now).asks }
+    requires laid { MayBeLaid (component_view comp.now).ty (part_asked asked.now).demands }
     requires proper { IsTrue (is_proper_presence (component_view comp.now).ty (component_view comp.now).presence) }
     ensures { IfOk result (λ l. Extends parts l
-        (side_of_part group (component_view comp.now) (part_asked asked.now) (plan.lay (component_view comp.now).ty (part_asked asked.now).asks))
-        (plan.lay (component_view comp.now).ty (part_asked asked.now).asks)) }
+        (side_of_part group (component_view comp.now) (part_asked asked.now) (plan.lay (component_view comp.now).ty (part_asked asked.now).demands))
+        (plan.lay (component_view comp.now).ty (part_asked asked.now).demands)) }
 {
     let side = side_of(alloc, comp, group, asked)?;
-    let laid = lay(alloc, &comp.ty, &asked.asks, parts.builder)?;
+    let laid = lay(alloc, &comp.ty, &asked.demands, parts.builder)?;
     with_part(laid, parts.nodes, side)
 }
 
@@ -248,12 +254,12 @@ fn side_of(
     alloc: Global,
     comp: &Comp,
     group: Group,
-    asked: &PartAsks<'_>,
+    asked: &PartDemands<'_>,
 ) -> Result<PartSide, OutOfMemory>
-    requires laid { MayBeLaid (component_view comp.now).ty (part_asked asked.now).asks }
+    requires laid { MayBeLaid (component_view comp.now).ty (part_asked asked.now).demands }
     requires proper { IsTrue (is_proper_presence (component_view comp.now).ty (component_view comp.now).presence) }
     ensures { IfOk result (λ s. part_side_view s ≡ side_of_part group (component_view comp.now) (part_asked asked.now)
-        (plan.lay (component_view comp.now).ty (part_asked asked.now).asks)) }
+        (plan.lay (component_view comp.now).ty (part_asked asked.now).demands)) }
 {
     if let Group::Choice = group {
         return Ok(side_chosen(asked.present));
@@ -262,7 +268,7 @@ fn side_of(
         alloc,
         &comp.ty,
         &comp.presence,
-        &asked.asks,
+        &asked.demands,
         asked.absent,
         asked.present,
     )

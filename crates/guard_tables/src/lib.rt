@@ -9,8 +9,9 @@
 //! | At which nodes is that looked at? | `nodes.rt` | `Conditions.antt`, `Search.antt` |
 //! | Which slots have failed? | `slots.rt` | `Slots.antt` |
 //! | How are the nodes of a table put together? | `layout.rt` (`lay_nodes`) | `Lay.antt` |
-//! | By which steps? | `assembly.rt`, `laid.rt` | `Laid.antt`, `Bare.antt`, `Aside.antt` |
-//! | What is a node before it is with the others? | `drafts.rt`, `kinds_of_nodes.rt`, `identifiers.rt` | `Lay.antt` |
+//! | By which steps? | `assembly.rt`, `assembled.rt` | `Assembled.antt`, `Bare.antt`, `Aside.antt` |
+//! | What is a node before it is with the others? | `new_nodes.rt`, `kinds_of_nodes.rt`, `identifiers.rt` | `Lay.antt` |
+//! | Do the components of a type ascend by their tags? | `ascending.rt` | `TableNodes.antt` (`ascend`), `Ascending.antt` |
 //! | Which tests has a node? | `conditions_at_node.rt`, octets `encoded.rt` | `Lay.antt` |
 //! | What is said of a component beside its type? | `sides.rt` | `Lay.antt`, `SideViews.antt` |
 //! | What fails for a number? | `conditions_list.rt` (`Conditions::failed_at`) | `Marking.antt` |
@@ -22,13 +23,13 @@
 //! | Which nodes are there? | `node.rt` | `NodeViews.antt` |
 //! | What keeps them in order? | `node_list.rt` | `TableNodes.antt`, `NodesView.antt` |
 //! | Which terms and formulas of one node ask what types and constraints ask? | `laws.rt` | `Demands.antt`, `Forms.antt` |
-//! | Which plan asks all of it, how many slots does a node need? | `laws.rt` | `Lay.antt`, `Handed.antt`, `Laws.antt` |
-//! | What is asked at a node, in code? | `asks.rt` | `AskViews.antt` |
+//! | Which plan asks all of it, how many slots does a node need? | `laws.rt` | `Lay.antt`, `OfParts.antt`, `Laws.antt` |
+//! | What is asked at a node, in code? | `demands.rt` | `DemandViews.antt` |
 //! | To which terms do the parts of a type and of WITH COMPONENTS come? | `parts.rt` | `Terms.antt`, `OnePart.antt` |
 //! | To which terms and formulas does a demand come? | `formulas.rt`, `form_trees.rt` | `Forms.antt`, `FormViews.antt` |
-//! | And all that is asked at a node? | `asks_at_node.rt` | `Forms.antt` |
-//! | What do the terms of a node ask of each of its parts? | `giving.rt` | `Handed.antt`, `Giving.antt` |
-//! | And of a part's presence? | `giving.rt` | `Lay.antt` |
+//! | And all that is asked at a node? | `demands_at_node.rt` | `Forms.antt` |
+//! | What do the terms of a node ask of each of its parts? | `demands_of_parts.rt` | `OfParts.antt`, `DemandsOfParts.antt` |
+//! | And of a part's presence? | `demands_of_parts.rt` | `Lay.antt` |
 //! | Which numbers does a constraint have? | `number_sets.rt` | `NumberSets.antt` |
 //! | Which sizes and characters? | `simple_tests.rt` | `Lay.antt` |
 //! | How are permitted characters kept? | `alphabet.rt` | `Alphabets.antt` |
@@ -37,25 +38,26 @@
 #![tactic(auto)]
 
 mod alphabet;
-mod asks;
-mod asks_at_node;
+mod ascending;
+mod assembled;
 mod assembly;
 mod conditions;
 mod conditions_at_node;
 mod conditions_list;
-mod drafts;
+mod demands;
+mod demands_at_node;
+mod demands_of_parts;
 mod encoded;
 mod fault;
 mod form_trees;
 mod formulas;
-mod giving;
 mod identifiers;
 mod kept_types;
 mod kinds_of_nodes;
-mod laid;
 pub mod laws;
 mod layout;
 pub mod marking_laws;
+mod new_nodes;
 mod node;
 mod node_list;
 mod nodes;
@@ -70,10 +72,10 @@ mod slots;
 mod table;
 
 pub use alphabet::Alphabet;
-pub use asks::Demand;
 pub use conditions_list::Conditions;
+pub use demands::Demand;
 pub use fault::TableFault;
-pub use node::{Cold, Condition, Form, Hot, Kind, Need, Raise, SimpleKind, Test};
+pub use node::{Cold, Condition, Form, Hot, Implication, Kind, Need, SimpleKind, Test};
 pub use node_list::Nodes;
 pub use number_sets::{numbers_of, numbers_of_type};
 pub use slots::Slots;

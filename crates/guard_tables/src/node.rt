@@ -61,6 +61,8 @@ pub struct Hot {
     pub watched: bool,
     /// It has conditions.
     pub asked: bool,
+    /// Its parts have a tag each, and these ascend.
+    pub ascending: bool,
     /// Contents octets that spell a number from `low` to `high` are lawful, fail nothing, and aren't a default's.
     pub low: i32,
     pub high: i32,
@@ -82,8 +84,8 @@ pub struct Cold {
     pub present: Slots,
     /// The octets of its default inside the outermost tag.
     pub default: Option<Vec<u8>>,
-    /// What the formulas over the other node's slots raise.
-    pub raises: Vec<Raise>,
+    /// What the formulas over the other node's slots imply.
+    pub implications: Vec<Implication>,
 }
 
 /// A test, and the slots that fail where it doesn't pass.
@@ -107,7 +109,7 @@ pub enum Test {
 
 /// Slots that fail where the formula says so.
 #[derive(Drop)]
-pub struct Raise {
+pub struct Implication {
     pub slots: Slots,
     pub where_failed: Form,
 }

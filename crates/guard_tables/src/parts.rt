@@ -4,9 +4,9 @@ ghost use Rattle.guard_model.specs.Components.{components_in, component_at};
 ghost use Rattle.guard_model.specs.TypeView.{kind_view, type_view, component_view, components_of, part_view, parts_of, presence_view};
 ghost use Rattle.guard_tables.specs.Terms.{is_scalar, parts_from, kind_terms, listed_terms, placed, unlisted};
 ghost use Rattle.guard_tables.specs.inside.OnePart.{inner_terms, part_terms, ruled_out_terms};
-ghost use Rattle.guard_tables.specs.inside.AskViews.{terms_view};
+ghost use Rattle.guard_tables.specs.inside.DemandViews.{terms_view};
 
-use crate::asks::{Atom, Demand, Term, push};
+use crate::demands::{Atom, Demand, Term, push};
 use crate::slots::Slots;
 use guard_eval::{is_optional, is_ruled_out, kind_at};
 use guard_model::{Comp, Kind, OutOfMemory, Part, Presence, Word};

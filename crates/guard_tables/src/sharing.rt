@@ -2,12 +2,12 @@
 ghost use Rattle.std.specs.Prelude.{◌≡◌, ◌≤◌, ◌∷◌, [], length, IfOk};
 ghost use Rattle.guard_model.specs.TypeView.{type_view};
 ghost use Rattle.guard_tables.specs.Demands.{by_type};
-ghost use Rattle.guard_tables.specs.Handed.{ask};
+ghost use Rattle.guard_tables.specs.OfParts.{slot_demand};
 ghost use Rattle.guard_tables.specs.Tables.{types_view, most_rules};
-ghost use Rattle.guard_tables.specs.inside.AskViews.{asks_view};
-ghost use Rattle.guard_tables.specs.inside.Sharing.{place_of, shared, places_of, slots_for, asks_by, Takes};
+ghost use Rattle.guard_tables.specs.inside.DemandViews.{slot_demands_view};
+ghost use Rattle.guard_tables.specs.inside.Sharing.{place_of, shared, places_of, slots_for, demands_by, Takes};
 
-use crate::asks::{Ask, Demand};
+use crate::demands::{Demand, SlotDemand};
 use crate::slots::Slots;
 use guard_model::{OutOfMemory, Ty};
 use std::alloc::Global;
@@ -84,28 +84,28 @@ fn place_among(types: &[&Ty], ty: &Ty) -> usize
 // ---- what they ask
 
 /// Membership in each of them, with the slots of all that have it.
-pub(crate) fn asks_of<'a>(
+pub(crate) fn demands_of<'a>(
     alloc: Global,
     declared: &'a Ty,
     others: &[&'a Ty],
     places: &[usize],
-) -> Result<Vec<Ask<'a>>, OutOfMemory>
+) -> Result<Vec<SlotDemand<'a>>, OutOfMemory>
     requires { length places.now ≤ most_rules }
-    ensures { IfOk result (λ asks. asks_view asks.items
-        ≡ asks_by 0 (type_view declared.now ∷ types_view others.now) (0 ∷ places.now)) }
+    ensures { IfOk result (λ demands. slot_demands_view demands.items
+        ≡ demands_by 0 (type_view declared.now ∷ types_view others.now) (0 ∷ places.now)) }
 {
-    let mut asks = Vec::new(alloc);
-    asks.push(membership(declared_slots(places), declared))?;
+    let mut demands = Vec::new(alloc);
+    demands.push(membership(declared_slots(places), declared))?;
     for (place, other) in others.iter().enumerate() {
-        asks.push(membership(slots_of(place + 1, places), other))?;
+        demands.push(membership(slots_of(place + 1, places), other))?;
     }
-    Ok(asks)
+    Ok(demands)
 }
 
-fn membership(slots: Slots, ty: &Ty) -> Ask<'_>
-    ensures { asks_view (result ∷ []) ≡ ask slots (by_type (type_view ty.now)) ∷ [] }
+fn membership(slots: Slots, ty: &Ty) -> SlotDemand<'_>
+    ensures { slot_demands_view (result ∷ []) ≡ slot_demand slots (by_type (type_view ty.now)) ∷ [] }
 {
-    Ask {
+    SlotDemand {
         slots,
         demand: Demand::Type(ty),
     }

@@ -10,10 +10,10 @@ ghost use Rattle.guard_tables.specs.Apt.{IsApt, AreApt};
 ghost use Rattle.guard_tables.specs.Demands.{meets};
 ghost use Rattle.guard_tables.specs.Lay.{default_octets, side_for, side_chosen, lay};
 ghost use Rattle.guard_tables.specs.Marking.{type_marked};
-ghost use Rattle.guard_tables.specs.inside.AskViews.{demand_view, asks_view};
+ghost use Rattle.guard_tables.specs.inside.DemandViews.{demand_view, slot_demands_view};
 ghost use Rattle.guard_tables.specs.inside.SideViews.{part_side_view};
 
-use crate::asks::{Ask, Demand};
+use crate::demands::{Demand, SlotDemand};
 use crate::encoded::if_short;
 use crate::slots::Slots;
 use guard_der::{encode_contents, encode_tagged, is_constructed};
@@ -38,15 +38,15 @@ pub(crate) fn side_for(
     alloc: Global,
     ty: &Ty,
     presence: &Presence,
-    asks: &[Ask<'_>],
+    demands: &[SlotDemand<'_>],
     absent: Slots,
     present: Slots,
 ) -> Result<PartSide, OutOfMemory>
     requires sound { IsTrue (is_sound (type_view ty.now)) }
     requires proper { IsTrue (is_proper_presence (type_view ty.now) (presence_view presence.now)) }
-    requires apt { AreApt (kind_of (type_view ty.now)) (asks_view asks.now) }
+    requires apt { AreApt (kind_of (type_view ty.now)) (slot_demands_view demands.now) }
     ensures { IfOk result (λ s. part_side_view s ≡ side_for (type_view ty.now) (presence_view presence.now)
-        (lay (type_view ty.now) (asks_view asks.now)) absent present) }
+        (lay (type_view ty.now) (slot_demands_view demands.now)) absent present) }
 {
     match presence {
         Presence::Mandatory => Ok(mandatory(present)),
@@ -56,7 +56,7 @@ pub(crate) fn side_for(
             default: None,
         }),
         Presence::Default(value) => Ok(PartSide {
-            absent: Some(failed_by(ty, value, asks, present)),
+            absent: Some(failed_by(ty, value, demands, present)),
             present,
             default: default_octets(alloc, ty, value)?,
         }),
@@ -83,18 +83,18 @@ fn mandatory(present: Slots) -> PartSide
 
 /// What has failed once the value has passed, where `present` had failed before: the slots of those demands that it
 /// doesn't meet.
-fn failed_by(ty: &Ty, value: &Value, asks: &[Ask<'_>], present: Slots) -> Slots
+fn failed_by(ty: &Ty, value: &Value, demands: &[SlotDemand<'_>], present: Slots) -> Slots
     requires sound { IsTrue (is_sound (type_view ty.now)) }
     requires fits { IsTrue (fits (type_view ty.now) (value_view value.now)) }
-    requires apt { AreApt (kind_of (type_view ty.now)) (asks_view asks.now) }
-    ensures { result ≡ type_marked (type_view ty.now) (lay (type_view ty.now) (asks_view asks.now)) (value_view value.now) present }
+    requires apt { AreApt (kind_of (type_view ty.now)) (slot_demands_view demands.now) }
+    ensures { result ≡ type_marked (type_view ty.now) (lay (type_view ty.now) (slot_demands_view demands.now)) (value_view value.now) present }
 {
     present.law_words();
     let mut failed = present;
-    for ask in asks {
-        ask.slots.law_words();
-        if !is_met(ask.demand, &ty.kind, value) {
-            failed.add(&ask.slots);
+    for slot_demand in demands {
+        slot_demand.slots.law_words();
+        if !is_met(slot_demand.demand, &ty.kind, value) {
+            failed.add(&slot_demand.slots);
         }
     }
     failed

@@ -14,7 +14,7 @@ use crate::kept_types::KeptTypes;
 use crate::layout::lay_nodes;
 use crate::node_list::Nodes;
 use crate::nodes::has_crowded_node;
-use crate::sharing::{asks_of, share};
+use crate::sharing::{demands_of, share};
 use guard_model::{OutOfMemory, Tag, Ty};
 use std::alloc::Global;
 
@@ -106,8 +106,8 @@ fn nodes_of<'a>(
     ensures types { IfOk result (λ c. types_at (type_view declared.now) (types_view c.others.items) c.places.items ≡ types_view rules.now) }
 {
     let sharing = share(alloc, declared, rules)?;
-    let asks = asks_of(alloc, declared, &sharing.others, &sharing.places)?;
-    let nodes = lay_nodes(alloc, declared, &asks)?;
+    let demands = demands_of(alloc, declared, &sharing.others, &sharing.places)?;
+    let nodes = lay_nodes(alloc, declared, &demands)?;
     Ok(Compiled {
         others: sharing.others,
         places: sharing.places,

@@ -1,5 +1,5 @@
 -- Components of a SET, one after the other.
-use Rattle.std.specs.Prelude.{◌≡◌, ℕ, suc, ◌<◌, List, [], ◌∷◌, nat_eq, Option, Some, None}
+use Rattle.std.specs.Prelude.{◌≡◌, ℕ, suc, ◌<◌, List, nat_eq, Option, Some, None}
 use Rattle.std.specs.Int.{bit_at}
 use Rattle.guard_tables.specs.Plan.{Parts, no_parts, part}
 use Rattle.guard_reader.specs.Fronts.{Front, here, elsewhere, broken, front}
@@ -16,14 +16,6 @@ unfoldable pub member_found : Parts → ℕ → List ℕ → Option (ℕ × List
 member_found no_parts i os = None
 member_found (part side p ps) i os = found_at i (front p os) (member_found ps (suc i) os)
 
--- Elements of these components, the last at the first of the places, lead from octets to what is left of them.
-abbrev pub Reach : Parts → List ℕ → List ℕ → List ℕ → Type 0
-Reach ps os rest [] = os ≡ rest
-Reach ps os rest (place ∷ places) =
-    (before inside : List ℕ) × Reach ps os before places
-    × (member_found ps 0 before ≡ Some (place, inside, rest))
-
--- The components that were read are at these places, those of the first 64 kept as bits.
-pub record AreRead (ps : Parts) (os rest : List ℕ) (read : ℕ) (places : List ℕ) : Type 0 where
-  pub reach : Reach ps os rest places
-  pub kept : (i : ℕ) → i < 64 → nat_eq (bit_at read i) 1 ≡ is_read places i
+-- The components that were read are at these places, which are kept as bits.
+abbrev pub AreRead : ℕ → List ℕ → Type 0
+AreRead read places = (i : ℕ) → i < 64 → nat_eq (bit_at read i) 1 ≡ is_read places i

@@ -6,7 +6,6 @@ ghost use Rattle.guard_reader.specs.Judging.{contents_judged};
 ghost use Rattle.guard_reader.specs.inside.Answers.{Answers};
 ghost use Rattle.guard_reader.specs.inside.NodeParts.{IsSet};
 
-use crate::ascending::ascend;
 use crate::set_members::{
     absences, advance, is_read, member, next_tag, passed, rank_of, with_read,
 };
@@ -23,11 +22,9 @@ pub fn set(table: &Nodes, at: usize, octets: &[u8], failed: &mut Slots) -> bool
     ensures { Answers result failed.new (contents_judged (body_at (spots_in table.now) at) octets.now failed.old) }
 {
     let node = &table.hots[at];
-    let first = node.first;
-    let count = node.count as usize;
-    if ascend(table, first, count) {
+    if node.ascending {
         // The order of their tags is that of the components, so each is present or absent where its turn is.
-        return series(table, first, count, octets, failed);
+        return series(table, node.first, node.count as usize, octets, failed);
     }
     members(table, at, octets, failed)
 }
@@ -57,7 +54,7 @@ fn members(table: &Nodes, at: usize, octets: &[u8], failed: &mut Slots) -> bool
         let Some((place, inside, next)) = member(table, first, count, start, rest) else {
             return false;
         };
-        if is_read(table, first, count, octets, rest.len(), read, place) {
+        if is_read(read, place) {
             return false;
         }
         if !present(table, first + place, inside, failed) {
@@ -69,5 +66,5 @@ fn members(table: &Nodes, at: usize, octets: &[u8], failed: &mut Slots) -> bool
         last = Some(tag);
         rest = next;
     }
-    absences(table, first, count, octets, read, failed)
+    absences(table, first, count, read, failed)
 }

@@ -1,6 +1,6 @@
 -- Nodes that aren't there yet, beside those that are.
 use Rattle.std.specs.Prelude.{ℕ, List, [], ◌∷◌, ⊤}
-use Rattle.guard_tables.specs.declared.drafts.Node.{Node}
+use Rattle.guard_tables.specs.declared.new_nodes.Node.{Node}
 use Rattle.guard_tables.specs.Plan.{Plan, Parts, part}
 use Rattle.guard_tables.specs.TableNodes.{Spot, spot_of, IsNode}
 

@@ -1,9 +1,9 @@
 -- A node with nothing asked of it and nothing said of it.
 use Rattle.std.specs.Prelude.{ℕ, ℤ, pos, ◌≡◌, Bool, false, [], Option, Some, None}
-use Rattle.guard_tables.specs.declared.drafts.Group.{Group}
-use Rattle.guard_tables.specs.declared.drafts.Group.TheVariants as group
-use Rattle.guard_tables.specs.declared.drafts.Elements.{Elements}
-use Rattle.guard_tables.specs.declared.drafts.Elements.TheVariants as elements
+use Rattle.guard_tables.specs.declared.new_nodes.Group.{Group}
+use Rattle.guard_tables.specs.declared.new_nodes.Group.TheVariants as group
+use Rattle.guard_tables.specs.declared.new_nodes.Elements.{Elements}
+use Rattle.guard_tables.specs.declared.new_nodes.Elements.TheVariants as elements
 use Rattle.guard_tables.specs.declared.identifiers.Identifiers.{Identifiers}
 use Rattle.guard_tables.specs.declared.node.Hot.{Hot}
 use Rattle.guard_tables.specs.declared.node.Cold.{Cold}
@@ -31,6 +31,7 @@ bare_hot kind ids asked first count = record {
   need = need.Mandatory;
   watched = false;
   asked = asked;
+  ascending = false;
   low = pos 1;
   high = pos 0;
   first = first;
@@ -46,8 +47,25 @@ plain_hot h low high = record {
   need = h.need;
   watched = h.watched;
   asked = h.asked;
+  ascending = h.ascending;
   low = low;
   high = high;
+  first = h.first;
+  count = h.count;
+}
+
+-- that says of its parts whether they ascend
+abbrev pub told_hot : Hot → Bool → Hot
+told_hot h ascending = record {
+  identifier = h.identifier;
+  other = h.other;
+  kind = h.kind;
+  need = h.need;
+  watched = h.watched;
+  asked = h.asked;
+  ascending = ascending;
+  low = h.low;
+  high = h.high;
   first = h.first;
   count = h.count;
 }
@@ -58,7 +76,7 @@ pub record IsBare (c : Cold) : Type 0 where
   pub conditions : c.conditions.list.items ≡ []
   pub present : c.present ≡ none
   pub default : c.default ≡ None
-  pub raises : c.raises.items ≡ []
+  pub implications : c.implications.items ≡ []
 
 -- where there are none, the empty set
 abbrev pub slots_of : Option Slots → Slots

@@ -3,8 +3,8 @@ use Rattle.std.specs.Prelude.{ℕ, suc, ◌≡◌, nat_eq, nat_lt, List, [], ◌
 use Rattle.guard_model.specs.AbstractType.{AbstractType}
 use Rattle.guard_model.specs.SameType.{same_type}
 use Rattle.guard_tables.specs.declared.slots.Slots.{Slots}
-use Rattle.guard_tables.specs.Demands.{by_type, Ask}
-use Rattle.guard_tables.specs.Handed.{ask}
+use Rattle.guard_tables.specs.Demands.{by_type, SlotDemand}
+use Rattle.guard_tables.specs.OfParts.{slot_demand}
 use Rattle.guard_tables.specs.Lay.{added_if}
 use Rattle.guard_tables.specs.Slots.{none, only}
 
@@ -33,9 +33,9 @@ slots_for at slot [] = none
 slots_for at slot (place ∷ places) = added_if (nat_eq place at) (only slot) (slots_for at (suc slot) places)
 
 -- membership in each of these types, the first of which is at this place
-abbrev pub asks_by : ℕ → List AbstractType → List ℕ → List Ask
-asks_by at [] places = []
-asks_by at (t ∷ ts) places = ask (slots_for at 0 places) (by_type t) ∷ asks_by (suc at) ts places
+abbrev pub demands_by : ℕ → List AbstractType → List ℕ → List SlotDemand
+demands_by at [] places = []
+demands_by at (t ∷ ts) places = slot_demand (slots_for at 0 places) (by_type t) ∷ demands_by (suc at) ts places
 
 -- what one rule's type adds to the types beside the declared one, and to the places
 pub record Takes (declared t : AbstractType) (others new : List AbstractType) (before after : List ℕ) : Type 0 where

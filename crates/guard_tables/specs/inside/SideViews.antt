@@ -3,7 +3,7 @@ use Rattle.std.specs.Prelude.{List, [], ◌∷◌, option_map}
 use Rattle.guard_model.specs.AbstractValue.{AbstractValue}
 use Rattle.guard_tables.specs.declared.sides.PartSide.{PartSide}
 use Rattle.guard_tables.specs.declared.slots.Slots.{Slots}
-use Rattle.guard_tables.specs.Demands.{Ask, meets}
+use Rattle.guard_tables.specs.Demands.{SlotDemand, meets}
 use Rattle.guard_tables.specs.Formulas.{failed_unless}
 use Rattle.guard_tables.specs.Plan.{Side}
 
@@ -11,6 +11,6 @@ abbrev pub part_side_view : PartSide → Side
 part_side_view s = record { absent = s.absent; present = s.present; default = option_map (λ v. v.items) s.default }
 
 -- after m, the slots of those demands that the value doesn't meet
-abbrev pub asks_marked : AbstractValue → List Ask → Slots → Slots
-asks_marked v [] m = m
-asks_marked v (a ∷ asks) m = asks_marked v asks (failed_unless (meets a.demand v) a.slots m)
+abbrev pub demands_marked : AbstractValue → List SlotDemand → Slots → Slots
+demands_marked v [] m = m
+demands_marked v (a ∷ demands) m = demands_marked v demands (failed_unless (meets a.demand v) a.slots m)

@@ -2,7 +2,7 @@
 -- its first three words; of the fourth nothing need be said.
 use Rattle.std.specs.Prelude.{◌<◌, ◌^◌, List, [], ◌∷◌, ⊤}
 use Rattle.guard_tables.specs.declared.slots.Slots.{Slots}
-use Rattle.guard_tables.specs.Demands.{Ask}
+use Rattle.guard_tables.specs.Demands.{SlotDemand}
 
 pub record InWords (m : Slots) : Type 0 where
   pub first : m.first < 2 ^ 64
@@ -10,6 +10,6 @@ pub record InWords (m : Slots) : Type 0 where
   pub third : m.third < 2 ^ 64
 
 -- the slots of each
-abbrev pub AsksIn : List Ask → Type 0
-AsksIn [] = ⊤
-AsksIn (a ∷ asks) = InWords a.slots × AsksIn asks
+abbrev pub DemandsIn : List SlotDemand → Type 0
+DemandsIn [] = ⊤
+DemandsIn (a ∷ demands) = InWords a.slots × DemandsIn demands

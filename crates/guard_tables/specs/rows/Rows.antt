@@ -1,5 +1,5 @@
 -- Worked examples, computed from the definitions.
-use Rattle.std.specs.Prelude.{◌≡◌, ℕ, zero, suc, pos, true, [], ◌∷◌, None, Some, refl, codes, replicate}
+use Rattle.std.specs.Prelude.{◌≡◌, ℕ, zero, suc, pos, true, false, List, [], ◌∷◌, None, Some, refl, codes, replicate}
 use Rattle.guard_model.specs.declared.site.Site.{Site}
 use Rattle.guard_model.specs.declared.tag.Class.TheVariants.{Universal, Context}
 use Rattle.guard_model.specs.declared.tag.Tag.{Tag}
@@ -11,6 +11,8 @@ use Rattle.guard_model.specs.AbstractValue as value
 use Rattle.guard_tables.specs.declared.fault.TableFault.TheVariants.{RuleTypeMismatch, TooManyConditions, TooManyRules}
 use Rattle.guard_tables.specs.Conditions.{conditions}
 use Rattle.guard_tables.specs.Nodes.{ways}
+use Rattle.guard_tables.specs.Plan.{Body, Parts, plan, simple, choice, no_parts, part}
+use Rattle.guard_tables.specs.TableNodes.{ascend, blank}
 use Rattle.guard_tables.specs.Tables.{first_fault}
 
 abbrev pub universal : ℕ → Tag
@@ -42,6 +44,25 @@ numbers (suc n) = constraint (one (type.single_value (value.integer (pos n)))) (
 
 abbrev pub up_to : ℕ → Element
 up_to n = type.range (At (pos 0)) (At (pos n))
+
+-- ---- parts that ascend by their outermost tags: by class, then by number (X.680 8.6)
+
+abbrev pub with_part : List Tag → Body → Parts → Parts
+with_part tags body ps = part blank.side (plan tags false body) ps
+
+abbrev pub null : Body
+null = simple type.null []
+
+pub universal_before_context :
+    ascend None (with_part (universal 5 ∷ []) null (with_part (context 0 ∷ []) null (with_part (context 1 ∷ universal 5 ∷ []) null no_parts)))
+    ≡ true
+universal_before_context = refl
+
+pub one_descends : ascend None (with_part (context 1 ∷ []) null (with_part (context 0 ∷ []) null no_parts)) ≡ false
+one_descends = refl
+
+pub an_untagged_choice : ascend None (with_part (universal 5 ∷ []) null (with_part [] (choice no_parts) no_parts)) ≡ false
+an_untagged_choice = refl
 
 -- ---- how many rules
 

@@ -1,4 +1,4 @@
-use Rattle.std.proofs.Common.{◌≡◌, ◌∙◌, ◌+◌, ◌-◌, ◌<◌, ◌≤◌, Bool, true, false, vec_len, ap, sym, subst, refl, arith, drop, Some, None, Option, ℕ, get_or, ◌∷◌, [], add-one, map, List}
+use Rattle.std.proofs.Common.{◌≡◌, ◌∙◌, ◌+◌, ◌-◌, ◌<◌, ◌≤◌, Bool, true, false, vec_len, ap, sym, subst, arith, drop, Some, None, Option, ℕ, get_or, ◌∷◌, [], add-one, map, List}
 use Rattle.std.specs.Prelude.{◌||◌, nat_eq}
 use Rattle.std.proofs.lemmas.List.{take_rest}
 use Rattle.std.proofs.lemmas.Bool.{cond-true, cond-false, ne_eqb}
@@ -6,9 +6,9 @@ use Rattle.guard_der.specs.Fits.{descends}
 use Rattle.guard_tables.specs.declared.slots.Slots.{Slots}
 use Rattle.guard_tables.specs.declared.node.Cold.{Cold}
 use Rattle.guard_tables.specs.TableNodes.{spot_at, body_at, parts_between, has_inner, conditions_of}
-use Rattle.guard_tables.specs.NodeViews.{raise_view}
+use Rattle.guard_tables.specs.NodeViews.{implication_view}
 use Rattle.guard_tables.specs.Marking.{conditions_marked}
-use Rattle.guard_tables.specs.Formulas.{raised}
+use Rattle.guard_tables.specs.Formulas.{implied}
 use Rattle.guard_tables.specs.NodesView.{spots_in}
 use Rattle.guard_reader.specs.Fronts.{Front, begins, element_in, front_cut, front_of}
 use Rattle.guard_reader.specs.Judging.{is_read, fields_judged, part_at, outside, then_marked, whole_facts, size_in, ordered}
@@ -22,7 +22,7 @@ use Rattle.guard_reader.proofs.NodeTags.{identifier_is, is_at, kind_of_choice}
 use Rattle.guard_reader.proofs.Ranks.{near_cut}
 use Rattle.guard_reader.proofs.Passes.{element_here, last_element, no_element, none_left, none_ordered, not_ordered, one_element, one_ordered}
 use Rattle.guard_reader.proofs.AscendingSets.{set_of_parts}
-use Rattle.guard_reader.proofs.SetSteps.{set_judged, kind_of_set, no_bit, nothing_left, no_tag, no_member, one_member, members_over, judged_none, judged_again, judged_new}
+use Rattle.guard_reader.proofs.SetSteps.{set_judged, kind_of_set, no_bit, no_tag, no_member, one_member, members_over, judged_none, judged_again, judged_new}
 use Rattle.guard_reader.proofs.Steps.{yes, no, at_end, absent_there, not_whole, present_there, refused, sent, chosen_more, chosen_alone, chosen_here, chosen_broken, chosen_later}
 use Rattle.guard_tables.proofs.Spots.{node_at, there_at, cold_at}
 use Rattle.guard_reader.proofs.NodeSteps.{list_judged, simple_judged, series_judged, formula_judged, fields_step, is_of_formula, plain_at, plain_present, one_here, sees_within, inside_bare, inside_found, inside_none, wrapper_judged, asked_judged, is_of_asked, set_of_judged, choice_judged, choice_step, choice_end}
@@ -246,16 +246,16 @@ pub formula-returns-then-not-contents : goal.formula-returns-then-not-contents
 formula-returns-then-not-contents t c =
     let n = node_at c.args.table.now c.args.at c.index-node.result.now c.requires.room c.index-node.ensures in
     formula_judged c.args.table.now c.args.at c.index-node.result.now n (is_of_formula c.args.table.now c.args.at c.index-node.result.now c.requires.kind c.requires.room c.index-node.ensures) c.args.inside.now c.args.failed.now
-    ∙ ap (outside (map raise_view n.cold.raises.items) c.args.failed.now) (no c.contents.result c.contents.new.failed _ (rw c.none-inner.ensures at c.contents.ensures) c.if-not-contents.true)
+    ∙ ap (outside (map implication_view n.cold.implications.items) c.args.failed.now) (no c.contents.result c.contents.new.failed _ (rw c.none-inner.ensures at c.contents.ensures) c.if-not-contents.true)
 
 pub formula-returns : goal.formula-returns
 formula-returns t c =
     let n = node_at c.args.table.now c.args.at c.index-node.result.now c.requires.room c.index-node.ensures in
     let cold = cold_at c.args.table.now c.args.at c.index-node.result.now c.index-cold.result.now n c.requires.room c.index-cold.ensures in
     formula_judged c.args.table.now c.args.at c.index-node.result.now n (is_of_formula c.args.table.now c.args.at c.index-node.result.now c.requires.kind c.requires.room c.index-node.ensures) c.args.inside.now c.args.failed.now
-    ∙ ap (outside (map raise_view n.cold.raises.items) c.args.failed.now) (yes c.contents.result c.contents.new.failed _ (rw c.none-inner.ensures at c.contents.ensures) c.if-not-contents.false)
-    ∙ ap (λ (k : Cold). Some (raised (map raise_view k.raises.items) c.contents.new.failed c.args.failed.now)) cold
-    ∙ ap (λ (m : Slots). Some m) (sym (rw c.deref.ensures.value at c.raise.ensures))
+    ∙ ap (outside (map implication_view n.cold.implications.items) c.args.failed.now) (yes c.contents.result c.contents.new.failed _ (rw c.none-inner.ensures at c.contents.ensures) c.if-not-contents.false)
+    ∙ ap (λ (k : Cold). Some (implied (map implication_view k.implications.items) c.contents.new.failed c.args.failed.now)) cold
+    ∙ ap (λ (m : Slots). Some m) (sym (rw c.deref.ensures.value at c.add_implied.ensures))
 
 -- ---- SEQUENCE OF
 
@@ -605,28 +605,23 @@ choices::chosen-returns t c =
 
 -- ---- SET
 
-pub sets::set-ascend-requires : goal.sets::set-ascend-requires
-sets::set-ascend-requires t c =
-    let n = node_at c.args.table.now c.args.at c.index-node.result.now c.requires.room c.index-node.ensures in
-    omega (arith, n.node.before, c.requires.room)
-
 pub sets::set-series-requires : goal.sets::set-series-requires
 sets::set-series-requires t c =
     let n = node_at c.args.table.now c.args.at c.index-node.result.now c.requires.room c.index-node.ensures in
     (omega (arith, n.node.before), omega (arith, n.node.before, c.requires.room))
 
-pub sets::set-returns-then-ascend : goal.sets::set-returns-then-ascend
-sets::set-returns-then-ascend t c =
+pub sets::set-returns-then-node : goal.sets::set-returns-then-node
+sets::set-returns-then-node t c =
     let h = c.index-node.result.now in
     let n = node_at c.args.table.now c.args.at h c.requires.room c.index-node.ensures in
     let set = kind_of_set c.args.table.now c.args.at h c.requires.kind c.requires.room c.index-node.ensures in
-    subst (λ (r : Option Slots). Answers c.series.result c.series.new.failed r) (set_of_parts c.args.table.now c.args.at h n set c.args.octets.now c.args.failed.now (c.ascend.ensures c.if-ascend.true)) c.series.ensures
+    subst (λ (r : Option Slots). Answers c.series.result c.series.new.failed r) (set_of_parts c.args.table.now c.args.at h n set c.args.octets.now c.args.failed.now c.if-node.true) c.series.ensures
 
 pub sets::members-loop-rest-init : goal.sets::members-loop-rest-init
 sets::members-loop-rest-init t c =
     let h = c.index-node.result.now in
     let n = node_at c.args.table.now c.args.at h c.requires.room c.index-node.ensures in
-    let kept : AreRead (parts_between (spots_in c.args.table.now) h.first h.count) c.args.octets.now c.args.octets.now 0 [] = record { reach = refl; kept = λ i low. no_bit i } in
+    let kept : AreRead 0 [] = λ i low. no_bit i in
     ([], kept, set_judged c.args.table.now c.args.at h n (kind_of_set c.args.table.now c.args.at h c.requires.kind c.requires.room c.index-node.ensures) c.args.octets.now c.args.failed.now, omega arith, λ k from to. absurd (omega (arith, from, to)))
 
 pub sets::members-returns-in_default : goal.sets::members-returns-in_default
@@ -678,7 +673,14 @@ sets::members-returns-in_default-member t c =
 pub sets::members-is_read-requires : goal.sets::members-is_read-requires
 sets::members-is_read-requires t c =
     let n = node_at c.args.table.now c.args.at c.index-node.result.now c.requires.room c.index-node.ensures in
-    omega (arith, n.node.before, c.requires.room)
+    let few : c.index-node.result.now.count ≤ 64 = n.node.few in
+    omega (arith, few, c.in-Some-member.ensures.place)
+
+pub sets::members-with_read-read-requires : goal.sets::members-with_read-read-requires
+sets::members-with_read-read-requires t c =
+    let n = node_at c.args.table.now c.args.at c.index-node.result.now c.requires.room c.index-node.ensures in
+    let few : c.index-node.result.now.count ≤ 64 = n.node.few in
+    omega (arith, few, c.in-Some-member.ensures.place)
 
 pub sets::members-returns-then-is_read : goal.sets::members-returns-then-is_read
 sets::members-returns-then-is_read t c =
@@ -689,7 +691,9 @@ sets::members-returns-then-is_read t c =
     let some = sym c.is_empty.ensures ∙ c.loop-rest-test.true in
     let places = c.loop-rest.invariant.0 in
     let tag = sym c.next_tag.ensures ∙ c.in-Some.is in
-    let again : is_read places c.in-Some-member.place ≡ true = sym (c.is_read.ensures c.loop-rest.rest.now places refl c.loop-rest.invariant.1) ∙ c.if-is_read.true in
+    let few : h.count ≤ 64 = n.node.few in
+    let low : c.in-Some-member.place < 64 = omega (arith, few, c.in-Some-member.ensures.place) in
+    let again : is_read places c.in-Some-member.place ≡ true = sym (c.is_read.ensures ∙ c.loop-rest.invariant.1 c.in-Some-member.place low) ∙ c.if-is_read.true in
     sym c.loop-rest.invariant.2
     ∙ no_member ps places c.loop-rest.last c.loop-rest.rest.now c.loop-rest.failed c.in-Some.tag some tag
     (judged_again c.args.table.now h.first h.count places c.loop-rest.rest.now c.in-Some-member.inside.now c.in-Some-member.next.now c.loop-rest.failed c.in-Some-member.place room c.in-Some-member.ensures.found again)
@@ -708,7 +712,9 @@ sets::members-returns-then-not-present t c =
     let some = sym c.is_empty.ensures ∙ c.loop-rest-test.true in
     let places = c.loop-rest.invariant.0 in
     let tag = sym c.next_tag.ensures ∙ c.in-Some.is in
-    let new : is_read places c.in-Some-member.place ≡ false = sym (c.is_read.ensures c.loop-rest.rest.now places refl c.loop-rest.invariant.1) ∙ c.if-is_read.false in
+    let few : h.count ≤ 64 = n.node.few in
+    let low : c.in-Some-member.place < 64 = omega (arith, few, c.in-Some-member.ensures.place) in
+    let new : is_read places c.in-Some-member.place ≡ false = sym (c.is_read.ensures ∙ c.loop-rest.invariant.1 c.in-Some-member.place low) ∙ c.if-is_read.false in
     sym c.loop-rest.invariant.2
     ∙ no_member ps places c.loop-rest.last c.loop-rest.rest.now c.loop-rest.failed c.in-Some.tag some tag
     (judged_new c.args.table.now h.first h.count places c.loop-rest.rest.now c.in-Some-member.inside.now c.in-Some-member.next.now c.loop-rest.failed c.in-Some-member.place None room c.in-Some-member.ensures.found new
@@ -723,11 +729,11 @@ sets::members-loop-rest-preserved t c =
     let some = sym c.is_empty.ensures ∙ c.loop-rest-test.true in
     let places = c.loop-rest.invariant.0 in
     let tag = sym c.next_tag.ensures ∙ c.in-Some.is in
-    let new : is_read places c.in-Some-member.place ≡ false = sym (c.is_read.ensures c.loop-rest.rest.now places refl c.loop-rest.invariant.1) ∙ c.if-is_read.false in
-    let kept : AreRead ps c.args.octets.now c.in-Some-member.next.now c.with_read-read.result (c.in-Some-member.place ∷ places) = record {
-      reach = (c.loop-rest.rest.now, c.in-Some-member.inside.now, c.loop-rest.invariant.1.reach, sym c.in-Some-member.ensures.found);
-      kept = λ i low. c.with_read-read.ensures i low ∙ ap (λ (b : Bool). nat_eq c.in-Some-member.place i || b) (c.loop-rest.invariant.1.kept i low);
-    } in (
+    let few : h.count ≤ 64 = n.node.few in
+    let low : c.in-Some-member.place < 64 = omega (arith, few, c.in-Some-member.ensures.place) in
+    let new : is_read places c.in-Some-member.place ≡ false = sym (c.is_read.ensures ∙ c.loop-rest.invariant.1 c.in-Some-member.place low) ∙ c.if-is_read.false in
+    let kept : AreRead c.with_read-read.result (c.in-Some-member.place ∷ places) = λ i low.
+    c.with_read-read.ensures i low ∙ ap (λ (b : Bool). nat_eq c.in-Some-member.place i || b) (c.loop-rest.invariant.1 i low) in (
       c.in-Some-member.place ∷ places,
       kept,
       sym (one_member ps places c.loop-rest.last c.loop-rest.rest.now c.loop-rest.failed c.present.new.failed c.in-Some.tag c.in-Some-member.place c.in-Some-member.next.now some tag
@@ -741,7 +747,7 @@ sets::members-loop-rest-preserved t c =
 pub sets::members-absences-requires : goal.sets::members-absences-requires
 sets::members-absences-requires t c =
     let n = node_at c.args.table.now c.args.at c.index-node.result.now c.requires.room c.index-node.ensures in
-    omega (arith, n.node.before, c.requires.room)
+    record { room = omega (arith, n.node.before, c.requires.room); few = n.node.few }
 
 pub sets::members-returns : goal.sets::members-returns
 sets::members-returns t c =
@@ -749,6 +755,5 @@ sets::members-returns t c =
     let ps = parts_between (spots_in c.args.table.now) h.first h.count in
     let places = c.loop-rest.invariant.0 in
     let empty = sym c.is_empty.ensures ∙ c.loop-rest-test.false in
-    let kept = subst (λ (rest : List ℕ). AreRead ps c.args.octets.now rest c.loop-rest.read places) (nothing_left c.loop-rest.rest.now empty) c.loop-rest.invariant.1 in
     subst (λ (r : Option Slots). Answers c.absences.result c.absences.new.failed r)
-    (sym (members_over ps places c.loop-rest.last c.loop-rest.rest.now c.loop-rest.failed empty) ∙ c.loop-rest.invariant.2) (c.absences.ensures places kept)
+    (sym (members_over ps places c.loop-rest.last c.loop-rest.rest.now c.loop-rest.failed empty) ∙ c.loop-rest.invariant.2) (c.absences.ensures places c.loop-rest.invariant.1)

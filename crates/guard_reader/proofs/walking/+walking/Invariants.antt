@@ -120,7 +120,7 @@ decreases-lists::set_of-loop-before l = length l.rest
 -- which components were read
 abbrev pub invariant-sets::members-loop-rest : goal.invariant-sets::members-loop-rest
 invariant-sets::members-loop-rest l =
-    (places : List ℕ) × AreRead (parts_between (spots_in l.table) l.first l.count) l.fn.octets l.rest l.read places
+    (places : List ℕ) × AreRead l.read places
     × (members (parts_between (spots_in l.table) l.first l.count) places l.last l.rest l.failed ≡ contents_judged (body_at (spots_in l.table) l.at) l.fn.octets l.fn.failed)
     × (l.below ≤ l.count) × AreBelow l.table l.first l.below l.floor
 

@@ -1,6 +1,6 @@
 use Rattle.std.proofs.Common.{◌≡◌, ◌++◌, ◌∷◌, sym, ap, ◌∙◌, List}
 use Rattle.std.specs.Vec.Iter.{into_iter_items}
-use Rattle.guard_tables.specs.declared.drafts.Node.{Node}
+use Rattle.guard_tables.specs.declared.new_nodes.Node.{Node}
 use Rattle.guard_tables.proofs.Comings.{next_comes, next_came, one_further}
 use Rattle.guard_tables.proofs.assembly.with_all.Goals as goal
 

@@ -1,7 +1,7 @@
 use Rattle.std.proofs.Common.{◌≡◌, ◌++◌}
 use Rattle.std.specs.Vec.Iter.{into_iter_items}
 use Rattle.guard_tables.specs.inside.Aside.{spots_at}
-use Rattle.guard_tables.specs.inside.Laid.{spots_so_far}
+use Rattle.guard_tables.specs.inside.Assembled.{spots_so_far}
 use Rattle.guard_tables.proofs.assembly.with_all.Given as goal
 
 -- those that have come stand for what they stood for before any of them had

@@ -1,6 +1,6 @@
 use Rattle.std.proofs.Common.{arith, ap, vec_len}
 use Rattle.guard_tables.specs.Plan.{Body, plan, tags_in, form_in, body_in}
-use Rattle.guard_tables.specs.inside.Laid.{plan_in}
+use Rattle.guard_tables.specs.inside.Assembled.{plan_in}
 use Rattle.guard_tables.proofs.Comings.{asked_comes, unasked, some_asked, asked_cold, laid_as}
 use Rattle.guard_tables.proofs.LaidSteps.{nothing_there, something_there}
 use Rattle.guard_tables.proofs.assembly.with_conditions.Goals as goal

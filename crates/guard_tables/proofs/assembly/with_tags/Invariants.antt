@@ -1,6 +1,6 @@
 use Rattle.std.proofs.Common.{◌≡◌, ◌-◌, ◌≤◌, drop, length}
 use Rattle.guard_tables.specs.Plan.{plan, form_in, body_in}
-use Rattle.guard_tables.specs.inside.Laid.{Grows, plan_in}
+use Rattle.guard_tables.specs.inside.Assembled.{Grows, plan_in}
 use Rattle.guard_tables.proofs.assembly.with_tags.Given as goal
 
 abbrev pub decreases-loop-left : goal.decreases-loop-left

@@ -3,7 +3,7 @@ use Rattle.guard_model.specs.TypeView.{kind_view}
 use Rattle.guard_tables.specs.Apt.{AllSpeak}
 use Rattle.guard_tables.specs.Lay.{conditions_of}
 use Rattle.guard_tables.specs.NodeViews.{condition_view}
-use Rattle.guard_tables.specs.inside.AskViews.{terms_view}
+use Rattle.guard_tables.specs.inside.DemandViews.{terms_view}
 use Rattle.guard_tables.proofs.conditions_at_node.list_of.Given as goal
 
 -- with what comes of the tests that are left it is what comes of all

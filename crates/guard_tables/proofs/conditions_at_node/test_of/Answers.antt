@@ -1,10 +1,10 @@
 use Rattle.std.proofs.Common.{subst}
 use Rattle.guard_model.specs.TypeView.{kind_view, constraint_view}
 use Rattle.guard_model.specs.ValueView.{value_view}
-use Rattle.guard_tables.specs.declared.asks.Atom.{Atom}
+use Rattle.guard_tables.specs.declared.demands.Atom.{Atom}
 use Rattle.guard_tables.specs.Apt.{Speaks}
 use Rattle.guard_tables.specs.Demands.{equals, scalar}
-use Rattle.guard_tables.specs.inside.AskViews.{atom_view}
+use Rattle.guard_tables.specs.inside.DemandViews.{atom_view}
 use Rattle.guard_tables.proofs.Telling.{standing_fits}
 use Rattle.guard_tables.proofs.conditions_at_node.test_of.Goals as goal
 

@@ -8,10 +8,10 @@ use Rattle.guard_tables.proofs.formulas.+formulas.Given as goal
 
 abbrev pub invariant-form_all-loop-constraint : goal.invariant-form_all-loop-constraint
 invariant-form_all-loop-constraint l =
-    form_all l.slots (kind_view l.kind) (constraints_of (map constraint_view (drop l.constraint-index l.constraints))) (formula_of l.tests l.besides.items)
-    ≡ form_all l.slots (kind_view l.kind) (constraints_of (map constraint_view l.constraints)) (formula_of l.initial.tests l.initial.besides.items)
+    form_all l.slots (kind_view l.kind) (constraints_of (map constraint_view (drop l.constraint-index l.constraints))) (formula_of l.tests l.forms.items)
+    ≡ form_all l.slots (kind_view l.kind) (constraints_of (map constraint_view l.constraints)) (formula_of l.initial.tests l.initial.forms.items)
 
 abbrev pub invariant-form_each-loop-constraint : goal.invariant-form_each-loop-constraint
 invariant-form_each-loop-constraint l =
-    form_each (kind_view l.kind) (constraints_of (map constraint_view (drop l.constraint-index l.constraints))) (formula_of l.tests l.besides.items)
-    ≡ form_each (kind_view l.kind) (constraints_of (map constraint_view l.constraints)) (formula_of l.initial.tests l.initial.besides.items)
+    form_each (kind_view l.kind) (constraints_of (map constraint_view (drop l.constraint-index l.constraints))) (formula_of l.tests l.forms.items)
+    ≡ form_each (kind_view l.kind) (constraints_of (map constraint_view l.constraints)) (formula_of l.initial.tests l.initial.forms.items)

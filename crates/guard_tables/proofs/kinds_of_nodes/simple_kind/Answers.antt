@@ -11,7 +11,7 @@ use Rattle.guard_model.specs.declared.ty.Kind.TheVariants.{rolls-Enumerated}
 use Rattle.guard_model.specs.declared.ty.Named.{Named}
 use Rattle.guard_tables.specs.Lay.{nameless}
 use Rattle.guard_tables.specs.NodeViews.{unnamed}
-use Rattle.guard_tables.specs.inside.Laid.{item_numbers}
+use Rattle.guard_tables.specs.inside.Assembled.{item_numbers}
 use Rattle.guard_tables.proofs.kinds_of_nodes.simple_kind.Goals as goal
 
 nameless_items : (items : List NamedNumber) → map unnamed (map (λ n. n.number) items) ≡ map (λ (n : NamedNumber). record { name = []; number = n.number }) items

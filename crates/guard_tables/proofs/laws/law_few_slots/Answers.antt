@@ -1,5 +1,5 @@
 use Rattle.guard_tables.proofs.SlotCounts.{count_law}
-use Rattle.guard_tables.proofs.Handing.{each_law, within_law}
+use Rattle.guard_tables.proofs.PartCounts.{each_law, within_law}
 use Rattle.guard_tables.proofs.FewSlots.{few_law}
 use Rattle.guard_tables.proofs.laws.law_few_slots.Goals as goal
 

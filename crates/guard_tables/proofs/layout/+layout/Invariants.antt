@@ -1,7 +1,7 @@
 use Rattle.std.proofs.Common.{◌≡◌}
 use Rattle.guard_model.proofs.Components.{left}
-use Rattle.guard_tables.specs.inside.AskViews.{terms_view}
-use Rattle.guard_tables.specs.inside.Laid.{Grows, MayCome, PartsMayBeLaid, parts_in, parts_of_group}
+use Rattle.guard_tables.specs.inside.DemandViews.{terms_view}
+use Rattle.guard_tables.specs.inside.Assembled.{Grows, MayCome, PartsMayBeLaid, parts_in, parts_of_group}
 use Rattle.guard_tables.proofs.layout.+layout.Given as goal
 
 -- the nodes so far, with the components that are left, are the parts of all; and those that are left may be laid

@@ -1,5 +1,5 @@
 use Rattle.std.proofs.Common.{length}
-use Rattle.guard_tables.specs.inside.Laid.{spots_so_far}
+use Rattle.guard_tables.specs.inside.Assembled.{spots_so_far}
 use Rattle.guard_tables.proofs.layout.lay_simple.Goals as goal
 
 pub invariant_of-result : goal.invariant_of-result

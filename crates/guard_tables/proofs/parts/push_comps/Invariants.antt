@@ -1,7 +1,7 @@
 use Rattle.std.proofs.Common.{◌≡◌, ◌++◌}
 use Rattle.guard_model.proofs.Components.{left}
 use Rattle.guard_tables.specs.Terms.{parts_from}
-use Rattle.guard_tables.specs.inside.AskViews.{terms_view}
+use Rattle.guard_tables.specs.inside.DemandViews.{terms_view}
 use Rattle.guard_tables.proofs.parts.push_comps.Given as goal
 
 -- with the tests of the components that are left it is what it is with the tests of all

@@ -1,7 +1,7 @@
 use Rattle.std.proofs.Common.{◌≡◌, ◌++◌, drop, map}
 use Rattle.guard_model.specs.TypeView.{kind_view, part_view, parts_of}
 use Rattle.guard_tables.specs.Terms.{listed_terms}
-use Rattle.guard_tables.specs.inside.AskViews.{terms_view}
+use Rattle.guard_tables.specs.inside.DemandViews.{terms_view}
 use Rattle.guard_tables.proofs.parts.push_listed.Given as goal
 
 -- with the tests of the parts that are left it is what it is with the tests of all

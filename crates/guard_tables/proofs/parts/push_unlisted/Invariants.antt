@@ -2,7 +2,7 @@ use Rattle.std.proofs.Common.{◌≡◌, ◌++◌, map}
 use Rattle.guard_model.specs.TypeView.{kind_view, part_view, parts_of}
 use Rattle.guard_model.proofs.Components.{left}
 use Rattle.guard_tables.specs.Terms.{ruled_out}
-use Rattle.guard_tables.specs.inside.AskViews.{terms_view}
+use Rattle.guard_tables.specs.inside.DemandViews.{terms_view}
 use Rattle.guard_tables.proofs.parts.push_unlisted.Given as goal
 
 -- with the tests of the components that are left it is what it is with the tests of all

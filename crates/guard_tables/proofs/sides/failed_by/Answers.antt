@@ -2,22 +2,22 @@ use Rattle.std.proofs.Common.{◌≡◌, List, [], drop, sym, ap, ◌∙◌, sub
 use Rattle.std.proofs.lemmas.List.{at_drop_all}
 use Rattle.guard_model.specs.TypeView.{type_view}
 use Rattle.guard_model.specs.ValueView.{value_view}
-use Rattle.guard_tables.specs.declared.asks.Ask.{Ask}
-use Rattle.guard_tables.specs.inside.AskViews.{asks_view}
-use Rattle.guard_tables.specs.inside.SideViews.{asks_marked}
-use Rattle.guard_tables.specs.inside.SlotWords.{AsksIn}
+use Rattle.guard_tables.specs.declared.demands.SlotDemand.{SlotDemand}
+use Rattle.guard_tables.specs.inside.DemandViews.{slot_demands_view}
+use Rattle.guard_tables.specs.inside.SideViews.{demands_marked}
+use Rattle.guard_tables.specs.inside.SlotWords.{DemandsIn}
 use Rattle.guard_tables.proofs.LaidWords.{failed_by}
 use Rattle.guard_tables.proofs.sides.failed_by.Goals as goal
 
 pub returns : goal.returns
 returns c =
-    let l = c.loop-ask in
+    let l = c.loop-slot_demand in
     let v = value_view c.args.value.now in
-    let asks = c.args.asks.now in
-    let none : drop l.ask-index asks ≡ [] = at_drop_all (λ (rest : List Ask). rest) asks l.ask-index
-    c.loop-ask-test.false in
-    let words : AsksIn (asks_view asks) = l.invariant.words
-    (subst (λ (rest : List Ask). AsksIn (asks_view rest)) (sym none) tt) in
-    sym (ap (λ (rest : List Ask). asks_marked v (asks_view rest) l.failed) none) ∙ l.invariant.so_far
-    ∙ failed_by (type_view c.args.ty.now) c.requires.sound (asks_view asks) c.requires.apt words v c.requires.fits
+    let demands = c.args.demands.now in
+    let none : drop l.slot_demand-index demands ≡ [] = at_drop_all (λ (rest : List SlotDemand). rest) demands l.slot_demand-index
+    c.loop-slot_demand-test.false in
+    let words : DemandsIn (slot_demands_view demands) = l.invariant.words
+    (subst (λ (rest : List SlotDemand). DemandsIn (slot_demands_view rest)) (sym none) tt) in
+    sym (ap (λ (rest : List SlotDemand). demands_marked v (slot_demands_view rest) l.failed) none) ∙ l.invariant.so_far
+    ∙ failed_by (type_view c.args.ty.now) c.requires.sound (slot_demands_view demands) c.requires.apt words v c.requires.fits
     c.args.present c.law_words.ensures

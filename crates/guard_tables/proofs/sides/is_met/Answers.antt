@@ -4,10 +4,10 @@ use Rattle.guard_model.specs.Kinds.{kind_of}
 use Rattle.guard_model.specs.ValueView.{value_view}
 use Rattle.guard_eval.proofs.PartFits.{fits_of}
 use Rattle.guard_eval.proofs.SameFits.{same_fits}
-use Rattle.guard_tables.specs.declared.asks.Demand.{Demand}
+use Rattle.guard_tables.specs.declared.demands.Demand.{Demand}
 use Rattle.guard_tables.specs.Apt.{IsApt}
 use Rattle.guard_tables.specs.Demands.{by_type, by_constraint}
-use Rattle.guard_tables.specs.inside.AskViews.{demand_view}
+use Rattle.guard_tables.specs.inside.DemandViews.{demand_view}
 use Rattle.guard_tables.proofs.sides.is_met.Goals as goal
 
 pub proper_member-requires-clause-fits : goal.proper_member-requires-clause-fits

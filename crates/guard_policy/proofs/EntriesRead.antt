@@ -25,11 +25,11 @@ use Rattle.toml.specs.Data.{Members}
 use Rattle.guard_policy.specs.declared.entry.Key.TheVariants.{Name, Effect as EffectKey}
 use Rattle.guard_policy.specs.Documents.{text_of}
 use Rattle.guard_der.specs.NamedTypes.{AbstractTypes}
-use Rattle.guard_policy.specs.Entries.{before_all, those_there, message_in, rule_in, rule_of, type_in, effect_named}
+use Rattle.guard_policy.specs.Entries.{before_all, those_there, message_of, message_in, rule_in, rule_of, type_in, effect_named}
 use Rattle.guard_policy.specs.EntryFaults.{entries_fault, tables_fault}
 use Rattle.guard_policy.specs.Consistency.{types_for}
 use Rattle.guard_policy.specs.Policies.{AbstractMessage, AbstractRule}
-use Rattle.guard_policy.specs.inside.Said.{said_message_view}
+use Rattle.guard_policy.specs.SaidView.{said_message_view}
 use Rattle.guard_policy.specs.PolicyFaults.{AbstractFault, bad_table}
 
 -- what is left of a list begins with the item at its place
@@ -97,12 +97,12 @@ sound_at messages i m lt is sound =
 
 -- ---- the name of what an entry says
 
-named_message : (name : List ℕ) (o : Option AbstractType) (m : AbstractMessage) → option_map (λ t. record { name = name; ty = t }) o ≡ Some m → name ≡ m.name
-named_message name None m e = absurd cc
-named_message name (Some t) m e = ap (λ (x : AbstractMessage). x.name) (same_Some _ _ e)
+named_message : (entry : Members) (o : Option AbstractType) (m : AbstractMessage) → option_map (message_of entry) o ≡ Some m → text_of Name entry ≡ m.name
+named_message entry None m e = absurd cc
+named_message entry (Some t) m e = ap (λ (x : AbstractMessage). x.name) (same_Some _ _ e)
 
 pub name_of_message : (s : AbstractTypes) (entry : Members) (m : AbstractMessage) → message_in s entry ≡ Some m → text_of Name entry ≡ m.name
-name_of_message s entry m e = named_message (text_of Name entry) (type_in s entry) m e
+name_of_message s entry m e = named_message entry (type_in s entry) m e
 
 named_effect : (entry : Members) (t : AbstractType) (o : Option Effect) (r : AbstractRule) → option_map (rule_of entry t) o ≡ Some r → text_of Name entry ≡ r.name
 named_effect entry t None r e = absurd cc

@@ -18,8 +18,8 @@ use Rattle.guard_policy.specs.declared.kept.TypePlace.{TypePlace}
 use Rattle.guard_policy.specs.Consistency.{types_for}
 use Rattle.guard_policy.specs.KeptView.{kept_message_view, kept_rule_view, found_type, no_type}
 use Rattle.guard_policy.specs.inside.Listings.{AbstractListed, place_among, numbers_for, listing, listed_view}
-use Rattle.guard_policy.specs.Policies.{AbstractMessage, AbstractRule, message_names}
-use Rattle.guard_policy.specs.inside.Keeping.{Tabled, tabled_view, tabled, type_place, IsSaid, AreDeclared}
+use Rattle.guard_policy.specs.Policies.{AbstractMessage, AbstractRule, message_names, message_among, declared_among}
+use Rattle.guard_policy.specs.inside.Keeping.{Tabled, tabled_view, tabled, type_place, IsSaid, IsFirst, AreDeclared}
 use Rattle.guard_policy.proofs.Listed.{drop_get, drop_rest, alike, listed_parts, unlisted}
 
 -- ---- messages
@@ -29,7 +29,7 @@ first_type [] = no_type
 first_type (t ∷ ts) = t
 
 as_message : Tabled → AbstractMessage
-as_message t = record { name = t.name; ty = first_type t.types }
+as_message t = record { name = t.name; home = t.home; ty = first_type t.types }
 
 messages_in : (ms : List KeptMessage) → map as_message (map tabled_view ms) ≡ map kept_message_view ms
 unfolding as_message first_type
@@ -45,6 +45,34 @@ messages_of rules (m ∷ ms) = ap (λ (others : List AbstractMessage). m ∷ oth
 pub same_messages : (ms : List KeptMessage) (rules : List AbstractRule) (messages : List AbstractMessage)
     → map tabled_view ms ≡ map (tabled rules) messages → map kept_message_view ms ≡ messages
 same_messages ms rules messages e = sym (messages_in ms) ∙ ap (map as_message) e ∙ messages_of rules messages
+
+-- ---- the message of a name
+
+-- it is at the first place
+message_at : (all rest : List AbstractMessage) (i place : ℕ) (name : List ℕ) → drop i all ≡ rest → place_among name i rest ≡ Some place
+    → message_among rest name ≡ slice_get all place
+message_at all [] i place name is e = absurd cc
+message_at all (m ∷ ms) i place name is e =
+    let f = λ (b : Bool). cond b (Some i) (place_among name (i + 1) ms) ≡ Some place → cond b (Some m) (message_among ms name) ≡ slice_get all place in
+    (elim (bytes_eq m.name name) as f [
+      | true ↦ λ (here : Some i ≡ Some place). sym (ap (slice_get all) (sym (same_Some _ _ here)) ∙ drop_get all i m ms is)
+      | false ↦ message_at all ms (i + 1) place name (drop_rest all i m ms is)
+    ]) e
+
+pub message_first : (name : List ℕ) (ms : List KeptMessage) (m : KeptMessage) → IsFirst name ms m → message_among (map kept_message_view ms) name ≡ Some (kept_message_view m)
+message_first name ms m first =
+    message_at (map kept_message_view ms) (map kept_message_view ms) 0 first.place name refl first.first
+    ∙ slice_get-map kept_message_view ms first.place ∙ ap (option_map kept_message_view) first.there
+
+-- where no type is declared there is none
+pub no_message : (messages : List AbstractMessage) (name : List ℕ) → declared_among messages name ≡ None → message_among messages name ≡ None
+no_message [] name e = refl
+no_message (m ∷ ms) name e =
+    let f = λ (b : Bool). cond b (Some m.ty) (declared_among ms name) ≡ None → cond b (Some m) (message_among ms name) ≡ None in
+    (elim (bytes_eq m.name name) as f [
+      | true ↦ λ (there : Some m.ty ≡ None). absurd cc
+      | false ↦ no_message ms name
+    ]) e
 
 -- ---- the type of a rule in its table
 

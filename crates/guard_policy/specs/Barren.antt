@@ -135,6 +135,11 @@ abbrev pub own_part : Option OneComponent → List Demand
 own_part None = []
 own_part (Some c) = by_type c.ty ∷ []
 
+-- of one listed component, with its constraint if it has one
+abbrev pub part_within : ℕ → AbstractKind → ℕ → Option Constraint → List Demand
+part_within i kind j None = []
+part_within i kind j (Some c) = if nat_eq j i then by_constraint (kind_at i kind) c ∷ [] else []
+
 abbrev mutual
   pub type_within : ℕ → AbstractType → List Demand
   type_within i (type_of tags kind cons) = own_part (component_at i (components_in kind)) ++ all_within i kind cons
@@ -162,8 +167,7 @@ abbrev mutual
   pub parts_within : ℕ → AbstractKind → Parts → List Demand
   parts_within i kind type.no_parts = []
   parts_within i kind (type.part site j word ps) = parts_within i kind ps
-  parts_within i kind (type.part_within site j c word ps) =
-      (if nat_eq j i then by_constraint (kind_at i kind) c ∷ [] else []) ++ parts_within i kind ps
+  parts_within i kind (type.part_within site j c word ps) = part_within i kind j (Some c) ++ parts_within i kind ps
 
 abbrev pub demand_within : ℕ → Demand → List Demand
 demand_within i (by_type t) = type_within i t

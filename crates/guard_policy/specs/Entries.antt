@@ -17,8 +17,11 @@ effect_named word =
 abbrev pub type_in : AbstractTypes → Members → Option AbstractType
 type_in s entry = s.types (text_of key.Module entry) (text_of key.TypeName entry)
 
+abbrev pub message_of : Members → AbstractType → AbstractMessage
+message_of entry t = record { name = text_of key.Name entry; home = text_of key.Module entry; ty = t }
+
 abbrev pub message_in : AbstractTypes → Members → Option AbstractMessage
-message_in s entry = option_map (λ t. record { name = text_of key.Name entry; ty = t }) (type_in s entry)
+message_in s entry = option_map (message_of entry) (type_in s entry)
 
 abbrev pub rule_of : Members → AbstractType → Effect → AbstractRule
 rule_of entry t effect = record {

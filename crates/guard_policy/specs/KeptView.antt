@@ -8,7 +8,7 @@ use Rattle.guard_policy.specs.declared.kept.TypePlace.{TypePlace}
 use Rattle.guard_policy.specs.Policies.{AbstractMessage, AbstractRule}
 
 abbrev pub kept_message_view : KeptMessage → AbstractMessage
-kept_message_view m = record { name = string_bytes m.name; ty = declared_of m.table }
+kept_message_view m = record { name = string_bytes m.name; home = string_bytes m.home; ty = declared_of m.table }
 
 -- The type at a place; none where the place is none of a table.
 abbrev pub found_type : List KeptMessage → TypePlace → Option AbstractType

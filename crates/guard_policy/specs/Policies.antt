@@ -4,8 +4,10 @@ use Rattle.std.specs.Str.{bytes_eq}
 use Rattle.guard_model.specs.AbstractType.{AbstractType}
 use Rattle.guard_policy.specs.declared.policy.Effect.{Effect}
 
+-- its declared type, and the name of the module that assigns it
 pub record AbstractMessage : Type 0 where
   pub name : List ℕ
+  pub home : List ℕ
   pub ty : AbstractType
 
 -- its sender and its receiver may each be `*`, for every one
@@ -38,7 +40,15 @@ message_names messages = map (λ m. m.name) messages
 abbrev pub rule_names : List AbstractRule → List (List ℕ)
 rule_names rules = map (λ r. r.name) rules
 
--- the declared type of the first message of this name
+-- the first message of this name
+abbrev pub message_among : List AbstractMessage → List ℕ → Option AbstractMessage
+message_among [] name = None
+message_among (m ∷ ms) name = if bytes_eq m.name name then Some m else message_among ms name
+
+abbrev pub declared_message : AbstractPolicy → List ℕ → Option AbstractMessage
+declared_message p name = message_among p.messages name
+
+-- its declared type
 abbrev pub declared_among : List AbstractMessage → List ℕ → Option AbstractType
 declared_among [] name = None
 declared_among (m ∷ ms) name = if bytes_eq m.name name then Some m.ty else declared_among ms name

@@ -1,12 +1,14 @@
-//! What types and constraints ask of values, and of the components of values.
+//! What types and constraints ask of values, and of the components of values, as far as no union and no exception says
+//! it. `guard_tables` takes these apart as well, into terms with slots of their own, for which it needs room; that isn't
+//! what is asked here.
 ghost use Rattle.std.specs.Prelude.{◌≡◌, ◌++◌, map, option_map, OnOk, IfOk};
 ghost use Rattle.guard_model.specs.Components.{components_in, component_at};
 ghost use Rattle.guard_model.specs.TypeView.{type_view, kind_view, component_view, constraint_view, element_view};
 ghost use Rattle.guard_model.specs.TypeView.{constraints_of, part_view, parts_of};
 ghost use Rattle.guard_policy.specs.Barren.{own_part, type_within, within, element_within, all_within, parts_within};
-ghost use Rattle.guard_policy.specs.Barren.{demand_within, demands_within};
-ghost use Rattle.guard_policy.specs.inside.Asked.{demands_view, part_within};
-ghost use Rattle.guard_tables.specs.inside.AskViews.{demand_view};
+ghost use Rattle.guard_policy.specs.Barren.{part_within, demand_within, demands_within};
+ghost use Rattle.guard_policy.specs.inside.Asked.{demands_view};
+ghost use Rattle.guard_tables.specs.inside.DemandViews.{demand_view};
 
 use guard_eval::kind_at;
 use guard_model::{Comp, Cons, Kind, OutOfMemory, Part, Rule, Ty};

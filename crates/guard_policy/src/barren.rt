@@ -6,7 +6,7 @@ ghost use Rattle.guard_model.specs.TypeView.{type_view, kind_view, component_vie
 ghost use Rattle.guard_policy.specs.Barren.{demand_has_number, have_no_number, demand_may_have_size, have_no_size, kind_has_no_value};
 ghost use Rattle.guard_policy.specs.Barren.{some_has_no_value, is_barren};
 ghost use Rattle.guard_policy.specs.inside.Asked.{demands_view};
-ghost use Rattle.guard_tables.specs.inside.AskViews.{demand_view};
+ghost use Rattle.guard_tables.specs.inside.DemandViews.{demand_view};
 
 use super::asked::demands_within;
 use super::policy::Policy;

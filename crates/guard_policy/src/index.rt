@@ -1,8 +1,7 @@
 //! Look-ups by the name of a message.
 ghost use Rattle.std.specs.Prelude.{◌≡◌, ◌+◌, map, option_map, string_bytes, IfOk};
 ghost use Rattle.guard_policy.specs.inside.Listings.{IsIndex, found_in, listed_view, numbers_for};
-ghost use Rattle.guard_policy.specs.SaidView.{said_view};
-ghost use Rattle.guard_policy.specs.inside.Said.{said_message_view};
+ghost use Rattle.guard_policy.specs.SaidView.{said_message_view, said_view};
 
 use super::policy::SaidRule;
 use super::said::SaidMessage;

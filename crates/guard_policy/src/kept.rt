@@ -5,8 +5,7 @@ ghost use Rattle.guard_model.specs.TypeView.{type_view};
 ghost use Rattle.guard_policy.specs.Consistency.{IsConsistent};
 ghost use Rattle.guard_policy.specs.KeptView.{kept_message_view, kept_rule_view, found_type};
 ghost use Rattle.guard_policy.specs.inside.Listings.{IsIndex, listed_view};
-ghost use Rattle.guard_policy.specs.SaidView.{said_view};
-ghost use Rattle.guard_policy.specs.inside.Said.{said_message_view};
+ghost use Rattle.guard_policy.specs.SaidView.{said_message_view, said_view};
 ghost use Rattle.guard_policy.specs.inside.Keeping.{type_place, IsSaid, ArePlaced, AreDeclared, tabled_view, tabled};
 ghost use Rattle.guard_policy.specs.inside.Leads.{AreLeads};
 ghost use Rattle.guard_policy.specs.inside.Routing.{IsRouted};
@@ -21,10 +20,12 @@ use guard_model::{OutOfMemory, Ty};
 use guard_tables::Table;
 use std::alloc::{AllocError, Global};
 
-/// A message, with the table of its declared type and the types of its rules, and how routes lead to these.
+/// A message, with the name of its declared type's module, the table of this type and those of its rules, and how routes
+/// lead to these.
 #[derive(Drop)]
 pub(crate) struct KeptMessage {
     pub name: String,
+    pub home: String,
     pub table: Table,
     pub routing: Routing,
 }

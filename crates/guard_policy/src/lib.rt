@@ -24,7 +24,7 @@
 //! | What is a policy built on? | `types.rt`, `guard_der::named_types` | `specs/Entries.antt` |
 //! | Which policy does the text say? | `load.rt` (`Policy::load`) | `specs/Loads.antt` |
 //! | Why is a text none? | `messages.rt`, `rules.rt`, `tables.rt` | `specs/Entries.antt`, `specs/EntryFaults.antt` |
-//! | What is borrowed while a text is read? | `said.rt`, `seen.rt` | `specs/inside/Said.antt` |
+//! | What is borrowed of a message, and while a text is read? | `said.rt`, `seen.rt` | `specs/SaidView.antt`, `specs/inside/Said.antt` |
 #![tactic(auto)]
 
 mod asked;
@@ -63,4 +63,5 @@ pub use guard_der::named_types::Types;
 pub use last_route::LastRoute;
 pub use policy::{Effect, Policy, SaidRule};
 pub use route::{Route, is_anyone, is_name};
+pub use said::SaidMessage;
 pub use verdict::Verdict;

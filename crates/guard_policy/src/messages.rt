@@ -6,7 +6,8 @@ ghost use Rattle.toml.specs.View.{table_view};
 ghost use Rattle.guard_policy.specs.inside.Answers.{Meets, tables_view};
 ghost use Rattle.guard_policy.specs.Entries.{message_in, those_there};
 ghost use Rattle.guard_policy.specs.EntryFaults.{message_fault, entries_fault};
-ghost use Rattle.guard_policy.specs.inside.Said.{said_message_view, names_in};
+ghost use Rattle.guard_policy.specs.SaidView.{said_message_view};
+ghost use Rattle.guard_policy.specs.inside.Said.{names_in};
 
 use super::document::{check_entry, text_of};
 use super::entry::{Entry, Key};
@@ -66,6 +67,7 @@ fn message_of<'a, S: Types>(
     if has_name(before, name) {
         return Err(PolicyFault::DuplicateName(entry));
     }
+    let home = text_of(table, Key::Module);
     let ty = type_named(schema, entry, table)?;
-    Ok(SaidMessage { name, ty })
+    Ok(SaidMessage { name, home, ty })
 }

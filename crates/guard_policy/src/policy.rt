@@ -5,8 +5,7 @@ ghost use Rattle.guard_der.specs.Sound.{is_sound};
 ghost use Rattle.guard_policy.specs.inside.Answers.{Meets};
 ghost use Rattle.guard_policy.specs.inside.Keeping.{AreDeclared};
 ghost use Rattle.guard_policy.specs.EntryFaults.{tables_fault};
-ghost use Rattle.guard_policy.specs.SaidView.{said_view};
-ghost use Rattle.guard_policy.specs.inside.Said.{said_message_view};
+ghost use Rattle.guard_policy.specs.SaidView.{said_message_view, said_view};
 ghost use Rattle.guard_policy.specs.inside.KeptRules.{messages_kept, rules_kept};
 
 use super::fault::PolicyFault;
@@ -54,8 +53,8 @@ impl Policy {
     ghost use Rattle.guard_policy.specs.EntryFaults.{tables_fault};
     ghost use Rattle.std.specs.Prelude.{slice_get};
     ghost use Rattle.guard_policy.specs.PolicyView.{policy_view};
-    ghost use Rattle.guard_policy.specs.SaidView.{said_view};
-    ghost use Rattle.guard_policy.specs.Policies.{declared_type, message_name_of, rule_name_of, module_name};
+    ghost use Rattle.guard_policy.specs.SaidView.{said_message_view, said_view};
+    ghost use Rattle.guard_policy.specs.Policies.{declared_message, declared_type, message_name_of, rule_name_of, module_name};
     ghost use Rattle.guard_policy.specs.inside.Listings.{numbers_for};
     ghost use Rattle.guard_policy.specs.inside.Keeping.{AreDeclared, IsFirst};
     ghost use Rattle.guard_tables.specs.TableView.{declared_of};
@@ -117,6 +116,19 @@ impl Policy {
         ensures { option_map (λ name. name.now) result ≡ rule_name_of (policy_view self.now) rule }
     {
         Some(self.kept.rules.get(rule)?.name.as_str())
+    }
+
+    /// The message of this name. Its type is sound.
+    pub fn message(&self, name: &[u8]) -> Option<SaidMessage<'_>>
+        ensures declared { option_map said_message_view result ≡ declared_message (policy_view self.now) name.now }
+        ensures sound { IfSome result (λ m. IsTrue (is_sound (type_view m.ty.now))) }
+    {
+        let (kept, _) = self.found(name)?;
+        Some(SaidMessage {
+            name: &kept.name,
+            home: &kept.home,
+            ty: kept.table.declared(),
+        })
     }
 
     /// The declared type of the message of this name.

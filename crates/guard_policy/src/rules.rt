@@ -8,9 +8,9 @@ ghost use Rattle.guard_policy.specs.inside.Answers.{Meets, tables_view};
 ghost use Rattle.guard_policy.specs.Entries.{rule_in, rule_of as rule_said, effect_named, those_there};
 ghost use Rattle.guard_policy.specs.EntryFaults.{rule_fault, entries_fault, has_names};
 ghost use Rattle.guard_policy.specs.Policies.{message_names};
-ghost use Rattle.guard_policy.specs.SaidView.{said_view};
+ghost use Rattle.guard_policy.specs.SaidView.{said_message_view, said_view};
 ghost use Rattle.guard_policy.specs.inside.Keeping.{AreDeclared};
-ghost use Rattle.guard_policy.specs.inside.Said.{said_message_view, names_in};
+ghost use Rattle.guard_policy.specs.inside.Said.{names_in};
 
 use super::document::{check_entry, text_of};
 use super::entry::{Entry, Key};

@@ -1,9 +1,10 @@
 //! Messages whose names and types lie elsewhere.
 use guard_model::Ty;
 
-/// A message, its name and its declared type borrowed.
+/// A message of a policy, as it says it: its name, and its declared type with the name of the module that assigns it.
 #[derive(Clone, Copy)]
-pub(crate) struct SaidMessage<'a> {
+pub struct SaidMessage<'a> {
     pub name: &'a str,
+    pub home: &'a str,
     pub ty: &'a Ty,
 }

@@ -2,7 +2,8 @@
 ghost use Rattle.std.specs.Prelude.{◌≡◌, map, bytes_eq, IfOk};
 ghost use Rattle.std.specs.List.{list_any};
 ghost use Rattle.guard_policy.specs.Policies.{message_names};
-ghost use Rattle.guard_policy.specs.inside.Said.{HaveSame, names_in, said_message_view};
+ghost use Rattle.guard_policy.specs.SaidView.{said_message_view};
+ghost use Rattle.guard_policy.specs.inside.Said.{HaveSame, names_in};
 
 use super::said::SaidMessage;
 use indexmap::IndexSet;

@@ -9,8 +9,8 @@ ghost use Rattle.guard_policy.specs.inside.Keeping.{tabled_view, tabled};
 ghost use Rattle.guard_policy.specs.inside.Routing.{rules_named, IsRouted};
 ghost use Rattle.guard_policy.specs.EntryFaults.{tables_fault};
 ghost use Rattle.guard_policy.specs.Consistency.{types_for};
-ghost use Rattle.guard_policy.specs.SaidView.{said_view};
-ghost use Rattle.guard_policy.specs.inside.Said.{said_message_view, rules_view};
+ghost use Rattle.guard_policy.specs.SaidView.{said_message_view, said_view};
+ghost use Rattle.guard_policy.specs.inside.Said.{rules_view};
 ghost use Rattle.guard_policy.specs.PolicyFaults.{bad_table};
 
 use super::fault::PolicyFault;
@@ -83,8 +83,10 @@ fn keep_table(
     let named = rules_named(alloc, message.name, rules)?;
     let routing = Routing::of(alloc, &named)?;
     let name = String::from_str(alloc, message.name)?;
+    let home = String::from_str(alloc, message.home)?;
     Ok(KeptMessage {
         name,
+        home,
         table,
         routing,
     })

@@ -14,3 +14,5 @@ pub mod Sound
 pub mod Throughout
 -- ---- the schema
 pub mod ByNames
+-- ---- values that stand alone
+pub mod Alone

@@ -2,3 +2,4 @@
 pub mod Lexed
 pub mod Texts
 pub mod Names
+pub mod Parts

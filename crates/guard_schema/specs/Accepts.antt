@@ -8,7 +8,7 @@ use Rattle.guard_names.specs.Faults.{AreFaultless, IsFirstFault}
 use Rattle.guard_schema.specs.Outcomes.{Is, Then}
 use Rattle.guard_schema.specs.Faults.{AbstractFault, Name, Outcome}
 use Rattle.guard_schema.specs.Texts.{ReadsTexts, CountsTexts}
-use Rattle.guard_schema.specs.Known.{none_known}
+use Rattle.guard_schema.specs.Known.{Known, none_known}
 use Rattle.guard_schema.specs.Building.{BuildsAll}
 use Rattle.guard_schema.specs.Schemas.{AbstractSchema, schema_of}
 
@@ -19,16 +19,27 @@ OrdersNames ms (Ok order) = AreFaultless ms × IsOrder (length (definitions ms))
 OrdersNames ms (Err (Name f)) = IsFirstFault ms f
 OrdersNames ms (Err _) = ⊥
 
--- What texts denote, or their first fault, in the order of looking: how many texts there are; each text in turn, its
--- tokens and its tree; the names of all modules; and each definition after those that it uses. The types get their
--- names in the end.
-abbrev pub Denotes : List (List ℕ) → Outcome AbstractSchema → Type 0
-Denotes texts =
-    Then (CountsTexts texts) (λ _.
-    Then (ReadsTexts [] texts) (λ modules.
+-- The modules that texts are, or their first fault: how many texts there are; and each text in turn, its tokens and its
+-- tree.
+abbrev pub ReadsModules : List (List ℕ) → Outcome (List WrittenModule) → Type 0
+ReadsModules texts = Then (CountsTexts texts) (λ _. ReadsTexts [] texts)
+
+-- What is known of all definitions in modules, or the first fault: the names of all modules; and each definition after
+-- those that it uses.
+abbrev pub KnowsModules : List WrittenModule → Outcome Known → Type 0
+KnowsModules modules =
     Then (OrdersNames modules) (λ order.
     Then (BuildsAll (none_known modules order) order) (λ built.
-    Is (schema_of (record { modules = modules; order = order; built = built }))))))
+    Is (record { modules = modules; order = order; built = built })))
+
+-- of those in texts
+abbrev pub Knows : List (List ℕ) → Outcome Known → Type 0
+Knows texts = Then (ReadsModules texts) KnowsModules
+
+-- What texts denote, or their first fault: what is known of their definitions, of which the types get their names in
+-- the end.
+abbrev pub Denotes : List (List ℕ) → Outcome AbstractSchema → Type 0
+Denotes texts = Then (Knows texts) (λ k. Is (schema_of k))
 
 -- The texts denote the schema.
 abbrev pub Accepts : List (List ℕ) → AbstractSchema → Type 0

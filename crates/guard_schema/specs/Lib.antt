@@ -15,6 +15,7 @@ pub mod Unfinished
 pub mod FinishedSound
 pub mod EachType
 -- what the values of the code mean
+pub mod Pairs
 pub mod Entries
 pub mod Views
 -- ---- what only private contracts and proofs cite

@@ -1,5 +1,5 @@
 -- The modules that texts are.
-use Rattle.std.specs.Prelude.{ℕ, suc, List, [], ◌∷◌, ◌++◌, length, Ok, Err, nat_le}
+use Rattle.std.specs.Prelude.{ℕ, suc, ◌≤◌, List, [], ◌∷◌, ◌++◌, length, All, IsUtf8, Ok, Err, nat_le}
 use Rattle.guard_lexer.specs.declared.token.Token.{Token}
 use Rattle.guard_lexer.specs.Lexing.{Lexes, FirstFault, fault_named}
 use Rattle.guard_syntax.specs.declared.fault.SyntaxFault.{SyntaxFault}
@@ -9,6 +9,7 @@ use Rattle.guard_syntax.specs.Parses.{IsWritten, HasSites}
 use Rattle.guard_syntax.specs.Faults.{NamesToken, fault_of}
 use Rattle.guard_names.specs.declared.fault.NameFault.TheVariants.{TooManyModules}
 use Rattle.guard_names.specs.Faults.{most_modules}
+use Rattle.guard_tagging.specs.Spelled.{IsSpelledModule}
 use Rattle.guard_schema.specs.Outcomes.{Is, Passes, Then}
 use Rattle.guard_schema.specs.Faults.{Lex, Syntax, Name, Outcome, IsNamed}
 
@@ -43,3 +44,10 @@ ReadsTexts before (text ∷ texts) = Then (ReadsText (suc (length before)) text)
 -- N7: there are 64 at most, which is looked for before any text is read
 abbrev pub CountsTexts : List (List ℕ) → Outcome (Unit {0}) → Type 0
 CountsTexts texts = Passes (nat_le (length texts) most_modules) (Name TooManyModules)
+
+-- What holds of modules that texts are: there are 64 at most, their names are UTF-8, and the names and numbers in their
+-- types are those of tokens.
+pub record AreOfTexts (modules : List WrittenModule) : Type 0 where
+  pub few : length modules ≤ most_modules
+  pub named : All (λ m. IsUtf8 m.name) modules
+  pub spelled : All IsSpelledModule modules

@@ -12,10 +12,11 @@ use Rattle.guard_schema.specs.declared.progress.Progress.{Progress}
 use Rattle.guard_schema.specs.declared.progress.Definition as code_definition
 use Rattle.guard_schema.specs.declared.schema.Schema.{Schema}
 use Rattle.guard_schema.specs.declared.build.NamedDefinition.{NamedDefinition}
+use Rattle.guard_schema.specs.declared.built_modules.BuiltModules.{BuiltModules}
 use Rattle.guard_schema.specs.declared.index.TypeIndex.{TypeIndex}
 use Rattle.guard_schema.specs.declared.finishing.Filling as code_filling
 use Rattle.guard_schema.specs.Known.{Built, Known}
-use Rattle.guard_schema.specs.inside.Pairs.{built_view, paired}
+use Rattle.guard_schema.specs.Pairs.{built_view, paired}
 use Rattle.guard_schema.specs.inside.InTurn.{Filling}
 use Rattle.guard_names.specs.Places as places
 use Rattle.guard_schema.specs.Entries.{Entry, looked_up, unvalued}
@@ -62,5 +63,13 @@ type_place order values number = unvalued_at values (places.place_in order numbe
 abbrev pub schema_view : Schema → AbstractSchema
 schema_view s = record {
   modules = map string_bytes s.modules.items;
-  types = λ home name. option_map type_view (option_and_then (slice_get s.types.items) (place_in s.index home name));
+  types = λ home name. option_map type_view (option_and_then (slice_get s.known.types.items) (place_in s.index home name));
+}
+
+-- what is known of modules that are built
+abbrev pub known_of : BuiltModules → Known
+known_of b = record {
+  modules = modules_of b.names;
+  order = order_of b.names;
+  built = paired b.schema.known.types.items b.schema.known.values.items;
 }

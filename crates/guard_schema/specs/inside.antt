@@ -1,4 +1,4 @@
 -- What only private contracts and proofs cite.
-pub mod Pairs
 pub mod Ready
 pub mod InTurn
+pub mod InModules

@@ -11,17 +11,15 @@ ghost use Rattle.guard_schema.specs.Outcomes.{Answers};
 ghost use Rattle.guard_schema.specs.Schemas as schemas;
 ghost use Rattle.guard_schema.specs.Views.{entry_view, found_in, type_place, schema_view, known_view};
 
-use crate::definitions::all_built;
+use crate::built_modules::BuiltModules;
 use crate::fault::SchemaFault;
 use crate::index::TypeIndex;
-use crate::names::name_text;
 use crate::progress::Progress;
 use crate::schema::Schema;
-use crate::texts::{check_count, modules};
+use crate::texts::read_modules;
 use guard_model::Value;
-use guard_names::{Id, Names, resolve};
+use guard_names::{Id, Names};
 use guard_syntax::Module;
-use guard_values::Known;
 use std::alloc::{AllocError, Global};
 use std::sync::Arc;
 
@@ -39,38 +37,42 @@ pub struct NamedDefinition<'a> {
 pub fn schema_of(alloc: Global, texts: &[&[u8]]) -> Result<Schema, SchemaFault>
     ensures { Answers schema_view named result (Denotes (map (λ t. t.now) texts.now)) }
 {
-    check_count(texts)?;
-    let modules = modules(alloc, texts)?;
-    let names = resolve(alloc, &modules)?;
-    let progress = all_built(alloc, &names)?;
-    Ok(with_names(alloc, &modules, progress)?)
+    let modules = read_modules(alloc, texts)?;
+    let built = BuiltModules::of(alloc, &modules)?;
+    let BuiltModules { schema, .. } = built;
+    Ok(schema)
 }
 
-/// The types by their names. They move.
-fn with_names(alloc: Global, modules: &[Module], progress: Progress) -> Result<Schema, AllocError>
+/// The types by their names. What is built moves.
+pub fn with_names(
+    alloc: Global,
+    modules: &[Module],
+    progress: Progress,
+) -> Result<Schema, AllocError>
     requires modules { modules_of progress.names.now ≡ map module_view modules.now }
     requires texts { All (λ m. IsUtf8 m.name) (map module_view modules.now) }
     requires few { length (map module_view modules.now) ≤ 64 }
-    ensures { IfOk result (λ s. schema_view s ≡ schemas.schema_of (known_view progress.entry)) }
+    ensures named { IfOk result (λ s. schema_view s ≡ schemas.schema_of (known_view progress.entry)) }
+    ensures kept { IfOk result (λ s. s.known ≡ progress.entry.known) }
 {
     let Progress { names, known, .. } = progress;
-    let Known { types, values } = known;
-    let index = index_of(alloc, names, &values, modules)?;
+    let index = index_of(alloc, names, &known.values, modules)?;
     let modules = module_names(alloc, modules)?;
     Ok(Schema {
         modules,
         index,
-        types,
+        known,
     })
 }
 
+/// The names of modules as texts. They are letters, digits and hyphens, of which nothing is lost.
 fn module_names(alloc: Global, modules: &[Module]) -> Result<Vec<String>, AllocError>
     requires { All (λ m. IsUtf8 m.name) (map module_view modules.now) }
     ensures { IfOk result (λ v. map string_bytes v.items ≡ map (λ m. m.name) (map module_view modules.now)) }
 {
     let mut names = Vec::with_capacity(alloc, modules.len())?;
     for module in modules {
-        names.push(name_text(alloc, module.name)?)?;
+        names.push(String::from_utf8_lossy(alloc, module.name)?)?;
     }
     Ok(names)
 }

@@ -14,7 +14,7 @@ ghost use Rattle.guard_schema.specs.Finishing.{with_constraint, AddsOne, Adds, S
 ghost use Rattle.guard_schema.specs.LongValues.{first_long};
 ghost use Rattle.guard_schema.specs.Readings.{HasShortValues};
 ghost use Rattle.guard_schema.specs.inside.InTurn.{ConstrainsWritten};
-ghost use Rattle.guard_schema.specs.inside.Pairs.{AreBuilt};
+ghost use Rattle.guard_schema.specs.Pairs.{AreBuilt};
 ghost use Rattle.guard_schema.specs.inside.Ready.{IsPart, IsWrittenPart};
 ghost use Rattle.guard_schema.specs.Outcomes.{Answers, Is, Then};
 ghost use Rattle.guard_schema.specs.Views.{before_view};

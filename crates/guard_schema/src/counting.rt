@@ -5,7 +5,7 @@ ghost use Rattle.guard_model.specs.TypeView as model;
 ghost use Rattle.guard_model.specs.ValueView.{value_view, field_view};
 ghost use Rattle.guard_model.specs.AbstractValue.{fields_of, items_of};
 ghost use Rattle.guard_schema.specs.Counting as counting;
-ghost use Rattle.guard_schema.specs.inside.Pairs.{built_view};
+ghost use Rattle.guard_schema.specs.Pairs.{built_view};
 
 use guard_model::{Comp, Cons, Kind, Part, Presence, Rule, Ty, Value};
 use guard_tagging::nodes;

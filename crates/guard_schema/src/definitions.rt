@@ -20,7 +20,7 @@ ghost use Rattle.guard_schema.specs.Counting.{held_by, most_held};
 ghost use Rattle.guard_schema.specs.Faults.{named};
 ghost use Rattle.guard_schema.specs.Known.{none_known};
 ghost use Rattle.guard_schema.specs.Outcomes.{Answers};
-ghost use Rattle.guard_schema.specs.inside.Pairs.{built_view, AreBuilt};
+ghost use Rattle.guard_schema.specs.Pairs.{built_view, AreBuilt};
 ghost use Rattle.guard_schema.specs.Views.{built_in, definition_view, known_view};
 
 use crate::counting::held_by;

@@ -16,7 +16,7 @@ ghost use Rattle.guard_schema.specs.Faults.{named};
 ghost use Rattle.guard_schema.specs.Finishing as finishing;
 ghost use Rattle.guard_schema.specs.inside.InTurn as in_turn;
 ghost use Rattle.guard_schema.specs.inside.Ready as ready;
-ghost use Rattle.guard_schema.specs.inside.Pairs.{AreBuilt};
+ghost use Rattle.guard_schema.specs.Pairs.{AreBuilt};
 ghost use Rattle.guard_schema.specs.Outcomes.{Answers, Is};
 ghost use Rattle.guard_schema.specs.Views.{filling_view};
 

@@ -1,9 +1,12 @@
 //! Laws of schemas, over the definitions alone. Each is carried by a function that does nothing when it runs.
-ghost use Rattle.std.specs.Prelude.{map};
-ghost use Rattle.guard_schema.specs.Accepts.{Denotes};
+ghost use Rattle.std.specs.Prelude.{◌≡◌, ℕ, List, Some, map};
+ghost use Rattle.guard_model.specs.AbstractType.{AbstractType};
+ghost use Rattle.guard_schema.specs.Accepts.{Denotes, Knows};
 ghost use Rattle.guard_schema.specs.EachType.{HaveTheirTypes};
 ghost use Rattle.guard_schema.specs.FinishedSound.{AreSound};
+ghost use Rattle.guard_schema.specs.Known.{Known, values_in, visible};
 ghost use Rattle.guard_schema.specs.OneAnswer.{IsDecided};
+ghost use Rattle.guard_schema.specs.Schemas.{schema_of};
 ghost use Rattle.guard_schema.specs.Unfinished.{IsBareAgain, IsTaggedAgain};
 
 use guard_constraints::laws::{law_one_constraint, law_one_fault};
@@ -16,6 +19,21 @@ pub fn law_one_schema(texts: &[&[u8]])
     law_one_constraint();
     law_one_fault();
 }
+
+/// Of the definitions in texts one thing is known at most, and where it is the texts have no fault; of their first fault
+/// there is one, as `law_one_schema` says. So a name has one meaning in a value that stands alone.
+pub fn law_one_known(texts: &[&[u8]])
+    ensures { IsDecided (Knows (map (λ t. t.now) texts.now)) }
+{
+    law_one_constraint();
+    law_one_fault();
+}
+
+/// In a value that stands alone, names mean what they mean in the module, where that has a type of the schema.
+pub fn law_values_in()
+    ensures { (k : Known) (home name : List ℕ) (t : AbstractType) → (schema_of k).types home name ≡ Some t
+        → values_in k home ≡ (visible k home).values }
+{}
 
 /// A finished type is what tags and parts make of its tree, and besides only what its tree fills in: without the
 /// constraints that are written in the tree, and with its defaults not known again, it is the bare type again, and of a

@@ -4,7 +4,8 @@
 //! |---|---|---|
 //! | Which texts denote which schema, and which types has it? | `schema.rt` (`Schema`) | `specs/Accepts.antt`, `specs/Schemas.antt` |
 //! | Which faults are there, and which comes first? | `fault.rt` | `specs/Faults.antt`, `specs/Accepts.antt` (`Denotes`), `specs/Outcomes.antt` |
-//! | Which module is a text? | `texts.rt` | `specs/Texts.antt` |
+//! | Which module is a text? | `texts.rt` (`read_modules`) | `specs/Texts.antt`, `specs/Accepts.antt` (`ReadsModules`) |
+//! | What is known of modules, and which value does a tree denote as if it were written in one of them? | `built_modules.rt` (`BuiltModules`) | `specs/Accepts.antt` (`KnowsModules`), `specs/Known.antt` (`values_in`) |
 //! | What is known where a definition is built? | `progress.rt`; where something is written: `Scope` of `guard_values` | `specs/Known.antt`, `specs/Views.antt` |
 //! | What does a definition denote, each in turn? | `definitions.rt` | `specs/Building.antt` |
 //! | Which constraints and defaults are filled into a type? | `finishing.rt`, `constraints.rt` | `specs/Finishing.antt` |
@@ -12,12 +13,13 @@
 //! | Which value is too long under the tags of a reference, and is a finished type sound? | `long_values.rt`, `laws.rt` | `specs/LongValues.antt`, `specs/FinishedSound.antt` |
 //! | By what are types found? | `index.rt` (`TypeIndex`), `build.rt` | `specs/Entries.antt`, `specs/Views.antt` |
 //! | How much may a schema hold? | `counting.rt` | `specs/Counting.antt` |
-//! | Is there one schema, or one fault? | `laws.rt` | `specs/OneAnswer.antt` |
+//! | Is there one schema, one thing known, or one fault? | `laws.rt` | `specs/OneAnswer.antt` |
 //! | Is each type of a schema what its tree says, with its constraints and defaults filled in? | `laws.rt` | `specs/EachType.antt`, `specs/Unfinished.antt` |
 //! | How does the code fill a type, component by component, and what does it know of it before? | `finishing.rt` | `specs/inside/InTurn.antt`, `specs/inside/Ready.antt` (private) |
 #![tactic(auto)]
 
 mod build;
+mod built_modules;
 mod constraints;
 mod counting;
 mod definitions;
@@ -26,11 +28,12 @@ mod finishing;
 mod index;
 pub mod laws;
 mod long_values;
-mod names;
 mod progress;
 mod readings;
 mod schema;
 mod texts;
 
+pub use built_modules::BuiltModules;
 pub use fault::SchemaFault;
 pub use schema::Schema;
+pub use texts::read_modules;

@@ -7,7 +7,7 @@ ghost use Rattle.guard_model.specs.TypeView.{type_view};
 ghost use Rattle.guard_tagging.specs.Surroundings.{nodes_of_all};
 ghost use Rattle.guard_tagging.specs.Faults as tagging;
 ghost use Rattle.guard_schema.specs.Counting.{all_held, held_by, most_held};
-ghost use Rattle.guard_schema.specs.inside.Pairs.{paired};
+ghost use Rattle.guard_schema.specs.Pairs.{paired};
 
 use guard_model::{Ty, Value};
 use guard_names::Names;

@@ -8,7 +8,7 @@ ghost use Rattle.guard_syntax.specs.Views as values;
 ghost use Rattle.guard_values.specs.Views.{shared_view};
 ghost use Rattle.guard_constraints.specs.Views.{visible_in};
 ghost use Rattle.guard_schema.specs.Faults.{named};
-ghost use Rattle.guard_schema.specs.inside.Pairs.{AreBuilt};
+ghost use Rattle.guard_schema.specs.Pairs.{AreBuilt};
 ghost use Rattle.guard_schema.specs.Outcomes.{Answers};
 ghost use Rattle.guard_schema.specs.Readings.{ReadsValue, ReadsMember, ReadsConstraint};
 

@@ -1,8 +1,10 @@
 //! Schemas.
-ghost use Rattle.std.specs.Prelude.{◌≡◌, ◌≤◌, All, IsTrue, length, map, option_map, slice_get, string_bytes};
+ghost use Rattle.std.specs.Prelude.{◌≡◌, ◌≤◌, All, IsTrue, IfSome, length, map, option_map, slice_get, string_bytes};
 ghost use Rattle.std.proofs.Props.{props};
+ghost use Rattle.guard_der.specs.Fits.{fits};
 ghost use Rattle.guard_der.specs.Sound.{is_sound};
 ghost use Rattle.guard_model.specs.TypeView as model;
+ghost use Rattle.guard_schema.specs.Pairs.{paired};
 
 use crate::build::schema_of;
 use crate::fault::SchemaFault;
@@ -10,6 +12,7 @@ use crate::index::TypeIndex;
 use crate::laws::law_one_schema;
 use guard_der::named_types::Types;
 use guard_model::Ty;
+use guard_values::Known;
 use std::alloc::Global;
 
 /// What the texts of modules denote: the names of the modules, in the order of the texts, of which there are 64 at most,
@@ -18,13 +21,15 @@ use std::alloc::Global;
 pub struct Schema {
     pub(crate) modules: Vec<String>,
     pub(crate) index: TypeIndex,
-    pub(crate) types: Vec<Ty>,
-    pub ghost sound: { All (λ t. IsTrue (is_sound (model.type_view t))) types.items } by { Prim.hlevel props },
+    /// What each definition is built to, by the order of definitions.
+    pub(crate) known: Known,
+    pub ghost sound: { All (λ t. IsTrue (is_sound (model.type_view t))) known.types.items } by { Prim.hlevel props },
+    pub ghost fitting: { All (λ b. IfSome b.value (λ v. IsTrue (fits b.ty v))) (paired known.types.items known.values.items) } by { Prim.hlevel props },
     pub ghost few: { length (map string_bytes modules.items) ≤ 64 },
 }
 
 impl Schema {
-    ghost use Rattle.std.specs.Prelude.{IfOk, IfErr, IfSome, Ok, List, ℕ};
+    ghost use Rattle.std.specs.Prelude.{IfOk, IfErr, Ok, List, ℕ};
     ghost use Rattle.guard_model.specs.Answer.{Gives};
     ghost use Rattle.guard_schema.specs.Faults.{named};
     ghost use Rattle.guard_schema.specs.Views.{schema_view};
@@ -63,7 +68,7 @@ impl Schema {
         ensures sound { IfSome result (λ ty. IsTrue (is_sound (model.type_view ty.now))) }
     {
         let place = self.index.find(module_name.as_bytes(), name.as_bytes())?;
-        self.types.get(place)
+        self.known.types.get(place)
     }
 
     /// The name of the module at this place of the list of texts, from 1.

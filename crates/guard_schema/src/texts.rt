@@ -3,7 +3,8 @@ ghost use Rattle.std.specs.Prelude.{◌≤◌, [], All, IfOk, IsUtf8, map, lengt
 ghost use Rattle.guard_tagging.specs.Spelled.{IsSpelledModule};
 ghost use Rattle.guard_schema.specs.Faults.{named};
 ghost use Rattle.guard_schema.specs.Outcomes.{Answers};
-ghost use Rattle.guard_schema.specs.Texts.{ReadsText, ReadsTexts, CountsTexts};
+ghost use Rattle.guard_schema.specs.Accepts.{ReadsModules};
+ghost use Rattle.guard_schema.specs.Texts.{AreOfTexts, ReadsText, ReadsTexts, CountsTexts};
 ghost use Rattle.guard_syntax.specs.ModuleViews.{module_view};
 
 use crate::fault::SchemaFault;
@@ -12,8 +13,19 @@ use guard_syntax::Module;
 use guard_tagging::laws::law_spelled;
 use std::alloc::Global;
 
+/// The modules of texts. More than 64 texts are refused before any is read (N7); then each is read whole before the next
+/// one, its tokens (L1 to L7) and how they follow one another (P1 to P3).
+pub fn read_modules<'a>(alloc: Global, texts: &[&'a [u8]]) -> Result<Vec<Module<'a>>, SchemaFault>
+    // What is answered is what the texts are, or a refusal names their first fault.
+    ensures read { Answers (λ v. map module_view v.items) named result (ReadsModules (map (λ t. t.now) texts.now)) }
+    ensures kept { IfOk result (λ v. AreOfTexts (map module_view v.items)) }
+{
+    check_count(texts)?;
+    modules(alloc, texts)
+}
+
 /// More than 64 texts are refused before any is read.
-pub fn check_count(texts: &[&[u8]]) -> Result<(), SchemaFault>
+fn check_count(texts: &[&[u8]]) -> Result<(), SchemaFault>
     ensures { Answers (λ u. u) named result (CountsTexts (map (λ t. t.now) texts.now)) }
 {
     if texts.len() > MOST_MODULES {
@@ -23,7 +35,7 @@ pub fn check_count(texts: &[&[u8]]) -> Result<(), SchemaFault>
 }
 
 /// The modules of texts, each read whole before the next one.
-pub fn modules<'a>(alloc: Global, texts: &[&'a [u8]]) -> Result<Vec<Module<'a>>, SchemaFault>
+fn modules<'a>(alloc: Global, texts: &[&'a [u8]]) -> Result<Vec<Module<'a>>, SchemaFault>
     requires { length texts.now ≤ 64 }
     ensures read { Answers (λ v. map module_view v.items) named result (ReadsTexts [] (map (λ t. t.now) texts.now)) }
     ensures spelled { IfOk result (λ v. All IsSpelledModule (map module_view v.items)) }

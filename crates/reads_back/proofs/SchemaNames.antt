@@ -25,6 +25,7 @@ use Rattle.guard_schema.specs.Known.{IsSoundBuilt}
 use Rattle.guard_schema.specs.Schemas.{AbstractSchema, number_assigned, type_unless, assigned_type, schema_of}
 use Rattle.guard_schema.specs.Texts.{ReadsTexts}
 use Rattle.guard_schema.specs.Unfinished.{IsTaggedAgain}
+use Rattle.guard_schema.proofs.Modules.Parts.{parts}
 use Rattle.reads_back.specs.Names.{HasNames}
 use Rattle.reads_back.proofs.WrittenNames.{IsNamed, AreNamedAssignments, IsNamedModule, module_named}
 use Rattle.reads_back.proofs.NamesAlone.{stripped, each_joined, has_names}
@@ -151,20 +152,14 @@ each_type P k h home name =
 
 pub schema_has_names : IsTaggedAgain → (texts : List (List ℕ)) (s : AbstractSchema) → Accepts texts s
     → (home name : List ℕ) → IfSome (s.types home name) HasNames
-schema_has_names again texts s (inl (c, counted, inl (ms, read, inl (order, ordered, inl (built, builds, e))))) home
-    name =
-    let whole : Known = record { modules = ms; order = order; built = built } in
-    let same : s ≡ schema_of whole = same_Ok s (schema_of whole) e in
-    let named = each_named again order (none_known ms order) built (all_named ms (modules_read ms texts [] tt read)) tt
-    builds in
-    subst (λ (x : AbstractSchema). IfSome (x.types home name) HasNames) (sym same)
+schema_has_names again texts s a home name =
+    let p = parts texts s a in
+    let whole : Known = record { modules = p.modules; order = p.order; built = p.built } in
+    let named = each_named again p.order (none_known p.modules p.order) p.built
+    (all_named p.modules (modules_read p.modules texts [] tt p.read)) tt p.builds in
+    subst (λ (x : AbstractSchema). IfSome (x.types home name) HasNames) (sym p.schema)
     (IfSome_then ((schema_of whole).types home name) (each_type HasNamesAlone whole named home name)
     (λ t h. has_names t h))
-schema_has_names again texts s (inl (c, counted, inl (ms, read, inl (order, ordered, inr (f, builds, e))))) home name =
-    absurd cc
-schema_has_names again texts s (inl (c, counted, inl (ms, read, inr (f, ordered, e)))) home name = absurd cc
-schema_has_names again texts s (inl (c, counted, inr (f, read, e))) home name = absurd cc
-schema_has_names again texts s (inr (f, counted, e)) home name = absurd cc
 
 -- ---- and each is sound
 

@@ -11,17 +11,18 @@ use Rattle.guard_policy.specs.KeptView.{kept_message_view}
 use Rattle.guard_policy.specs.inside.Listings.{AbstractListed, place_among}
 use Rattle.guard_policy.specs.Policies.{AbstractMessage, AbstractRule, message_names}
 
--- a name, and the types of a table
+-- a name and that of a module, and the types of a table
 pub record Tabled : Type 0 where
   pub name : List ℕ
+  pub home : List ℕ
   pub types : List AbstractType
 
 abbrev pub tabled_view : KeptMessage → Tabled
-tabled_view m = record { name = string_bytes m.name; types = table_types m.table }
+tabled_view m = record { name = string_bytes m.name; home = string_bytes m.home; types = table_types m.table }
 
 -- the message with the table of its type and those of its rules
 abbrev pub tabled : List AbstractRule → AbstractMessage → Tabled
-tabled rules m = record { name = m.name; types = m.ty ∷ types_for m.name rules }
+tabled rules m = record { name = m.name; home = m.home; types = m.ty ∷ types_for m.name rules }
 
 -- the message that each rule speaks of is among these
 abbrev pub AreDeclared : List AbstractMessage → List AbstractRule → Type 0

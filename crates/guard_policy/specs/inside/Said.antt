@@ -1,16 +1,11 @@
--- Messages and rules whose texts and types are borrowed, and the names that were seen so far.
+-- Rules whose texts and types are borrowed, and the names that were seen so far.
 use Rattle.std.specs.Prelude.{◌≡◌, ℕ, List, map, bytes_eq}
 use Rattle.std.specs.Borrow.{Bor}
 use Rattle.std.specs.List.{list_any}
 use Rattle.indexmap.specs.IndexSet.{IndexSet}
-use Rattle.guard_model.specs.TypeView.{type_view}
 use Rattle.guard_policy.specs.declared.policy.SaidRule.{SaidRule}
-use Rattle.guard_policy.specs.declared.said.SaidMessage.{SaidMessage}
-use Rattle.guard_policy.specs.Policies.{AbstractMessage, AbstractRule}
+use Rattle.guard_policy.specs.Policies.{AbstractRule}
 use Rattle.guard_policy.specs.SaidView.{said_view}
-
-abbrev pub said_message_view : SaidMessage → AbstractMessage
-said_message_view m = record { name = m.name.now; ty = type_view m.ty.now }
 
 abbrev pub rules_view : List (Bor SaidRule) → List AbstractRule
 rules_view rules = map (λ r. said_view r.now) rules

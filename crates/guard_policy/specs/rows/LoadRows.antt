@@ -82,7 +82,7 @@ pub faultless : document_fault orders (document (order ∷ []) (small ∷ [])) �
 faultless = refl
 
 pub said : policy_in orders (document (order ∷ []) (small ∷ [])) ≡ record {
-  messages = record { name = codes "order"; ty = integer } ∷ [];
+  messages = record { name = codes "order"; home = codes "Orders"; ty = integer } ∷ [];
   rules = record {
     name = codes "small";
     effect = Allow;

@@ -37,7 +37,7 @@ use Rattle.guard_schema.specs.Counting.{all_held}
 use Rattle.guard_syntax.specs.Trees.{WrittenAssignment}
 use Rattle.guard_der.specs.Sound.{is_sound}
 use Rattle.guard_schema.specs.Finishing.{Finishes}
-use Rattle.guard_schema.specs.inside.Pairs.{paired}
+use Rattle.guard_schema.specs.Pairs.{paired}
 use Rattle.guard_schema.specs.Views.{built_in, known_view, definition_view}
 use Rattle.guard_schema.proofs.Turns.Outcomes.{led}
 use Rattle.guard_schema.specs.inside.Ready.{IsReady}

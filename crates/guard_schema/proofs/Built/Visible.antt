@@ -19,12 +19,13 @@ use Rattle.guard_names.specs.Meanings.{number_meant}
 use Rattle.guard_names.specs.Places.{place_in, place_meant}
 use Rattle.guard_names.specs.NamesView.{modules_of}
 use Rattle.guard_values.specs.Meanings.{Meaning}
+use Rattle.guard_values.specs.declared.scope.Known as code
 use Rattle.guard_values.specs.Views.{known_pair, known_definition, placed_type, place_from, visible_from}
 use Rattle.guard_values.specs.Views.{types_from, shared_view, AreKnownFitting}
 use Rattle.guard_constraints.specs.Views.{visible_at, AreKnownSound}
 use Rattle.guard_schema.specs.declared.progress.Progress.{Progress}
 use Rattle.guard_schema.specs.Known.{Built, built_at, governed, governed_value, type_alone, visible, meant}
-use Rattle.guard_schema.specs.inside.Pairs.{paired, AreBuilt}
+use Rattle.guard_schema.specs.Pairs.{paired, AreBuilt}
 use Rattle.guard_schema.specs.Views.{built_in, known_view}
 
 -- ---- at one place
@@ -58,10 +59,14 @@ type_there (t ∷ ts) (v ∷ vs) (suc place) e = type_there ts vs place (less e)
 
 -- ---- by a name
 
+pub values_placed : (known : code.Known) (place : Option ℕ)
+    → known_definition known place ≡ governed (built_at (paired known.types.items known.values.items) place)
+values_placed known None = refl
+values_placed known (Some place) = sym (governed_at known.types.items known.values.items place)
+
 module _ (p : Progress) where
   values_found : (place : Option ℕ) → known_definition p.known place ≡ governed (built_at (built_in p) place)
-  values_found None = refl
-  values_found (Some place) = sym (governed_at p.known.types.items p.known.values.items place)
+  values_found place = values_placed p.known place
 
   types_found : (place : Option ℕ) → placed_type p.known place ≡ type_alone (built_at (built_in p) place)
   types_found None = refl
@@ -108,12 +113,17 @@ sound_found : (t : Option Ty) → ((u : Ty) → t ≡ Some u → IsTrue (is_soun
 sound_found None h = tt
 sound_found (Some t) h = h t refl
 
-known_fitting : (p : Progress) → AreKnownFitting p.known
-known_fitting p place =
-    subst (λ g. IfSome g (λ h. IsTrue (fits h.ty h.value))) (governed_at p.known.types.items p.known.values.items place)
-    (fits_found (slice_get (paired p.known.types.items p.known.values.items) place)
+pub all_fitting : (known : code.Known)
+    → All (λ (c : Built). IfSome c.value (λ w. IsTrue (fits c.ty w))) (paired known.types.items known.values.items)
+    → AreKnownFitting known
+all_fitting known fitting place =
+    subst (λ g. IfSome g (λ h. IsTrue (fits h.ty h.value))) (governed_at known.types.items known.values.items place)
+    (fits_found (slice_get (paired known.types.items known.values.items) place)
     (λ b e. all_at (λ (c : Built). IfSome c.value (λ w. IsTrue (fits c.ty w)))
-    (paired p.known.types.items p.known.values.items) place b p.fitting e))
+    (paired known.types.items known.values.items) place b fitting e))
+
+known_fitting : (p : Progress) → AreKnownFitting p.known
+known_fitting p = all_fitting p.known p.fitting
 
 known_sound : (p : Progress) → AreKnownSound p.known
 known_sound p place = sound_found (slice_get p.known.types.items place)

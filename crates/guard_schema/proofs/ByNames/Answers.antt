@@ -2,7 +2,8 @@
 use Rattle.std.proofs.Common.{◌≡◌, ◌<◌, ◌-◌, ℕ, zero, suc, List, [], ◌∷◌, Option, Some, None, Result, Ok, Err, Bor}
 use Rattle.std.proofs.Common.{MatchOption, inl, inr, ◌≤◌, length, option_map, slice_get, map, refl, sym, ap, subst, ◌∙◌}
 use Rattle.std.proofs.Common.{IsTrue, arith}
-use Rattle.std.specs.Prelude.{IfOk, IfErr, IfSome, All, option_and_then}
+use Rattle.std.specs.Prelude.{IfOk, IfErr, IfSome, All, IsUtf8, option_and_then}
+use Rattle.std.specs.Global.{Vec}
 use Rattle.std.specs.List.{HoldsAt}
 use Rattle.std.proofs.lemmas.Option.{slice_get_past, slice_get_read}
 use Rattle.std.proofs.lemmas.Bool.Decides.{nat_tests}
@@ -21,46 +22,85 @@ use Rattle.guard_names.specs.NamesView.{modules_of, order_of}
 use Rattle.guard_names.specs.Order.{IsOrder}
 use Rattle.guard_syntax.specs.ModuleViews.{module_view}
 use Rattle.guard_syntax.specs.declared.tree.Module.{Module}
+use Rattle.guard_tagging.specs.Spelled.{IsSpelledModule}
+use Rattle.guard_values.specs.declared.scope.Known as code
 use Rattle.guard_schema.specs.declared.progress.Progress.{Progress}
 use Rattle.guard_schema.specs.declared.fault.SchemaFault.{SchemaFault}
 use Rattle.guard_schema.specs.declared.schema.Schema.{Schema}
-use Rattle.guard_schema.specs.Accepts.{OrdersNames, Denotes, Accepts, IsRefused}
+use Rattle.guard_schema.specs.Accepts.{OrdersNames, ReadsModules, KnowsModules, Denotes, Accepts, IsRefused}
 use Rattle.guard_schema.specs.Building.{BuildsAll}
 use Rattle.guard_schema.specs.Faults.{AbstractFault, Name, named}
-use Rattle.guard_schema.specs.Known.{Built, none_known}
+use Rattle.guard_schema.specs.Known.{Built, Known, none_known}
 use Rattle.guard_schema.specs.Outcomes.{RefusesBy, Answers}
 use Rattle.guard_schema.specs.OneAnswer.{IsDecided}
 use Rattle.guard_schema.specs.Schemas.{AbstractSchema, schema_of, module_named}
-use Rattle.guard_schema.specs.Texts.{ReadsTexts, CountsTexts}
+use Rattle.guard_schema.specs.Texts.{ReadsTexts, CountsTexts, AreOfTexts}
 use Rattle.guard_schema.specs.Views.{schema_view, place_in, built_in, known_view}
+use Rattle.guard_schema.specs.Pairs.{paired}
 use Rattle.guard_schema.proofs.Built.Visible.{all_at}
+use Rattle.guard_schema.proofs.Modules.Texts.{few_modules}
+
+-- ---- the modules of texts
 
 module _ (texts : List (List ℕ)) where
-  -- ---- steps
-
-  pub count_refused : (f : Option AbstractFault) → RefusesBy f (CountsTexts texts) → RefusesBy f (Denotes texts)
+  pub count_refused : (f : Option AbstractFault) → RefusesBy f (CountsTexts texts) → RefusesBy f (ReadsModules texts)
   count_refused None h = tt
   count_refused (Some f) h = inr (f, h, refl)
 
   module _ (counted : CountsTexts texts (Ok tt)) where
-    pub texts_refused : (f : Option AbstractFault) → RefusesBy f (ReadsTexts [] texts) → RefusesBy f (Denotes texts)
+    texts_refused : (f : Option AbstractFault) → RefusesBy f (ReadsTexts [] texts) → RefusesBy f (ReadsModules texts)
     texts_refused None h = tt
-    texts_refused (Some f) h = inl (tt, counted, inr (f, h, refl))
+    texts_refused (Some f) h = inl (tt, counted, h)
 
-    module _ (ms : List WrittenModule) (read : ReadsTexts [] texts (Ok ms)) where
-      pub names_refused : (f : Option AbstractFault) → RefusesBy f (OrdersNames ms) → RefusesBy f (Denotes texts)
-      names_refused None h = tt
-      names_refused (Some f) h = inl (tt, counted, inl (ms, read, inr (f, h, refl)))
+    pub modules_answered : (result : Result (Vec Module) SchemaFault)
+        → Answers (λ (v : Vec Module). map module_view v.items) named result (ReadsTexts [] texts)
+        → Answers (λ (v : Vec Module). map module_view v.items) named result (ReadsModules texts)
+    modules_answered (Ok v) h = inl (tt, counted, h)
+    modules_answered (Err e) h = texts_refused (named e) h
 
-      module _ (order : List ℕ) (ordered : OrdersNames ms (Ok order)) where
-        pub building_refused : (f : Option AbstractFault) → RefusesBy f (BuildsAll (none_known ms order) order)
-            → RefusesBy f (Denotes texts)
-        building_refused None h = tt
-        building_refused (Some f) h = inl (tt, counted, inl (ms, read, inl (order, ordered, inr (f, h, refl))))
+    pub modules_kept : (result : Result (Vec Module) SchemaFault)
+        → Answers (λ (v : Vec Module). map module_view v.items) named result (ReadsTexts [] texts)
+        → IfOk result (λ v. All IsSpelledModule (map module_view v.items))
+        → IfOk result (λ v. All (λ m. IsUtf8 m.name) (map module_view v.items))
+        → IfOk result (λ v. AreOfTexts (map module_view v.items))
+    modules_kept (Ok v) read spelled text = record {
+      few = few_modules texts counted (map module_view v.items) read;
+      named = text;
+      spelled = spelled;
+    }
+    modules_kept (Err e) read spelled text = tt
 
-        pub whole : (built : List Built) (s : AbstractSchema) → BuildsAll (none_known ms order) order (Ok built)
-            → s ≡ schema_of (record { modules = ms; order = order; built = built }) → Denotes texts (Ok s)
-        whole built s h e = inl (tt, counted, inl (ms, read, inl (order, ordered, inl (built, h, ap Ok e))))
+-- ---- what is known of modules
+
+module _ (ms : List WrittenModule) where
+  pub names_refused : (f : Option AbstractFault) → RefusesBy f (OrdersNames ms) → RefusesBy f (KnowsModules ms)
+  names_refused None h = tt
+  names_refused (Some f) h = inr (f, h, refl)
+
+  module _ (order : List ℕ) (ordered : OrdersNames ms (Ok order)) where
+    building_refused : (f : Option AbstractFault) → RefusesBy f (BuildsAll (none_known ms order) order)
+        → RefusesBy f (KnowsModules ms)
+    building_refused None h = tt
+    building_refused (Some f) h = inl (order, ordered, inr (f, h, refl))
+
+    all_known : (built : List Built) (k : Known) → BuildsAll (none_known ms order) order (Ok built)
+        → k ≡ record { modules = ms; order = order; built = built } → KnowsModules ms (Ok k)
+    all_known built k h e = inl (order, ordered, inl (built, h, ap Ok e))
+
+-- ---- what texts denote
+
+module _ (texts : List (List ℕ)) where
+  pub modules_refused : (f : Option AbstractFault) → RefusesBy f (ReadsModules texts) → RefusesBy f (Denotes texts)
+  modules_refused None h = tt
+  modules_refused (Some f) h = inr (f, inr (f, h, refl), refl)
+
+  module _ (ms : List WrittenModule) (read : ReadsModules texts (Ok ms)) where
+    pub known_refused : (f : Option AbstractFault) → RefusesBy f (KnowsModules ms) → RefusesBy f (Denotes texts)
+    known_refused None h = tt
+    known_refused (Some f) h = inr (f, inl (ms, read, h), refl)
+
+    pub whole : (k : Known) (s : AbstractSchema) → KnowsModules ms (Ok k) → s ≡ schema_of k → Denotes texts (Ok s)
+    whole k s h e = inl (k, inl (ms, read, h), ap Ok e)
 
   -- ---- one answer
 
@@ -69,7 +109,7 @@ module _ (texts : List (List ℕ)) where
   accepted (Ok s) h = h
   accepted (Err e) h = tt
 
-  refused_by : (f : Option AbstractFault) → RefusesBy f (Denotes texts) → IfSome f (IsRefused texts)
+  pub refused_by : (f : Option AbstractFault) → RefusesBy f (Denotes texts) → IfSome f (IsRefused texts)
   refused_by None h = tt
   refused_by (Some f) h = h
 
@@ -115,7 +155,7 @@ types_sound ts h (Some p) = sound_there ts (slice_get ts p)
 
 pub sound : (result : Result Schema SchemaFault)
     → IfOk result (λ s. (home name : List ℕ) → IfSome ((schema_view s).types home name) (λ t. IsTrue (is_sound t)))
-sound (Ok s) = λ home name. types_sound s.types.items s.sound (place_in s.index home name)
+sound (Ok s) = λ home name. types_sound s.known.types.items s.sound (place_in s.index home name)
 sound (Err e) = tt
 
 -- ---- from the texts to the schema
@@ -128,34 +168,65 @@ few_texts ts h =
     let few : length (map contents ts) ≤ 64 = grind (arith, nat_tests) in
     omega (arith, few, length-map ts contents)
 
-module _ (texts : List (List ℕ)) (counted : CountsTexts texts (Ok tt)) (modules : List Module)
-    (read : ReadsTexts [] texts (Ok (map module_view modules))) where
-  module _ (n : Names) (same : modules_of n ≡ map module_view modules)
-      (faultless : names.AreFaultless (map module_view modules)) where
-    ordered : OrdersNames (map module_view modules) (Ok (order_of n))
-    ordered = (
-      faultless,
-      subst (λ (ms : List WrittenModule). IsOrder (length (definitions ms)) (Uses ms) (order_of n))
-          same n.ordered,
-    )
+module _ (ms : List WrittenModule) (n : Names) (same : modules_of n ≡ ms) (faultless : names.AreFaultless ms) where
+  ordered : OrdersNames ms (Ok (order_of n))
+  ordered = (
+    faultless,
+    subst (λ (xs : List WrittenModule). IsOrder (length (definitions xs)) (Uses xs) (order_of n)) same n.ordered,
+  )
 
-    pub progress_refused : (f : Option AbstractFault)
-        → RefusesBy f (BuildsAll (none_known (modules_of n) (order_of n)) (order_of n)) → RefusesBy f (Denotes texts)
-    progress_refused f h =
-        building_refused texts counted (map module_view modules) read (order_of n) ordered f
-        (subst (λ (ms : List WrittenModule). RefusesBy f (BuildsAll (none_known ms (order_of n)) (order_of n))) same h)
+  pub progress_refused : (f : Option AbstractFault)
+      → RefusesBy f (BuildsAll (none_known (modules_of n) (order_of n)) (order_of n)) → RefusesBy f (KnowsModules ms)
+  progress_refused f h = building_refused ms (order_of n) ordered f
+      (subst (λ (xs : List WrittenModule). RefusesBy f (BuildsAll (none_known xs (order_of n)) (order_of n))) same h)
 
-    pub schema_whole : (p : Progress) → p.names.now ≡ n
-        → BuildsAll (none_known (modules_of n) (order_of n)) (order_of n) (Ok (built_in p))
-        → (s : AbstractSchema) → s ≡ schema_of (known_view p) → Denotes texts (Ok s)
-    schema_whole p is h s e =
-        whole texts counted (map module_view modules) read (order_of n) ordered (built_in p) s
-        (subst (λ (ms : List WrittenModule). BuildsAll (none_known ms (order_of n)) (order_of n) (Ok (built_in p))) same
-        h)
-        (e ∙ ap (λ (m : Names). schema_of (record { modules = modules_of m; order = order_of m; built = built_in p }))
-        is
-        ∙ ap (λ (ms : List WrittenModule). schema_of (record { modules = ms; order = order_of n; built = built_in p }))
-        same)
+  -- what is kept is what was built
+  kept_so : (p : Progress) (s : Schema) → s.known ≡ p.known
+      → ◌≡◌ {A = Known} (record {
+        modules = modules_of n;
+        order = order_of n;
+        built = paired s.known.types.items s.known.values.items;
+      }) (record { modules = ms; order = order_of n; built = built_in p })
+  kept_so p s kept =
+      ap (λ (k : code.Known). record {
+        modules = modules_of n;
+        order = order_of n;
+        built = paired k.types.items k.values.items;
+      }) kept
+      ∙ ap (λ (xs : List WrittenModule). record { modules = xs; order = order_of n; built = built_in p }) same
+
+  pub known_whole : (p : Progress)
+      → BuildsAll (none_known (modules_of n) (order_of n)) (order_of n) (Ok (built_in p))
+      → (s : Schema) → s.known ≡ p.known
+      → KnowsModules ms (Ok (record {
+        modules = modules_of n;
+        order = order_of n;
+        built = paired s.known.types.items s.known.values.items;
+      }))
+  known_whole p h s kept =
+      all_known ms (order_of n) ordered (built_in p) (record {
+        modules = modules_of n;
+        order = order_of n;
+        built = paired s.known.types.items s.known.values.items;
+      })
+      (subst (λ (xs : List WrittenModule). BuildsAll (none_known xs (order_of n)) (order_of n) (Ok (built_in p))) same
+      h) (kept_so p s kept)
+
+-- its types are those that are known
+pub schema_known : (p : Progress) (n : Names) → p.names.now ≡ n → (s : Schema) → s.known ≡ p.known
+    → schema_view s ≡ schema_of (known_view p)
+    → schema_view s ≡ schema_of (record {
+      modules = modules_of n;
+      order = order_of n;
+      built = paired s.known.types.items s.known.values.items;
+    })
+schema_known p n is s kept e =
+    e ∙ ap (λ (m : Names). schema_of (record { modules = modules_of m; order = order_of m; built = built_in p })) is
+    ∙ ap (λ (k : code.Known). schema_of (record {
+      modules = modules_of n;
+      order = order_of n;
+      built = paired k.types.items k.values.items;
+    })) (sym kept)
 
 -- ---- names of modules by their places
 

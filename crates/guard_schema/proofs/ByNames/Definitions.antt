@@ -23,7 +23,7 @@ use Rattle.guard_names.specs.Declarations.{Definition, definitions, defined_in}
 use Rattle.guard_names.specs.Places.{place_in}
 use Rattle.guard_schema.specs.Entries.{Entry, entries_from, place_named, unvalued}
 use Rattle.guard_schema.specs.Known.{built_at}
-use Rattle.guard_schema.specs.inside.Pairs.{paired, built_view}
+use Rattle.guard_schema.specs.Pairs.{paired, built_view}
 use Rattle.guard_schema.specs.Schemas.{AbstractSchema, assigns, number_assigned, assigned_type, schema_of}
 use Rattle.guard_schema.specs.Views.{entry_view, unvalued_at, type_place}
 use Rattle.guard_schema.specs.declared.build.NamedDefinition.{NamedDefinition}

@@ -15,7 +15,7 @@ use Rattle.guard_schema.specs.Counting.{all_held, held_by}
 use Rattle.guard_schema.specs.Finishing.{add, with_constraint}
 use Rattle.guard_schema.specs.inside.Ready.{listed}
 use Rattle.guard_schema.specs.Known.{Built}
-use Rattle.guard_schema.specs.inside.Pairs.{built_view, paired}
+use Rattle.guard_schema.specs.Pairs.{built_view, paired}
 
 pub added_view : (cs : List Cons) (c : Cons) → constraints_of (map constraint_view (cs ++ c ∷ [])) ≡ add
     (constraints_of (map constraint_view cs)) (constraint_view c)

@@ -27,7 +27,7 @@ use Rattle.guard_schema.specs.Known.{Known, with_built, none_known, types_of, vi
 use Rattle.guard_tagcheck.specs.InCommon.{in_common}
 use Rattle.guard_schema.specs.Building.{HasTagsUnder, HasTags, TellsApart, Assigns, HasValue, Builds, BuildsNumber}
 use Rattle.guard_schema.specs.Building.{BuildsAll}
-use Rattle.guard_schema.specs.Accepts.{OrdersNames, Denotes}
+use Rattle.guard_schema.specs.Accepts.{OrdersNames, ReadsModules, KnowsModules, Knows, Denotes}
 use Rattle.guard_schema.proofs.Turns.Outcomes.{is_decided, passes_decided, then_decided}
 use Rattle.guard_schema.proofs.OneAnswer.Clashes.{one_clash}
 use Rattle.guard_schema.proofs.OneAnswer.Steps.{OneValue, OneConstraint, OneConsFault, member_decided, type_decided}
@@ -67,6 +67,9 @@ texts_decided : (before : List WrittenModule) (texts : List (List ℕ)) → IsDe
 texts_decided before [] = is_decided before
 texts_decided before (text ∷ texts) = then_decided _ _ (text_decided (suc (length before)) text)
     (λ tree. texts_decided (before ++ tree ∷ []) texts)
+
+modules_decided : (texts : List (List ℕ)) → IsDecided (ReadsModules texts)
+modules_decided texts = then_decided _ _ (passes_decided _ _) (λ _. texts_decided [] texts)
 
 -- ---- names
 
@@ -178,9 +181,13 @@ module _ (one_value : OneValue) (one_constraint : OneConstraint) (one_cons_fault
   all_decided k (number ∷ numbers) = then_decided _ _ (number_decided k number)
       (λ b. all_decided (with_built k b) numbers)
 
-  pub one_schema : (texts : List (List ℕ)) → IsDecided (Denotes texts)
-  one_schema texts =
-      then_decided _ _ (passes_decided _ _) (λ _.
-      then_decided _ _ (texts_decided [] texts) (λ ms.
+  known_decided : (ms : List WrittenModule) → IsDecided (KnowsModules ms)
+  known_decided ms =
       then_decided _ _ (names_decided ms) (λ order.
-      then_decided _ _ (all_decided (none_known ms order) order) (λ built. is_decided _))))
+      then_decided _ _ (all_decided (none_known ms order) order) (λ built. is_decided _))
+
+  pub texts_known : (texts : List (List ℕ)) → IsDecided (Knows texts)
+  texts_known texts = then_decided _ _ (modules_decided texts) known_decided
+
+  pub one_schema : (texts : List (List ℕ)) → IsDecided (Denotes texts)
+  one_schema texts = then_decided _ _ (texts_known texts) (λ k. is_decided _)

@@ -11,7 +11,7 @@ use Rattle.guard_values.proofs.Fitting.KnownValuesFit.{visible_fit}
 use Rattle.guard_constraints.specs.Views.{visible_in}
 use Rattle.guard_constraints.proofs.Denoted.WrittenValues.{visible_sound}
 use Rattle.guard_schema.specs.inside.InTurn.{KindInTurn}
-use Rattle.guard_schema.specs.inside.Pairs.{AreBuilt}
+use Rattle.guard_schema.specs.Pairs.{AreBuilt}
 use Rattle.guard_schema.specs.inside.Ready.{IsReadyBase, IsPart}
 use Rattle.guard_schema.proofs.Filled.ByTrees.{kind_filled}
 use Rattle.guard_schema.proofs.Sound.Finished.{kind_part}

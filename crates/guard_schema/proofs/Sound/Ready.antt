@@ -33,7 +33,7 @@ use Rattle.guard_schema.specs.Known.{Built, Known, IsSoundBuilt, types_of, gover
 use Rattle.guard_schema.specs.Known.{visible, IsWrittenUnder}
 use Rattle.guard_schema.specs.Finishing.{Finishes}
 use Rattle.guard_schema.specs.FinishedSound.{AreSound}
-use Rattle.guard_schema.specs.inside.Pairs.{paired}
+use Rattle.guard_schema.specs.Pairs.{paired}
 use Rattle.guard_schema.specs.inside.Ready.{IsMadeUp, is_shaped, IsReady}
 use Rattle.guard_schema.proofs.Built.Visible.{all_at}
 use Rattle.guard_schema.proofs.Built.Types.{types_agree}

@@ -35,6 +35,7 @@ use Rattle.guard_schema.specs.declared.fault.SchemaFault.{SchemaFault}
 use Rattle.guard_schema.specs.declared.schema.Schema.{Schema}
 use Rattle.guard_schema.specs.EachType.{IsFinished, HasTypesOf, HaveTheirTypes}
 use Rattle.guard_schema.proofs.Filled.Unfinished.{bare_again}
+use Rattle.guard_schema.proofs.Modules.Parts.{parts}
 use Rattle.guard_schema.proofs.Sound.Built.{whole_sound}
 use Rattle.guard_schema.proofs.Throughout.Values.{Grows}
 use Rattle.guard_schema.proofs.Throughout.Finished.{type_grown}
@@ -278,25 +279,23 @@ module _ (ms : List WrittenModule) (faultless : AreFaultless ms) (order : List �
 -- ---- the law
 
 pub have_their_types : HaveTheirTypes
-have_their_types texts s (inl (c, counted, inl (ms, read, inl (order, (faultless, ordered), inl (built, builds, e))))) =
-    let same : s ≡ schema_of (complete ms faultless order ordered built builds) =
-    same_Ok s (schema_of (complete ms faultless order ordered built builds)) e in
+have_their_types texts s a =
+    let p = parts texts s a in
+    let ms = p.modules in
+    let faultless = p.ordered.0 in
+    let ordered = p.ordered.1 in
     record {
-      whole = complete ms faultless order ordered built builds;
-      read = read;
-      ordered = (faultless, ordered);
-      schema = same;
-      sound = whole_sound ms order built builds;
+      whole = complete ms faultless p.order ordered p.built p.builds;
+      read = p.read;
+      ordered = p.ordered;
+      schema = p.schema;
+      sound = whole_sound ms p.order p.built p.builds;
       each = λ d here none.
-          let t = each ms faultless order ordered built builds d here none in
-          (t.0, ap (λ (x : AbstractSchema). x.types d.home.name d.assignment.name) same ∙ t.1, t.2);
-      only = λ home name t h. only ms faultless order ordered built builds home name t
-          (sym (ap (λ (x : AbstractSchema). x.types home name) same) ∙ h);
+          let t = each ms faultless p.order ordered p.built p.builds d here none in
+          (t.0, ap (λ (x : AbstractSchema). x.types d.home.name d.assignment.name) p.schema ∙ t.1, t.2);
+      only = λ home name t h. only ms faultless p.order ordered p.built p.builds home name t
+          (sym (ap (λ (x : AbstractSchema). x.types home name) p.schema) ∙ h);
     }
-have_their_types texts s (inl (c, counted, inl (ms, read, inl (order, ordered, inr (f, builds, e))))) = absurd cc
-have_their_types texts s (inl (c, counted, inl (ms, read, inr (f, ordered, e)))) = absurd cc
-have_their_types texts s (inl (c, counted, inr (f, read, e))) = absurd cc
-have_their_types texts s (inr (f, counted, e)) = absurd cc
 
 -- so it is with what a call answers
 pub have_types : (texts : List (List ℕ)) (result : Result Schema SchemaFault)

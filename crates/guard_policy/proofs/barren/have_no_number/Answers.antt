@@ -1,7 +1,7 @@
 use Rattle.std.proofs.Common.{◌∙◌, ◌&&◌, List, ap, sym}
 use Rattle.std.proofs.lemmas.List.{drop_all}
 use Rattle.guard_integers.specs.Integers.{holds}
-use Rattle.guard_tables.specs.declared.asks.Demand.{Demand}
+use Rattle.guard_tables.specs.declared.demands.Demand.{Demand}
 use Rattle.guard_policy.specs.Barren.{all_have_number}
 use Rattle.guard_policy.specs.inside.Asked.{demands_view}
 use Rattle.guard_policy.proofs.NothingShared.{numbers_told, whole}

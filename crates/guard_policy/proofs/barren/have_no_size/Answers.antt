@@ -2,7 +2,7 @@ use Rattle.std.proofs.Common.{◌∙◌, ◌&&◌, List, ap, sym}
 use Rattle.std.specs.List.{list_all}
 use Rattle.std.proofs.lemmas.List.{drop_all}
 use Rattle.guard_integers.specs.Integers.{holds}
-use Rattle.guard_tables.specs.declared.asks.Demand.{Demand}
+use Rattle.guard_tables.specs.declared.demands.Demand.{Demand}
 use Rattle.guard_policy.specs.Barren.{demand_may_have_size}
 use Rattle.guard_policy.specs.inside.Asked.{demands_view}
 use Rattle.guard_policy.proofs.NothingShared.{sizes_told, whole}

@@ -6,8 +6,7 @@ use Rattle.guard_policy.specs.declared.kept.KeptRule.{KeptRule}
 use Rattle.guard_policy.specs.KeptView.{kept_rule_view}
 use Rattle.guard_policy.specs.inside.Listings.{place_among, listing, listed_view}
 use Rattle.guard_policy.specs.Policies.{AbstractRule}
-use Rattle.guard_policy.specs.SaidView.{said_view}
-use Rattle.guard_policy.specs.inside.Said.{said_message_view}
+use Rattle.guard_policy.specs.SaidView.{said_message_view, said_view}
 use Rattle.guard_policy.proofs.EntriesRead.{taken_is}
 use Rattle.guard_policy.proofs.Keeping.{kept_one, is_listed}
 use Rattle.guard_policy.proofs.kept.keep_rules.Goals as goal

@@ -1,8 +1,7 @@
 use Rattle.std.proofs.Common.{◌≡◌, List, map, take}
 use Rattle.guard_policy.specs.declared.kept.KeptMessage.{KeptMessage}
 use Rattle.guard_policy.specs.KeptView.{kept_rule_view}
-use Rattle.guard_policy.specs.SaidView.{said_view}
-use Rattle.guard_policy.specs.inside.Said.{said_message_view}
+use Rattle.guard_policy.specs.SaidView.{said_message_view, said_view}
 use Rattle.guard_policy.specs.inside.Keeping.{ArePlaced, tabled_view, tabled}
 use Rattle.guard_policy.proofs.kept.keep_rules.Given as goal
 

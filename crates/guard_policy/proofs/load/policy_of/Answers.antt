@@ -3,8 +3,7 @@ use Rattle.std.proofs.lemmas.Result.{err_from_is_err_and}
 use Rattle.toml.specs.View.{table_view}
 use Rattle.guard_policy.specs.inside.Answers.{tables_view}
 use Rattle.guard_policy.specs.PolicyFaults.{named}
-use Rattle.guard_policy.specs.SaidView.{said_view}
-use Rattle.guard_policy.specs.inside.Said.{said_message_view}
+use Rattle.guard_policy.specs.SaidView.{said_message_view, said_view}
 use Rattle.guard_policy.proofs.Loading.{loaded, loaded_only, load_refused, refused_rules, refused_messages, refused_top}
 use Rattle.guard_policy.proofs.load.policy_of.Goals as goal
 

@@ -7,7 +7,8 @@ use Rattle.guard_der.specs.Sound.{is_sound}
 use Rattle.toml.specs.Data.{Members}
 use Rattle.toml.specs.View.{table_view}
 use Rattle.guard_policy.specs.inside.Answers.{tables_view}
-use Rattle.guard_policy.specs.inside.Said.{names_in, said_message_view}
+use Rattle.guard_policy.specs.SaidView.{said_message_view}
+use Rattle.guard_policy.specs.inside.Said.{names_in}
 use Rattle.guard_policy.specs.Entries.{message_in}
 use Rattle.guard_policy.specs.EntryFaults.{message_fault}
 use Rattle.guard_policy.specs.Policies.{AbstractMessage}

@@ -4,7 +4,8 @@ use Rattle.guard_der.specs.Sound.{is_sound}
 use Rattle.guard_policy.specs.inside.Answers.{tables_view}
 use Rattle.guard_policy.specs.Entries.{message_in}
 use Rattle.guard_policy.specs.EntryFaults.{message_fault}
-use Rattle.guard_policy.specs.inside.Said.{HaveSame, names_in, said_message_view}
+use Rattle.guard_policy.specs.SaidView.{said_message_view}
+use Rattle.guard_policy.specs.inside.Said.{HaveSame, names_in}
 use Rattle.guard_policy.proofs.EntriesRead.{Read}
 use Rattle.guard_policy.proofs.messages.messages_of.Given as goal
 

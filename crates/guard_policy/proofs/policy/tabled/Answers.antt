@@ -1,6 +1,5 @@
 use Rattle.std.proofs.Common.{map}
-use Rattle.guard_policy.specs.SaidView.{said_view}
-use Rattle.guard_policy.specs.inside.Said.{said_message_view}
+use Rattle.guard_policy.specs.SaidView.{said_message_view, said_view}
 use Rattle.guard_policy.proofs.Consistent.{consistent}
 use Rattle.guard_policy.proofs.Keeping.{same_messages}
 use Rattle.guard_policy.proofs.policy.tabled.Goals as goal

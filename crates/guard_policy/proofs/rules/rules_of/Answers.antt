@@ -8,12 +8,12 @@ use Rattle.guard_der.specs.Sound.{is_sound}
 use Rattle.toml.specs.Data.{Members}
 use Rattle.toml.specs.View.{table_view}
 use Rattle.guard_policy.specs.inside.Answers.{tables_view}
-use Rattle.guard_policy.specs.inside.Said.{names_in, said_message_view}
+use Rattle.guard_policy.specs.inside.Said.{names_in}
 use Rattle.guard_policy.specs.Entries.{rule_in}
 use Rattle.guard_policy.specs.EntryFaults.{rule_fault}
 use Rattle.guard_policy.specs.Policies.{AbstractRule, message_names}
 use Rattle.guard_policy.specs.PolicyFaults.{AbstractFault, named}
-use Rattle.guard_policy.specs.SaidView.{said_view}
+use Rattle.guard_policy.specs.SaidView.{said_message_view, said_view}
 use Rattle.guard_policy.proofs.EntriesRead.{Read, read_one, read_fault, tables_left, name_of_rule}
 use Rattle.guard_policy.proofs.NamesSeen.{rule_same, seen_more}
 use Rattle.guard_policy.proofs.rules.rules_of.Goals as goal

@@ -5,9 +5,9 @@ use Rattle.guard_policy.specs.inside.Answers.{tables_view}
 use Rattle.guard_policy.specs.Entries.{rule_in}
 use Rattle.guard_policy.specs.EntryFaults.{rule_fault}
 use Rattle.guard_policy.specs.Policies.{message_names}
-use Rattle.guard_policy.specs.SaidView.{said_view}
+use Rattle.guard_policy.specs.SaidView.{said_message_view, said_view}
 use Rattle.guard_policy.specs.inside.Keeping.{AreDeclared}
-use Rattle.guard_policy.specs.inside.Said.{HaveSame, names_in, said_message_view}
+use Rattle.guard_policy.specs.inside.Said.{HaveSame, names_in}
 use Rattle.guard_policy.proofs.EntriesRead.{Read}
 use Rattle.guard_policy.proofs.rules.rules_of.Given as goal
 

@@ -1,7 +1,7 @@
 use Rattle.std.proofs.Common.{map, take}
 use Rattle.std.proofs.lemmas.List.{map_push}
 use Rattle.guard_policy.specs.Policies.{AbstractMessage, message_names}
-use Rattle.guard_policy.specs.inside.Said.{said_message_view}
+use Rattle.guard_policy.specs.SaidView.{said_message_view}
 use Rattle.guard_policy.proofs.EntriesRead.{taken_is}
 use Rattle.guard_policy.proofs.NamesSeen.{seen_more}
 use Rattle.guard_policy.proofs.seen.names_of.Goals as goal

@@ -2,8 +2,7 @@ use Rattle.std.proofs.Common.{◌+◌, map, drop, ap, ◌∙◌, ◌++◌, ◌�
 use Rattle.std.proofs.lemmas.List.{map_push}
 use Rattle.std.proofs.lemmas.Result.{err_from_is_err_and}
 use Rattle.guard_policy.specs.EntryFaults.{tables_fault}
-use Rattle.guard_policy.specs.SaidView.{said_view}
-use Rattle.guard_policy.specs.inside.Said.{said_message_view}
+use Rattle.guard_policy.specs.SaidView.{said_message_view, said_view}
 use Rattle.guard_policy.specs.PolicyFaults.{named}
 use Rattle.guard_policy.specs.inside.Keeping.{Tabled, tabled_view, tabled}
 use Rattle.std.proofs.lemmas.List.Elements.{All-push}

@@ -19,8 +19,8 @@ invariant_of-result-clause-few c =
     (sym (ap (λ (xs : List (List ℕ)). length xs) names
     ∙ length-map (map module_view c.args.modules.now) (λ (m : WrittenModule). m.name))) c.requires.few
 
-pub returns : goal.returns
-returns c =
+pub returns-clause-named : goal.returns-clause-named
+returns-clause-named c =
     let ms = map module_view c.args.modules.now in
     let types = c.args.progress.known.types.items in
     let es = entries_from (type_place (order_of c.args.progress.names.now) c.args.progress.known.values.items) 0

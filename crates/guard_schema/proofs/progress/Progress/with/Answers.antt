@@ -11,7 +11,7 @@ use Rattle.guard_tagging.specs.Surroundings.{nodes_of_all}
 use Rattle.guard_tagging.proofs.Builds.{nodes_more}
 use Rattle.guard_schema.specs.Counting.{all_held, held_by}
 use Rattle.guard_schema.specs.Known.{Built}
-use Rattle.guard_schema.specs.inside.Pairs.{built_view, paired}
+use Rattle.guard_schema.specs.Pairs.{built_view, paired}
 use Rattle.guard_schema.proofs.Filled.Lists.{paired_more, held_more}
 use Rattle.guard_schema.proofs.progress.Progress.with.Goals as goal
 

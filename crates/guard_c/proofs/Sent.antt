@@ -26,7 +26,7 @@ use Rattle.guard_tables.specs.contracts.kept_types.KeptTypes.TheInside as kept_t
 use Rattle.guard_tables.specs.contracts.node.Cold as cold
 use Rattle.guard_tables.specs.contracts.node.Form as form
 use Rattle.guard_tables.specs.contracts.node.Hot as hot
-use Rattle.guard_tables.specs.contracts.node.Raise as raise
+use Rattle.guard_tables.specs.contracts.node.Implication as implication
 use Rattle.guard_tables.specs.contracts.node_list.Nodes as nodes
 use Rattle.guard_tables.specs.contracts.table.Table as table
 use Rattle.guard_tables.proofs.conditions_list.Conditions.TheSendSync as conditions
@@ -82,22 +82,22 @@ ty_sync = as_row_sync ty.the_field (search (types.crosses, value_send, value_syn
 
 -- ---- tables
 
-raise_send : IsSend raise.the_row
-raise_send = declared_send raise.the_type (slots.the_send, (form_send, tt))
+implication_send : IsSend implication.the_row
+implication_send = declared_send implication.the_type (slots.the_send, (form_send, tt))
 
-raise_sync : IsSync raise.the_row
-raise_sync = declared_sync raise.the_type (slots.the_sync, (form_sync, tt))
+implication_sync : IsSync implication.the_row
+implication_sync = declared_sync implication.the_type (slots.the_sync, (form_sync, tt))
 
 cold_send : IsSend cold.the_row
 cold_send = declared_send cold.the_type (
   options.the_send tag.the_row tags.the_send,
-  (Vec-send i128 (search sendable), (conditions.the_send, (slots.the_send, (slots.the_send, (options.the_send Octets octets_send, (Vec-send raise.the_row raise_send, tt)))))),
+  (Vec-send i128 (search sendable), (conditions.the_send, (slots.the_send, (slots.the_send, (options.the_send Octets octets_send, (Vec-send implication.the_row implication_send, tt)))))),
 )
 
 cold_sync : IsSync cold.the_row
 cold_sync = declared_sync cold.the_type (
   options.the_sync tag.the_row tags.the_sync,
-  (Vec-sync i128 (search sendable), (conditions.the_sync, (slots.the_sync, (slots.the_sync, (options.the_sync Octets octets_sync, (Vec-sync raise.the_row raise_sync, tt)))))),
+  (Vec-sync i128 (search sendable), (conditions.the_sync, (slots.the_sync, (slots.the_sync, (options.the_sync Octets octets_sync, (Vec-sync implication.the_row implication_sync, tt)))))),
 )
 
 nodes_send : IsSend nodes.the_row
@@ -123,10 +123,10 @@ table_sync = declared_sync table.the_type (kept_types_sync, (nodes_sync, tt))
 -- ---- policies
 
 message_send : IsSend message.the_row
-message_send = declared_send message.the_type (string_send, (table_send, (routing.the_send, tt)))
+message_send = declared_send message.the_type (string_send, (string_send, (table_send, (routing.the_send, tt))))
 
 message_sync : IsSync message.the_row
-message_sync = declared_sync message.the_type (string_sync, (table_sync, (routing.the_sync, tt)))
+message_sync = declared_sync message.the_type (string_sync, (string_sync, (table_sync, (routing.the_sync, tt))))
 
 kept_send : IsSend kept.the_row
 kept_send = declared_send kept.the_type (Vec-send message.the_row message_send, (Vec-send rule.the_row rules.the_send, (index.the_send, (leads.the_send, tt))))

@@ -7,10 +7,10 @@ use Rattle.std.proofs.Math.Seq.{take-append_seam}
 use Rattle.guard_policy.specs.NamedRoutes.{with_length, IsGiven}
 use Rattle.guard_policy.specs.Policies.{AbstractPolicy, AbstractRoute, AbstractRule}
 use Rattle.guard_policy.specs.Decisions.{Goes}
-use Rattle.guard_frames.specs.Bodies.{AbstractBody, IsBody, named, parts_in, body_in, has_names}
+use Rattle.guard_frames.specs.Bodies.{AbstractBody, IsBody, HasNames, named, parts_in, body_in, has_names}
 use Rattle.guard_frames.specs.OfPolicy.{route_of, decision_of}
 use Rattle.guard_frames.specs.Outcomes.{Decision, BodyGoes}
-use Rattle.guard_frames.proofs.HeaderLaws.{names_in, parts_take, one_body, no_body}
+use Rattle.guard_frames.proofs.HeaderLaws.{names_in, names_again, parts_take, same_parts, one_body, no_body}
 
 -- ---- the names, and the message after them
 
@@ -64,10 +64,25 @@ goes_as_given p octets names message goes whole (route, given, exact) =
 
 -- ---- by the names
 
-pub goes_by_names : (p : AbstractPolicy) (octets : List ℕ) (b : AbstractBody) (goes : Bool) → Some b ≡ parts_in octets → has_names b ≡ true →
-    (IsTrue goes ↔ Goes p (route_of b) b.message) → IsTrue goes ↔ BodyGoes (decision_of p) octets
-goes_by_names p octets b goes there names exact =
-    goes_as (decision_of p) octets b goes (record { joined = parts_take octets b (sym there); names = names_in b names }) exact
+-- the message goes, and so the octets go where the names are names
+pub goes_where_named : (p : AbstractPolicy) (octets : List ℕ) (b : AbstractBody) (passes are : Bool) → Some b ≡ parts_in octets → are ≡ has_names b
+    → passes ≡ true → (IsTrue passes ↔ Goes p (route_of b) b.message) → IsTrue are ↔ BodyGoes (decision_of p) octets
+goes_where_named p octets b passes are there same passed exact = (
+  λ all. record {
+    body = b;
+    is = record { joined = parts_take octets b (sym there); names = names_in b (sym same ∙ all) };
+    decided = exact.0 passed;
+  },
+  λ go. same ∙ names_again b (subst HasNames (same_parts octets b go.body there go.is) go.is.names),
+)
+
+-- the message doesn't go, and so the octets don't, whether or not the names are names
+pub stays_by_names : (p : AbstractPolicy) (octets : List ℕ) (b : AbstractBody) (passes : Bool) → Some b ≡ parts_in octets → passes ≡ false →
+    (IsTrue passes ↔ Goes p (route_of b) b.message) → IsTrue passes ↔ BodyGoes (decision_of p) octets
+stays_by_names p octets b passes there stays exact = (
+  λ yes. absurd (false≢true (sym stays ∙ yes)),
+  λ go. exact.1 (subst (λ (x : AbstractBody). Goes p (route_of x) x.message) (same_parts octets b go.body there go.is) go.decided),
+)
 
 -- no other octets go
 pub stays_without : (d : Decision) (octets : List ℕ) → None ≡ body_in octets → IsTrue false ↔ BodyGoes d octets

@@ -77,7 +77,7 @@ all_three false b c e = absurd cc
 pub names_in : (b : AbstractBody) → has_names b ≡ true → HasNames b
 names_in b e = let all = all_three _ _ _ e in record { sender = all.0; receiver = all.1; name = all.2 }
 
-names_again : (b : AbstractBody) → HasNames b → has_names b ≡ true
+pub names_again : (b : AbstractBody) → HasNames b → has_names b ≡ true
 names_again b h = rw (h.sender, h.receiver, h.name) refl
 
 -- ---- the body
@@ -98,14 +98,14 @@ body_again octets b h = rw (h.joined, parts_again b, names_again b h.names) refl
 pub one_body : (octets : List ℕ) (b c : AbstractBody) → IsBody octets b → IsBody octets c → b ≡ c
 one_body octets b c h k = same_Some b c (sym (body_again octets b h) ∙ body_again octets c k)
 
+-- what is in these places is the body, where there is one
+pub same_parts : (octets : List ℕ) (b c : AbstractBody) → Some b ≡ parts_in octets → IsBody octets c → c ≡ b
+same_parts octets b c there is = same_Some c b (sym (parts_again c) ∙ ap parts_in (sym is.joined) ∙ sym there)
+
 -- no other octets have one
 pub no_parts : (octets : List ℕ) → None ≡ parts_in octets → None ≡ body_in octets
 unfolding body_in
 no_parts octets e = rw (← e) refl
-
-pub misnamed : (octets : List ℕ) (b : AbstractBody) → Some b ≡ parts_in octets → has_names b ≡ false → None ≡ body_in octets
-unfolding body_in
-misnamed octets b e names = rw (← e, names) refl
 
 pub no_body : (octets : List ℕ) → None ≡ body_in octets → (b : AbstractBody) → IsBody octets b → ⊥
 no_body octets none b h = none_is_not b (none ∙ body_again octets b h)

@@ -17,6 +17,7 @@ pub mod Going
 pub mod Counting
 pub mod Progress
 pub mod Steps
+pub mod Waits
 pub mod Composing
 pub mod Holding
 -- ---- many links

@@ -72,6 +72,39 @@ AllAdd_then_going d n os fs s fits go p =
     subst (AllAdd (λ _. d) n (os ++ all_going fs)) (nothing_after s)
     (AllAdd-append d n os (all_going fs) s [] fits p (AllAdd_going d (later n (length os)) fs go))
 
+pub le_or_gt : (n m : ℕ) → (n ≤ m) ⊎ (m < n)
+le_or_gt n m = grind arith
+
+pub no_prefix : (part : List ℕ) → IsProperPrefix part [] → ⊥
+no_prefix part h = omega (arith, ap length h.joined, length-append part h.more, h.missing)
+
+-- a proper prefix of two parts is one of the first, or the first and one of the second
+pub cuts_one : (first second part : List ℕ) → IsProperPrefix part (first ++ second) →
+    IsProperPrefix part first ⊎ ((rest : List ℕ) × (part ≡ first ++ rest) × IsProperPrefix rest second)
+cuts_one first second part h = elim (le_or_gt (length first) (length part)) [
+  | inl le ↦
+      let front : take (length first) part ≡ first =
+      sym (take-append-le (length first) part h.more le) ∙ ap (take (length first)) h.joined ∙ take-append_seam first second in
+      let split : part ≡ first ++ drop (length first) part =
+      sym (take-append-drop (length first) part) ∙ ap (λ x. x ++ drop (length first) part) front in
+      let e : first ++ (drop (length first) part ++ h.more) ≡ first ++ second =
+      sym (append_assoc first (drop (length first) part) h.more) ∙ ap (λ x. x ++ h.more) (sym split) ∙ h.joined in
+      inr (
+        drop (length first) part,
+        split,
+        record { more = h.more; joined = append_cancel_left first (drop (length first) part ++ h.more) second e; missing = h.missing },
+      )
+  | inr gt ↦
+      let short : length part ≤ length first = omega (arith, gt) in
+      let front : take (length part) first ≡ part =
+      sym (take-append-le (length part) first second short) ∙ ap (take (length part)) (sym h.joined) ∙ take-append_seam part h.more in
+      inl (record {
+        more = drop (length part) first;
+        joined = ap (λ x. x ++ drop (length part) first) (sym front) ∙ take-append-drop (length part) first;
+        missing = omega (arith, gt, length-drop (length part) first);
+      })
+]
+
 -- a proper prefix of joined frames is whole frames and a proper prefix of the next
 pub record CutsInside (fs : List (List ℕ)) (part : List ℕ) : Type 0 where
   pub first : List (List ℕ)
@@ -82,42 +115,20 @@ pub record CutsInside (fs : List (List ℕ)) (part : List ℕ) : Type 0 where
   pub part_is : part ≡ concat first ++ rest
   pub inside : IsProperPrefix rest next
 
-pub le_or_gt : (n m : ℕ) → (n ≤ m) ⊎ (m < n)
-le_or_gt n m = grind arith
-
 pub cuts_inside : (fs : List (List ℕ)) (part : List ℕ) → IsProperPrefix part (concat fs) → CutsInside fs part
-cuts_inside [] part h = absurd (omega (arith, ap length h.joined, length-append part h.more, h.missing))
-cuts_inside (f ∷ fs) part h = elim (le_or_gt (length f) (length part)) [
-  | inl le ↦
-      let front : take (length f) part ≡ f =
-      sym (take-append-le (length f) part h.more le) ∙ ap (take (length f)) h.joined ∙ take-append_seam f (concat fs) in
-      let split : part ≡ f ++ drop (length f) part =
-      sym (take-append-drop (length f) part) ∙ ap (λ x. x ++ drop (length f) part) front in
-      let e : f ++ (drop (length f) part ++ h.more) ≡ f ++ concat fs =
-      sym (append_assoc f (drop (length f) part) h.more) ∙ ap (λ x. x ++ h.more) (sym split) ∙ h.joined in
-      let later_part = cuts_inside fs (drop (length f) part)
-      (record { more = h.more; joined = append_cancel_left f (drop (length f) part ++ h.more) (concat fs) e; missing = h.missing }) in
+cuts_inside [] part h = absurd (no_prefix part h)
+cuts_inside (f ∷ fs) part h = elim (cuts_one f (concat fs) part h) [
+  | inl inside ↦ record { first = []; next = f; others = fs; split = refl; rest = part; part_is = refl; inside = inside }
+  | inr cut ↦
+      let later_part = cuts_inside fs cut.0 cut.2 in
       record {
         first = f ∷ later_part.first;
         next = later_part.next;
         others = later_part.others;
         split = ap (λ xs. f ∷ xs) later_part.split;
         rest = later_part.rest;
-        part_is = split ∙ ap (λ x. f ++ x) later_part.part_is ∙ sym (append_assoc f (concat later_part.first) later_part.rest);
+        part_is = cut.1 ∙ ap (λ x. f ++ x) later_part.part_is ∙ sym (append_assoc f (concat later_part.first) later_part.rest);
         inside = later_part.inside;
-      }
-  | inr gt ↦
-      let short : length part ≤ length f = omega (arith, gt) in
-      let front : take (length part) f ≡ part =
-      sym (take-append-le (length part) f (concat fs) short) ∙ ap (take (length part)) (sym h.joined) ∙ take-append_seam part h.more in
-      record {
-        first = [];
-        next = f;
-        others = fs;
-        split = refl;
-        rest = part;
-        part_is = refl;
-        inside = record { more = drop (length part) f; joined = ap (λ x. x ++ drop (length part) f) (sym front) ∙ take-append-drop (length part) f; missing = omega (arith, gt, length-drop (length part) f) };
       }
 ]
 

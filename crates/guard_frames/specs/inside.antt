@@ -4,3 +4,4 @@ pub mod Cut
 pub mod Judged
 pub mod Putting
 pub mod Seats
+pub mod Waiting

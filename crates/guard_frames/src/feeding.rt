@@ -73,7 +73,7 @@ impl Link {
         ensures lines { AsksLines (R.asked reports.old) (R.asked reports.new) }
     {
         let (held, totals) = (&mut self.held, &mut self.totals);
-        match put_piece(held, totals, alloc, policy, piece, out, reports) {
+        match put_piece(alloc, held, totals, policy, piece, out, reports) {
             Ok(()) => Ok(()),
             Err(closing) => {
                 close(&mut self.held, &mut self.closed);
@@ -85,9 +85,9 @@ impl Link {
 
 /// Puts the frames that end in the piece, and holds what is left of it.
 fn put_piece<D: Decide, O: Sink, R: Sink>(
+    alloc: Global,
     held: &mut Vec<u8>,
     totals: &mut Totals,
-    alloc: Global,
     policy: &D,
     piece: &[u8],
     out: &mut O,
@@ -103,7 +103,7 @@ fn put_piece<D: Decide, O: Sink, R: Sink>(
     ensures lines { AsksLines (R.asked reports.old) (R.asked reports.new) }
 {
     if held.is_empty() {
-        return put_rest(held, totals, alloc, policy, piece, out, reports);
+        return put_rest(alloc, held, totals, policy, piece, out, reports);
     }
     let used = complete(held, piece);
     let Ok(whole) = put_frames(alloc, policy, held.as_slice(), *totals, out, reports) else {
@@ -117,14 +117,14 @@ fn put_piece<D: Decide, O: Sink, R: Sink>(
         return Ok(());
     }
     held.clear();
-    put_rest(held, totals, alloc, policy, &piece[used..], out, reports)
+    put_rest(alloc, held, totals, policy, &piece[used..], out, reports)
 }
 
 /// Puts the frames that end in the piece where nothing is held, and holds what is left of it.
 fn put_rest<D: Decide, O: Sink, R: Sink>(
+    alloc: Global,
     held: &mut Vec<u8>,
     totals: &mut Totals,
-    alloc: Global,
     policy: &D,
     piece: &[u8],
     out: &mut O,

@@ -13,7 +13,7 @@
 //! | How many frames were there? | `totals.rt` (`Totals`) | `specs/Totals.antt`, `specs/Guarding.antt` (`Counts`) |
 //! | What is answered of a frame that asks what becomes of it? | `answering.rt` (`answer`) | `specs/Answering.antt` |
 //! | What is read from and written to? | `devices.rt` (`Sink`, `Source`) | the clauses of the traits |
-//! | Which lines go in one call? | `devices.rt` (`put_all`), `report.rt`, `short_line.rt` | `specs/Calls.antt` |
+//! | Which lines go in one call? | `waiting.rt`, `devices.rt` (`put_all`), `short_line.rt` | `specs/Calls.antt` |
 //! | What does a failure leave? | `devices.rt` | `specs/Prefix.antt`, `specs/Guarding.antt` (`BreaksOff`) |
 //! | How is a file or pipe a source or a sink? | `through.rt` (`Through`) | `specs/ThroughView.antt` |
 //! | How is a list in memory a sink? | `kept.rt` (`Kept`) | `specs/KeptView.antt` |
@@ -57,6 +57,7 @@ mod short_line;
 mod texts;
 mod through;
 mod totals;
+mod waiting;
 
 pub use answering::answer;
 pub use body::Body;

@@ -31,7 +31,8 @@ impl Decide for Policy {
     }
 }
 
-/// Whether a frame goes, whose names are read and looked up.
+/// Whether a frame goes, whose names are read and looked up. Where no rule gives them, whether they are names is asked
+/// last, and so not of a frame that stays: its report asks it.
 fn goes_as_read(policy: &Policy, octets: &[u8], last: &mut LastRoute) -> bool
     ensures { IsTrue result ↔ BodyGoes (decision_of (policy_view policy.now)) octets.now }
 {
@@ -41,8 +42,10 @@ fn goes_as_read(policy: &Policy, octets: &[u8], last: &mut LastRoute) -> bool
     let names = &octets[..octets.len() - body.message.len()];
     match policy.passes_and_found(names, body.message, last) {
         Some(goes) => goes,
-        None if has_names(&body) => policy.passes(&route_of(&body), body.message),
-        None => false,
+        None => {
+            let route = route_of(&body);
+            policy.passes(&route, body.message) && has_names(&body)
+        }
     }
 }
 

@@ -10,8 +10,10 @@ ghost use Rattle.guard_frames.specs.inside.Putting.{ArePut};
 use crate::cut::{Cut, Rest, first_cut};
 use crate::decision::Decide;
 use crate::devices::{Failed, Sink, put_all};
-use crate::report::{Ruling, judge, put_report};
+use crate::report::{Ruling, judge, line_of};
+use crate::short_line::ShortLine;
 use crate::totals::Totals;
+use crate::waiting::Waiting;
 use guard_policy::LastRoute;
 use std::alloc::Global;
 
@@ -27,8 +29,9 @@ pub struct Whole {
 }
 
 /// Decides the whole frames at the front of the octets, counted on from `totals`, and puts each one that goes, or the
-/// report of one that stays. Frames that go side by side are put in one call, before the report of a frame after them.
-/// Most frames have the route of the frame before, so each is compared with it first.
+/// line of one that stays. Frames that go side by side wait to be put in one call, and so do lines of frames that stay
+/// side by side, as many as `Waiting` lets wait. What waits for one sink is put before anything goes to the other, and
+/// at the return nothing waits. Most frames have the route of the frame before, so each is compared with it first.
 pub fn put_frames<D: Decide, O: Sink, R: Sink>(
     alloc: Global,
     policy: &D,
@@ -50,23 +53,27 @@ pub fn put_frames<D: Decide, O: Sink, R: Sink>(
     let mut sent = 0;
     let mut end = 0;
     let mut last = LastRoute::none();
+    let mut waiting = Waiting::none(alloc);
     loop {
         let frame = match first_cut(&octets[end..]) {
             Cut::Frame(frame) => frame,
             Cut::Rest(rest) => {
                 put_all(out, &octets[sent..end])?;
+                waiting.put(reports)?;
                 return Ok(Whole { end, totals, rest });
             }
         };
         let number = totals.next_number();
         match judge(alloc, policy, number, &frame, &mut last) {
             Ruling::Goes => {
+                waiting.put(reports)?;
                 end += frame.octets.len();
                 totals = totals.after_going();
             }
             Ruling::Stays(report) => {
                 put_all(out, &octets[sent..end])?;
-                put_report(reports, number, &report)?;
+                let mut short = ShortLine::new();
+                waiting.add(reports, line_of(number, &report, &mut short))?;
                 end += frame.octets.len();
                 totals = totals.after_staying();
                 sent = end;

@@ -1,6 +1,6 @@
 //! What becomes of a frame, and the line that is reported of one that stays.
 
-ghost use Rattle.std.specs.Prelude.{◌≡◌, ◌++◌, ◌≤◌, true, List, ℕ, drop, length, OnOk, OnErr, decimal};
+ghost use Rattle.std.specs.Prelude.{◌≡◌, ◌++◌, ◌≤◌, true, List, [], ℕ, drop, length, OnOk, OnErr, decimal};
 ghost use Rattle.std.specs.Io.KnownBytes.{Appends};
 ghost use Rattle.guard_frames.specs.Calls.{EndsLine, AsksLines};
 ghost use Rattle.guard_frames.specs.Prefix.{IsProperPrefix};
@@ -80,26 +80,34 @@ pub(crate) fn put_report<S: Sink>(sink: &mut S, number: u64, report: &Report) ->
     ensures failed { OnErr result (S.has_failed sink.new ≡ true) }
     ensures lines { AsksLines (S.asked sink.old) (S.asked sink.new) }
 {
+    let mut short = ShortLine::new();
+    put_all(sink, line_of(number, report, &mut short))
+}
+
+/// The line that says why the frame of this number stays. One that takes no memory is put together in `short`.
+pub(crate) fn line_of<'a>(number: u64, report: &'a Report, short: &'a mut ShortLine) -> &'a [u8]
+    requires ends { ReportEnds report.now }
+    requires empty { short.old.items ≡ [] }
+    ensures line { result.now ≡ report_line number report.now }
+    ensures ends { EndsLine result.now }
+{
     match report {
-        Report::BadHeader => put_numbered(sink, number, b" bad-header\n"),
-        Report::NoMemory => put_numbered(sink, number, b" no-memory\n"),
-        Report::Line(line) => put_all(sink, line.as_slice()),
+        Report::BadHeader => numbered(number, b" bad-header\n", short),
+        Report::NoMemory => numbered(number, b" no-memory\n", short),
+        Report::Line(line) => line.as_slice(),
     }
 }
 
-/// Puts the number in decimal and then the octets, which end a line, in one call. It takes no memory.
-fn put_numbered<S: Sink>(sink: &mut S, number: u64, octets: &[u8]) -> Result<(), Failed>
+/// The number in decimal and then the octets, which end a line.
+fn numbered<'a>(number: u64, octets: &[u8], line: &'a mut ShortLine) -> &'a [u8]
     requires short { length octets.now ≤ 20 }
     requires ends { EndsLine octets.now }
-    ensures all { OnOk result (Appends (S.taken sink.old) (S.taken sink.new) (decimal number ++ octets.now)) }
-    ensures part { OnErr result ((part : List ℕ) × IsProperPrefix part (decimal number ++ octets.now)
-        × Appends (S.taken sink.old) (S.taken sink.new) part) }
-    ensures failed { OnErr result (S.has_failed sink.new ≡ true) }
-    ensures lines { AsksLines (S.asked sink.old) (S.asked sink.new) }
+    requires empty { line.old.items ≡ [] }
+    ensures line { result.now ≡ decimal number ++ octets.now }
+    ensures ends { EndsLine result.now }
 {
     let mut buffer = Buffer::new();
-    let mut line = ShortLine::new();
-    add(&mut line, buffer.format(number).as_bytes());
-    add(&mut line, octets);
-    put_all(sink, line.as_slice())
+    add(line, buffer.format(number).as_bytes());
+    add(line, octets);
+    line.as_slice()
 }

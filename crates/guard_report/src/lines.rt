@@ -10,6 +10,9 @@ use guard_model::OutOfMemory;
 use guard_policy::{Policy, Route, Verdict};
 use std::alloc::Global;
 
+/// Few lines have more octets. So a line grows once.
+const USUAL_LENGTH: usize = 128;
+
 /// The line of the verdict on the message of a frame, by the frame's number: its number, sender and receiver as
 /// `FROM>TO`, the message's name and the text of the verdict, and a line feed. It fails only where
 /// memory runs out.
@@ -23,7 +26,9 @@ pub fn line(
     ensures { IfOk result (λ line. line.items
         ≡ line_octets (policy_view policy.now) (route_view route.now) number (verdict_view verdict.now)) }
 {
-    let mut line = Vec::new(alloc);
+    let mut line: Vec<u8> = Vec::new(alloc);
+    // Where there is no room for so many octets, there may be for fewer.
+    let _ = line.reserve(USUAL_LENGTH);
     add_line(&mut line, number, route, verdict, policy)?;
     Ok(line)
 }

@@ -44,7 +44,7 @@ rule_called name = record {
 
 abbrev pub policy : AbstractPolicy
 policy = record {
-  messages = record { name = codes "order"; ty = order } ∷ [];
+  messages = record { name = codes "order"; home = codes "Orders"; ty = order } ∷ [];
   rules = rule_called (codes "small") ∷ rule_called (codes "wide") ∷ [];
   modules = codes "First" ∷ codes "Orders" ∷ [];
 }

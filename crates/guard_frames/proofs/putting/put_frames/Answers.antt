@@ -1,4 +1,4 @@
-use Rattle.std.proofs.Common.{ℕ, ◌-◌, subst, take, drop}
+use Rattle.std.proofs.Common.{ℕ, ◌-◌, sym, subst, take, drop}
 use Rattle.guard_frames.specs.Totals.{next_number}
 use Rattle.guard_frames.specs.Outcomes.{staying}
 use Rattle.guard_frames.specs.Added.{nothing}
@@ -6,16 +6,20 @@ use Rattle.guard_frames.specs.Guarding.{Adds}
 use Rattle.guard_frames.specs.inside.Judged.{report_line}
 use Rattle.guard_frames.proofs.Asking.{asks_none, asks_trans}
 use Rattle.guard_frames.proofs.Appending.{sent_more, reported_more, both_none, both_sent, both_reported}
-use Rattle.guard_frames.proofs.Steps.{on_err_of, first_at, at_first, one_goes, one_stays, at_last, breaks_waiting, breaks_report}
+use Rattle.guard_frames.proofs.Steps.{on_err_of, first_at, at_last}
+use Rattle.guard_frames.proofs.Waits.{no_lines, at_start, frames_put, frames_break, goes_next, line_breaks, stays_next}
 use Rattle.guard_frames.proofs.putting.put_frames.Goals as goal
 
 pub loop-frame-init : goal.loop-frame-init
 loop-frame-init g c = (
   nothing,
-  at_first (g.D.Decide.decides c.args.policy.now) c.args.totals c.args.octets.now,
+  at_start (g.D.Decide.decides c.args.policy.now) c.args.totals c.args.octets.now c.none-waiting.result.lines.items c.none-waiting.ensures,
   both_none _ _,
   asks_none _,
+  no_lines c.none-waiting.result.lines.items c.none-waiting.ensures,
 )
+
+-- ---- no whole frame is left
 
 pub returns-in_err-put_all-in-Rest-clause-failure : goal.returns-in_err-put_all-in-Rest-clause-failure
 returns-in_err-put_all-in-Rest-clause-failure g c =
@@ -24,8 +28,24 @@ returns-in_err-put_all-in-Rest-clause-failure g c =
     let p = c.in_err-put_all-in-Rest.ensures.part in
     on_err_of c.from_residual.result (
       sent_more h.0 p.0,
-      breaks_waiting d c.args.totals c.loop-frame.totals c.args.octets.now p.0 c.loop-frame.sent c.loop-frame.end h.0 h.1 p.1,
+      frames_break d c.args.totals c.loop-frame.totals c.args.octets.now c.loop-frame.waiting.lines.items p.0 c.loop-frame.sent c.loop-frame.end h.0 h.1 p.1,
       both_sent _ _ _ _ _ h.0 p.0 h.2 p.2,
+    )
+
+pub put-requires : goal.put-requires
+put-requires g c = c.loop-frame.invariant.4
+
+pub returns-in_err-put-in-Rest-clause-failure : goal.returns-in_err-put-in-Rest-clause-failure
+returns-in_err-put-in-Rest-clause-failure g c =
+    let d = g.D.Decide.decides c.args.policy.now in
+    let h = c.loop-frame.invariant in
+    let s = c.args.octets.now in
+    let waiting = take (c.loop-frame.end - c.loop-frame.sent) (drop c.loop-frame.sent s) in
+    let p = c.in_err-put-in-Rest.ensures.part in
+    on_err_of c.from_residual-in_err-put-in-Rest.result (
+      reported_more (sent_more h.0 waiting) p.0,
+      frames_put d c.args.totals c.loop-frame.totals s c.loop-frame.waiting.lines.items c.loop-frame.sent c.loop-frame.end h.0 h.1 p.0 p.1,
+      both_reported _ _ _ _ _ (sent_more h.0 waiting) p.0 (both_sent _ _ _ _ _ h.0 waiting h.2 c.in_ok-put_all-in-Rest.ensures.all) p.2,
     )
 
 pub returns-in-Rest-clause-whole : goal.returns-in-Rest-clause-whole
@@ -34,10 +54,23 @@ returns-in-Rest-clause-whole g c =
     let h = c.loop-frame.invariant in
     let s = c.args.octets.now in
     let waiting = take (c.loop-frame.end - c.loop-frame.sent) (drop c.loop-frame.sent s) in (
-      sent_more h.0 waiting,
-      at_last d c.args.totals c.loop-frame.totals s c.loop-frame.sent c.loop-frame.end c.in-Rest.rest h.0 h.1 c.in-Rest.ensures,
-      both_sent _ _ _ _ _ h.0 waiting h.2 c.in_ok-put_all-in-Rest.ensures.all,
+      reported_more (sent_more h.0 waiting) c.loop-frame.waiting.lines.items,
+      at_last d c.args.totals c.loop-frame.totals s c.loop-frame.sent c.loop-frame.end c.in-Rest.rest (reported_more h.0 c.loop-frame.waiting.lines.items) h.1.so_far c.in-Rest.ensures,
+      both_reported _ _ _ _ _ (sent_more h.0 waiting) c.loop-frame.waiting.lines.items (both_sent _ _ _ _ _ h.0 waiting h.2 c.in_ok-put_all-in-Rest.ensures.all)
+          c.in_ok-put-in-Rest.ensures.all,
     )
+
+-- ---- a frame goes
+
+pub put-requires-in-Goes : goal.put-requires-in-Goes
+put-requires-in-Goes g c = c.loop-frame.invariant.4
+
+pub returns-in_err-put-in-Goes-clause-failure : goal.returns-in_err-put-in-Goes-clause-failure
+returns-in_err-put-in-Goes-clause-failure g c =
+    let h = c.loop-frame.invariant in
+    let p = c.in_err-put-in-Goes.ensures.part in
+    on_err_of c.from_residual-in_err-put-in-Goes.result
+    (reported_more h.0 p.0, h.1.breaks p.0 p.1, both_reported _ _ _ _ _ h.0 p.0 h.2 p.2)
 
 pub loop-frame-preserved-in-Goes : goal.loop-frame-preserved-in-Goes
 loop-frame-preserved-in-Goes g c =
@@ -45,13 +78,16 @@ loop-frame-preserved-in-Goes g c =
     let h = c.loop-frame.invariant in
     let s = c.args.octets.now in
     let f = c.in-Frame.frame in
-    let at = first_at s c.loop-frame.end f h.1.within c.in-Frame.ensures in (
-      h.0,
-      one_goes d c.args.totals c.loop-frame.totals c.after_going-totals.result s f.octets.now c.loop-frame.sent c.loop-frame.end h.0 h.1 at
-          c.in-Goes.ensures.judged c.after_going-totals.ensures,
-      h.2,
-      h.3,
+    let at = first_at s c.loop-frame.end f h.1.so_far.within c.in-Frame.ensures in (
+      reported_more h.0 c.loop-frame.waiting.lines.items,
+      goes_next d c.args.totals c.loop-frame.totals c.after_going-totals.result s f.octets.now c.loop-frame.waiting.lines.items c.put-in-Goes.new.self.lines.items
+          c.loop-frame.sent c.loop-frame.end h.0 h.1 at c.in-Goes.ensures.judged c.after_going-totals.ensures c.in_ok-put-in-Goes.ensures.none,
+      both_reported _ _ _ _ _ h.0 c.loop-frame.waiting.lines.items h.2 c.in_ok-put-in-Goes.ensures.all,
+      asks_trans _ _ _ h.3 c.in_ok-put-in-Goes.ensures.lines,
+      no_lines c.put-in-Goes.new.self.lines.items c.in_ok-put-in-Goes.ensures.none,
     )
+
+-- ---- a frame stays
 
 pub returns-in_err-put_all-in-Stays-clause-failure : goal.returns-in_err-put_all-in-Stays-clause-failure
 returns-in_err-put_all-in-Stays-clause-failure g c =
@@ -60,45 +96,51 @@ returns-in_err-put_all-in-Stays-clause-failure g c =
     let p = c.in_err-put_all-in-Stays.ensures.part in
     on_err_of c.from_residual-in_err-put_all-in-Stays.result (
       sent_more h.0 p.0,
-      breaks_waiting d c.args.totals c.loop-frame.totals c.args.octets.now p.0 c.loop-frame.sent c.loop-frame.end h.0 h.1 p.1,
+      frames_break d c.args.totals c.loop-frame.totals c.args.octets.now c.loop-frame.waiting.lines.items p.0 c.loop-frame.sent c.loop-frame.end h.0 h.1 p.1,
       both_sent _ _ _ _ _ h.0 p.0 h.2 p.2,
     )
 
-pub returns-in_err-put_report-in-Stays-clause-failure : goal.returns-in_err-put_report-in-Stays-clause-failure
-returns-in_err-put_report-in-Stays-clause-failure g c =
+pub add-requires-clause-waiting : goal.add-requires-clause-waiting
+add-requires-clause-waiting g c = c.loop-frame.invariant.4
+
+pub returns-in_err-add-in-Stays-clause-failure : goal.returns-in_err-add-in-Stays-clause-failure
+returns-in_err-add-in-Stays-clause-failure g c =
     let d = g.D.Decide.decides c.args.policy.now in
     let h = c.loop-frame.invariant in
     let s = c.args.octets.now in
     let f = c.in-Frame.frame in
-    let at = first_at s c.loop-frame.end f h.1.within c.in-Frame.ensures in
+    let at = first_at s c.loop-frame.end f h.1.so_far.within c.in-Frame.ensures in
     let waiting = take (c.loop-frame.end - c.loop-frame.sent) (drop c.loop-frame.sent s) in
-    let line = report_line c.next_number-number.result c.in-Stays.report in
-    let adds : Adds d (next_number c.loop-frame.totals) (staying f.octets.now) line =
-    subst (λ (k : ℕ). Adds d k (staying f.octets.now) line) c.next_number-number.ensures c.in-Stays.ensures.judged in
-    let p = c.in_err-put_report-in-Stays.ensures.part in
-    on_err_of c.from_residual-in_err-put_report-in-Stays.result (
+    let adds : Adds d (next_number c.loop-frame.totals) (staying f.octets.now) c.line_of.result.now =
+    subst (Adds d (next_number c.loop-frame.totals) (staying f.octets.now)) (sym c.line_of.ensures.line)
+    (subst (λ (k : ℕ). Adds d k (staying f.octets.now) (report_line c.next_number-number.result c.in-Stays.report))
+    c.next_number-number.ensures c.in-Stays.ensures.judged) in
+    let p = c.in_err-add-in-Stays.ensures.part in
+    on_err_of c.from_residual-in_err-add-in-Stays.result (
       reported_more (sent_more h.0 waiting) p.0,
-      breaks_report d c.args.totals c.loop-frame.totals s f.octets.now line p.0 c.loop-frame.sent c.loop-frame.end h.0 h.1 at adds p.1,
+      line_breaks d c.args.totals c.loop-frame.totals s f.octets.now c.loop-frame.waiting.lines.items c.line_of.result.now p.0 c.loop-frame.sent c.loop-frame.end h.0 h.1 at adds p.1,
       both_reported _ _ _ _ _ (sent_more h.0 waiting) p.0 (both_sent _ _ _ _ _ h.0 waiting h.2 c.in_ok-put_all-in-Stays.ensures.all) p.2,
     )
 
-pub loop-frame-preserved-in_ok-put_report-in-Stays : goal.loop-frame-preserved-in_ok-put_report-in-Stays
-loop-frame-preserved-in_ok-put_report-in-Stays g c =
+pub loop-frame-preserved-in_ok-add-in-Stays : goal.loop-frame-preserved-in_ok-add-in-Stays
+loop-frame-preserved-in_ok-add-in-Stays g c =
     let d = g.D.Decide.decides c.args.policy.now in
     let h = c.loop-frame.invariant in
     let s = c.args.octets.now in
     let f = c.in-Frame.frame in
-    let at = first_at s c.loop-frame.end f h.1.within c.in-Frame.ensures in
+    let at = first_at s c.loop-frame.end f h.1.so_far.within c.in-Frame.ensures in
     let waiting = take (c.loop-frame.end - c.loop-frame.sent) (drop c.loop-frame.sent s) in
-    let line = report_line c.next_number-number.result c.in-Stays.report in
-    let adds : Adds d (next_number c.loop-frame.totals) (staying f.octets.now) line =
-    subst (λ (k : ℕ). Adds d k (staying f.octets.now) line) c.next_number-number.ensures c.in-Stays.ensures.judged in (
-      reported_more (sent_more h.0 waiting) line,
-      one_stays d c.args.totals c.loop-frame.totals c.after_staying-totals.result s f.octets.now line c.loop-frame.sent c.loop-frame.end h.0 h.1 at adds
-          c.after_staying-totals.ensures,
-      both_reported _ _ _ _ _ (sent_more h.0 waiting) line (both_sent _ _ _ _ _ h.0 waiting h.2 c.in_ok-put_all-in-Stays.ensures.all)
-          c.in_ok-put_report-in-Stays.ensures.all,
-      asks_trans _ _ _ h.3 c.in_ok-put_report-in-Stays.ensures.lines,
+    let adds : Adds d (next_number c.loop-frame.totals) (staying f.octets.now) c.line_of.result.now =
+    subst (Adds d (next_number c.loop-frame.totals) (staying f.octets.now)) (sym c.line_of.ensures.line)
+    (subst (λ (k : ℕ). Adds d k (staying f.octets.now) (report_line c.next_number-number.result c.in-Stays.report))
+    c.next_number-number.ensures c.in-Stays.ensures.judged) in
+    let q = c.in_ok-add-in-Stays.ensures.all in (
+      reported_more (sent_more h.0 waiting) q.0,
+      stays_next d c.args.totals c.loop-frame.totals c.after_staying-totals.result s f.octets.now c.loop-frame.waiting.lines.items c.line_of.result.now q.0
+          c.add.new.self.lines.items c.loop-frame.sent c.loop-frame.end h.0 h.1 at adds c.after_staying-totals.ensures q.1,
+      both_reported _ _ _ _ _ (sent_more h.0 waiting) q.0 (both_sent _ _ _ _ _ h.0 waiting h.2 c.in_ok-put_all-in-Stays.ensures.all) q.2,
+      asks_trans _ _ _ h.3 c.in_ok-add-in-Stays.ensures.lines,
+      c.in_ok-add-in-Stays.ensures.waiting,
     )
 
 pub loop-frame-preserved : goal.loop-frame-preserved
@@ -107,31 +149,41 @@ loop-frame-preserved g c =
     let h = c.loop-frame.invariant in
     let s = c.args.octets.now in
     let f = c.in-Frame.frame in
-    let at = first_at s c.loop-frame.end f h.1.within c.in-Frame.ensures in
+    let at = first_at s c.loop-frame.end f h.1.so_far.within c.in-Frame.ensures in
     let waiting = take (c.loop-frame.end - c.loop-frame.sent) (drop c.loop-frame.sent s) in
-    let line = report_line c.next_number-number.result c.in-Stays.report in
-    let adds : Adds d (next_number c.loop-frame.totals) (staying f.octets.now) line =
-    subst (λ (k : ℕ). Adds d k (staying f.octets.now) line) c.next_number-number.ensures c.in-Stays.ensures.judged in (
-      reported_more (sent_more h.0 waiting) line,
-      one_stays d c.args.totals c.loop-frame.totals c.after_staying-totals.result s f.octets.now line c.loop-frame.sent c.loop-frame.end h.0 h.1 at adds
-          c.after_staying-totals.ensures,
-      both_reported _ _ _ _ _ (sent_more h.0 waiting) line (both_sent _ _ _ _ _ h.0 waiting h.2 c.in_ok-put_all-in-Stays.ensures.all)
-          c.in_ok-put_report-in-Stays.ensures.all,
-      asks_trans _ _ _ h.3 c.in_ok-put_report-in-Stays.ensures.lines,
+    let adds : Adds d (next_number c.loop-frame.totals) (staying f.octets.now) c.line_of.result.now =
+    subst (Adds d (next_number c.loop-frame.totals) (staying f.octets.now)) (sym c.line_of.ensures.line)
+    (subst (λ (k : ℕ). Adds d k (staying f.octets.now) (report_line c.next_number-number.result c.in-Stays.report))
+    c.next_number-number.ensures c.in-Stays.ensures.judged) in
+    let q = c.in_ok-add-in-Stays.ensures.all in (
+      reported_more (sent_more h.0 waiting) q.0,
+      stays_next d c.args.totals c.loop-frame.totals c.after_staying-totals.result s f.octets.now c.loop-frame.waiting.lines.items c.line_of.result.now q.0
+          c.add.new.self.lines.items c.loop-frame.sent c.loop-frame.end h.0 h.1 at adds c.after_staying-totals.ensures q.1,
+      both_reported _ _ _ _ _ (sent_more h.0 waiting) q.0 (both_sent _ _ _ _ _ h.0 waiting h.2 c.in_ok-put_all-in-Stays.ensures.all) q.2,
+      asks_trans _ _ _ h.3 c.in_ok-add-in-Stays.ensures.lines,
+      c.in_ok-add-in-Stays.ensures.waiting,
     )
 
-pub put_report-requires : goal.put_report-requires
-put_report-requires g c = c.in-Stays.ensures.ends
+-- ---- each call ends a line
 
 pub returns-in_err-put_all-in-Rest-clause-lines : goal.returns-in_err-put_all-in-Rest-clause-lines
 returns-in_err-put_all-in-Rest-clause-lines g c = c.loop-frame.invariant.3
 
+pub returns-in_err-put-in-Rest-clause-lines : goal.returns-in_err-put-in-Rest-clause-lines
+returns-in_err-put-in-Rest-clause-lines g c =
+    asks_trans _ _ _ c.loop-frame.invariant.3 c.in_err-put-in-Rest.ensures.lines
+
 pub returns-in-Rest-clause-lines : goal.returns-in-Rest-clause-lines
-returns-in-Rest-clause-lines g c = c.loop-frame.invariant.3
+returns-in-Rest-clause-lines g c =
+    asks_trans _ _ _ c.loop-frame.invariant.3 c.in_ok-put-in-Rest.ensures.lines
+
+pub returns-in_err-put-in-Goes-clause-lines : goal.returns-in_err-put-in-Goes-clause-lines
+returns-in_err-put-in-Goes-clause-lines g c =
+    asks_trans _ _ _ c.loop-frame.invariant.3 c.in_err-put-in-Goes.ensures.lines
 
 pub returns-in_err-put_all-in-Stays-clause-lines : goal.returns-in_err-put_all-in-Stays-clause-lines
 returns-in_err-put_all-in-Stays-clause-lines g c = c.loop-frame.invariant.3
 
-pub returns-in_err-put_report-in-Stays-clause-lines : goal.returns-in_err-put_report-in-Stays-clause-lines
-returns-in_err-put_report-in-Stays-clause-lines g c =
-    asks_trans _ _ _ c.loop-frame.invariant.3 c.in_err-put_report-in-Stays.ensures.lines
+pub returns-in_err-add-in-Stays-clause-lines : goal.returns-in_err-add-in-Stays-clause-lines
+returns-in_err-add-in-Stays-clause-lines g c =
+    asks_trans _ _ _ c.loop-frame.invariant.3 c.in_err-add-in-Stays.ensures.lines

@@ -20,6 +20,7 @@ pub mod ShownAnswers
 pub mod ValueLexemes
 pub mod AssignedTrees
 pub mod WrittenValues
+pub mod LoadedTexts
 pub mod CasesFound
 pub mod TriedCases
 pub mod RecordLaws

@@ -4,17 +4,17 @@ use Rattle.std.proofs.lemmas.List.{append-nil, at_drop_more}
 use Rattle.toml.specs.Data.{Items, no_items, item}
 use Rattle.toml.specs.View.{items_view, view}
 use Rattle.toml.specs.declared.value.Value.{Value}
-use Rattle.guard_policy.specs.Policies.{AbstractPolicy}
 use Rattle.derguard_program.specs.Cases.{AbstractCase, case_in, members_in}
+use Rattle.derguard_program.specs.Reading.{AbstractLoaded}
 use Rattle.derguard_program.specs.Testing.{AbstractCame, AreTried, IsCame, case_line, failures, is_wanted}
 
 -- what is left, after what was tried, is all
-abbrev pub Continues : AbstractPolicy → ℕ → Items → List ℕ → ℕ → List ℕ → Items → Type 0
+abbrev pub Continues : AbstractLoaded → ℕ → Items → List ℕ → ℕ → List ℕ → Items → Type 0
 Continues p number left lines failed reached all =
     (rest : List ℕ) (others : ℕ) (more : List ℕ) → AreTried p number left rest others more → AreTried p 1 all (lines ++ rest) (failed + others) (reached ++ more)
 
 -- these are what comes of all, written in other words
-same_tried : (p : AbstractPolicy) (all : Items) (lines lines' : List ℕ) (failed failed' : ℕ) (reached reached' : List ℕ) → lines ≡ lines' → failed ≡ failed' → reached ≡ reached'
+same_tried : (p : AbstractLoaded) (all : Items) (lines lines' : List ℕ) (failed failed' : ℕ) (reached reached' : List ℕ) → lines ≡ lines' → failed ≡ failed' → reached ≡ reached'
     → AreTried p 1 all lines failed reached → AreTried p 1 all lines' failed' reached'
 same_tried p all lines lines' failed failed' reached reached' l f r h =
     subst (λ (x : List ℕ). AreTried p 1 all lines' failed' x) r (subst (λ (x : ℕ). AreTried p 1 all lines' x reached) f (subst (λ (x : List ℕ). AreTried p 1 all x failed reached) l h))
@@ -23,7 +23,7 @@ next_left : (items : List Value) (i : ℕ) (x : Value) → i < length items → 
 next_left items i x within at = at_drop_more items_view items i x within ∙ ap (λ (y : Value). item (view y) (items_view (drop (i + 1) items))) (sym at)
 
 -- one more case is tried
-pub one_tried : (p : AbstractPolicy) (all : Items) (items : List Value) (i : ℕ) (x : Value) (c : AbstractCase) (came : AbstractCame) (lines : List ℕ) (failed : ℕ) (reached : List ℕ)
+pub one_tried : (p : AbstractLoaded) (all : Items) (items : List Value) (i : ℕ) (x : Value) (c : AbstractCase) (came : AbstractCame) (lines : List ℕ) (failed : ℕ) (reached : List ℕ)
     → i < length items → x ≡ get_or items i x → c ≡ case_in (members_in (view x)) → IsCame p c came → Continues p (i + 1) (items_view (drop i items)) lines failed reached all
     → Continues p (i + 1 + 1) (items_view (drop (i + 1) items)) (lines ++ case_line (i + 1) c came.text) (failed + failures c came.text) (reached ++ came.reached) all
 one_tried p all items i x c came lines failed reached within at is comes so_far rest others more h =
@@ -36,12 +36,12 @@ one_tried p all items i x c came lines failed reached within at is comes so_far 
     (sym (append_assoc lines line rest)) (omega arith) (sym (append_assoc reached came.reached more)) tried
 
 -- where none is left all are tried
-pub all_tried : (p : AbstractPolicy) (number : ℕ) (all : Items) (lines : List ℕ) (failed : ℕ) (reached : List ℕ) → Continues p number no_items lines failed reached all → AreTried p 1 all lines failed reached
+pub all_tried : (p : AbstractLoaded) (number : ℕ) (all : Items) (lines : List ℕ) (failed : ℕ) (reached : List ℕ) → Continues p number no_items lines failed reached all → AreTried p 1 all lines failed reached
 all_tried p number all lines failed reached so_far =
     same_tried p all (lines ++ []) lines (failed + 0) failed (reached ++ []) reached (append-nil lines) (omega arith) (append-nil reached) (so_far [] 0 [] (refl, refl, refl))
 
 -- and before the first all are left
-pub none_tried : (p : AbstractPolicy) (all : Items) → Continues p 1 all [] 0 [] all
+pub none_tried : (p : AbstractLoaded) (all : Items) → Continues p 1 all [] 0 [] all
 none_tried p all rest others more h = same_tried p all rest rest others (0 + others) more more refl (omega arith) refl h
 
 pub few : (c : AbstractCase) (came : List ℕ) → failures c came ≤ 1

@@ -13,8 +13,7 @@ use Rattle.guard_syntax.specs.Sites.{sited}
 use Rattle.guard_syntax.specs.Trees.{WrittenModule, WrittenValue}
 use Rattle.guard_values.specs.Denotes.{Denotes}
 use Rattle.guard_values.specs.Meanings.{Meaning}
-use Rattle.guard_values.specs.Views.{known_definition, named}
-use Rattle.guard_values.specs.declared.scope.Known.{Known}
+use Rattle.guard_values.specs.Views.{named}
 use Rattle.reads_back.specs.ReadingBack.{IsReadAs}
 use Rattle.guard_schema.specs.declared.fault.SchemaFault.{SchemaFault}
 use Rattle.guard_schema.specs.declared.fault.SchemaFault.TheVariants.{Lex, Syntax, Value, Name, Tag, Clash, Cons, DefaultOutside, TooLarge, OutOfMemory}
@@ -26,7 +25,7 @@ use Rattle.guard_values.specs.declared.fault.ValueFault.TheVariants as values
 use Rattle.guard_values.specs.FirstFault.{IsFirstFault}
 use Rattle.derguard_program.specs.declared.fault.Fault.{Fault}
 use Rattle.derguard_program.specs.declared.fault.Fault.TheVariants.{BadHex, CannotRead, Schema, Policy, Run, NoMemory}
-use Rattle.derguard_program.specs.ValueTexts.{no_values, HaveNoTree, IsNoValue, IsWrittenAs, OfText}
+use Rattle.derguard_program.specs.ValueTexts.{HaveNoTree, IsNoValue, IsWrittenAs, OfText}
 use Rattle.derguard_program.specs.inside.Assigned.{assigned, sites_around, AssignsOne, IsLexFault, IsSyntaxFault, IsUnexpected, IsValueFault, syntax_refusal, value_refusal}
 use Rattle.derguard_program.proofs.AssignedTrees.{module_of, module_written, one_assigned, value_assigned}
 
@@ -37,8 +36,8 @@ is_written_as text tokens m tree end lexed w h one =
     let a = value_assigned m tree (lexemes_of text tokens) (sites_of tokens) end w h one in
     record { tokens = tokens; lexed = lexed; grammar = a.grammar; written = a.written; behind = end ∷ []; sited = a.placed }
 
-pub is_read_as : (t : AbstractType) (text : List ℕ) (tree : WrittenValue) (v : AbstractValue) → IsWrittenAs text tree → Denotes no_values t tree v → IsReadAs no_values t text v
-is_read_as t text tree v w d = record {
+pub is_read_as : (m : Meaning) (t : AbstractType) (text : List ℕ) (tree : WrittenValue) (v : AbstractValue) → IsWrittenAs text tree → Denotes m t tree v → IsReadAs m t text v
+is_read_as m t text tree v w d = record {
   place = 1;
   tokens = w.tokens;
   lexed = w.lexed;
@@ -57,15 +56,6 @@ none_assigned text tokens m only none tree g e =
     let one = one_assigned tree is.0 m is.1 in
     none one.0 one.1
 
--- ---- of no modules no name means a value
-
-pub nothing_known : (known : Known) (place : Option ℕ) → known.types.items ≡ [] → known_definition known place ≡ None
-nothing_known known None none = refl
-nothing_known known (Some place) none = rw none refl
-
-pub means_nothing : (m : Meaning) → ((name : List ℕ) → m name ≡ None) → m ≡ no_values
-means_nothing m none = λ i name. none name i
-
 -- ---- faults
 
 pub of_text_weaker : (A B : SchemaFault → Type 0) → ((g : SchemaFault) → A g → B g) → (f : Fault) → OfText A f → OfText B f
@@ -76,59 +66,59 @@ of_text_weaker A B w (CannotRead file) h = absurd h
 of_text_weaker A B w (Policy f) h = absurd h
 of_text_weaker A B w (Run f) h = absurd h
 
-pub lex_fault : (t : AbstractType) (text : List ℕ) (g : SchemaFault) → IsLexFault text g → IsNoValue t text g
-lex_fault t text (Lex f) h = h
-lex_fault t text (Syntax f) h = absurd h
-lex_fault t text (Value f) h = absurd h
-lex_fault t text (Name f) h = absurd h
-lex_fault t text (Tag f) h = absurd h
-lex_fault t text (Clash site clash common) h = absurd h
-lex_fault t text (Cons f) h = absurd h
-lex_fault t text (DefaultOutside site) h = absurd h
-lex_fault t text (TooLarge site) h = absurd h
-lex_fault t text OutOfMemory h = absurd h
+pub lex_fault : (m : Meaning) (t : AbstractType) (text : List ℕ) (g : SchemaFault) → IsLexFault text g → IsNoValue m t text g
+lex_fault m t text (Lex f) h = h
+lex_fault m t text (Syntax f) h = absurd h
+lex_fault m t text (Value f) h = absurd h
+lex_fault m t text (Name f) h = absurd h
+lex_fault m t text (Tag f) h = absurd h
+lex_fault m t text (Clash site clash common) h = absurd h
+lex_fault m t text (Cons f) h = absurd h
+lex_fault m t text (DefaultOutside site) h = absurd h
+lex_fault m t text (TooLarge site) h = absurd h
+lex_fault m t text OutOfMemory h = absurd h
 
-pub syntax_fault : (t : AbstractType) (text : List ℕ) (tokens : List Token) → Lexes 1 text tokens → (g : SchemaFault) → IsSyntaxFault text tokens g → IsNoValue t text g
-syntax_fault t text tokens lexed (Lex f) h = absurd h
-syntax_fault t text tokens lexed (Syntax f) h = (tokens, lexed, h)
-syntax_fault t text tokens lexed (Value f) h = absurd h
-syntax_fault t text tokens lexed (Name f) h = absurd h
-syntax_fault t text tokens lexed (Tag f) h = absurd h
-syntax_fault t text tokens lexed (Clash site clash common) h = absurd h
-syntax_fault t text tokens lexed (Cons f) h = absurd h
-syntax_fault t text tokens lexed (DefaultOutside site) h = absurd h
-syntax_fault t text tokens lexed (TooLarge site) h = absurd h
-syntax_fault t text tokens lexed OutOfMemory h = absurd h
+pub syntax_fault : (m : Meaning) (t : AbstractType) (text : List ℕ) (tokens : List Token) → Lexes 1 text tokens → (g : SchemaFault) → IsSyntaxFault text tokens g → IsNoValue m t text g
+syntax_fault m t text tokens lexed (Lex f) h = absurd h
+syntax_fault m t text tokens lexed (Syntax f) h = (tokens, lexed, h)
+syntax_fault m t text tokens lexed (Value f) h = absurd h
+syntax_fault m t text tokens lexed (Name f) h = absurd h
+syntax_fault m t text tokens lexed (Tag f) h = absurd h
+syntax_fault m t text tokens lexed (Clash site clash common) h = absurd h
+syntax_fault m t text tokens lexed (Cons f) h = absurd h
+syntax_fault m t text tokens lexed (DefaultOutside site) h = absurd h
+syntax_fault m t text tokens lexed (TooLarge site) h = absurd h
+syntax_fault m t text tokens lexed OutOfMemory h = absurd h
 
-pub unexpected_fault : (t : AbstractType) (text : List ℕ) (tokens : List Token) → Lexes 1 text tokens → HaveNoTree text tokens → (g : SchemaFault) → IsUnexpected g → IsNoValue t text g
-unexpected_fault t text tokens lexed none g h = subst (IsNoValue t text) (sym h.1) (tokens, lexed, none)
+pub unexpected_fault : (m : Meaning) (t : AbstractType) (text : List ℕ) (tokens : List Token) → Lexes 1 text tokens → HaveNoTree text tokens → (g : SchemaFault) → IsUnexpected g → IsNoValue m t text g
+unexpected_fault m t text tokens lexed none g h = subst (IsNoValue m t text) (sym h.1) (tokens, lexed, none)
 
-pub value_fault : (t : AbstractType) (text : List ℕ) (tree : WrittenValue) → IsWrittenAs text tree → (g : SchemaFault) → IsValueFault t tree g → IsNoValue t text g
-value_fault t text tree w (Lex f) h = absurd h
-value_fault t text tree w (Syntax f) h = absurd h
-value_fault t text tree w (Value f) h = (tree, w, h)
-value_fault t text tree w (Name f) h = absurd h
-value_fault t text tree w (Tag f) h = absurd h
-value_fault t text tree w (Clash site clash common) h = absurd h
-value_fault t text tree w (Cons f) h = absurd h
-value_fault t text tree w (DefaultOutside site) h = absurd h
-value_fault t text tree w (TooLarge site) h = absurd h
-value_fault t text tree w OutOfMemory h = absurd h
+pub value_fault : (m : Meaning) (t : AbstractType) (text : List ℕ) (tree : WrittenValue) → IsWrittenAs text tree → (g : SchemaFault) → IsValueFault m t tree g → IsNoValue m t text g
+value_fault m t text tree w (Lex f) h = absurd h
+value_fault m t text tree w (Syntax f) h = absurd h
+value_fault m t text tree w (Value f) h = (tree, w, h)
+value_fault m t text tree w (Name f) h = absurd h
+value_fault m t text tree w (Tag f) h = absurd h
+value_fault m t text tree w (Clash site clash common) h = absurd h
+value_fault m t text tree w (Cons f) h = absurd h
+value_fault m t text tree w (DefaultOutside site) h = absurd h
+value_fault m t text tree w (TooLarge site) h = absurd h
+value_fault m t text tree w OutOfMemory h = absurd h
 
 -- what the calls of the layers refuse
 same_answer : {F : Type 0} {f : F} {x : WrittenModule} → ◌≡◌ {A = Result WrittenModule F} (Ok x) (Err f) → ⊥
 same_answer e = absurd cc
 
-pub value_refused : (t : AbstractType) (tree : WrittenValue) (e : ValueFault) → IfSome (named e) (IsFirstFault no_values t tree) → OfText (IsValueFault t tree) (value_refusal e)
-value_refused t tree (values.WrongNotation site) h = h
-value_refused t tree (values.UnknownName site) h = h
-value_refused t tree (values.MissingComponent site) h = h
-value_refused t tree (values.RepeatedComponent site) h = h
-value_refused t tree (values.OutOfOrder site) h = h
-value_refused t tree (values.BadCharacter site) h = h
-value_refused t tree (values.BadObjectId site) h = h
-value_refused t tree (values.TooLarge site) h = h
-value_refused t tree values.OutOfMemory h = tt
+pub value_refused : (m : Meaning) (t : AbstractType) (tree : WrittenValue) (e : ValueFault) → IfSome (named e) (IsFirstFault m t tree) → OfText (IsValueFault m t tree) (value_refusal e)
+value_refused m t tree (values.WrongNotation site) h = h
+value_refused m t tree (values.UnknownName site) h = h
+value_refused m t tree (values.MissingComponent site) h = h
+value_refused m t tree (values.RepeatedComponent site) h = h
+value_refused m t tree (values.OutOfOrder site) h = h
+value_refused m t tree (values.BadCharacter site) h = h
+value_refused m t tree (values.BadObjectId site) h = h
+value_refused m t tree (values.TooLarge site) h = h
+value_refused m t tree values.OutOfMemory h = tt
 
 pub syntax_refused : (text : List ℕ) (tokens : List Token) (e : SyntaxFault)
     → ((w : WrittenModule) → IsWritten w (assigned (lexemes_of text tokens)) → (x : WrittenModule) × Refuses (fault_of e) (Ok x))

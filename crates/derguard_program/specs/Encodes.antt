@@ -6,9 +6,10 @@ use Rattle.guard_model.specs.AbstractType.{AbstractType}
 use Rattle.guard_model.specs.AbstractValue.{AbstractValue}
 use Rattle.guard_der.specs.Der.{der}
 use Rattle.guard_eval.specs.Violations.{AbstractViolation, violation}
-use Rattle.guard_policy.specs.Policies.{AbstractPolicy, AbstractRoute, declared_type}
+use Rattle.guard_policy.specs.Policies.{AbstractMessage, AbstractPolicy, AbstractRoute, declared_message}
 use Rattle.guard_policy.specs.Verdicts.{outside_type}
 use Rattle.guard_report.specs.Text.{verdict_octets}
+use Rattle.guard_values.specs.Meanings.{Meaning}
 use Rattle.reads_back.specs.ReadingBack.{IsReadAs}
 use Rattle.derguard_program.specs.declared.encoding.Encoding.{Encoding}
 use Rattle.derguard_program.specs.declared.fault.Fault.{Fault}
@@ -17,9 +18,9 @@ use Rattle.derguard_program.specs.Explaining.{TellsWith}
 use Rattle.derguard_program.specs.Files.{Told}
 use Rattle.derguard_program.specs.Framing.{IsPayload, HasNoPayload}
 use Rattle.derguard_program.specs.Intake.{IsRead, IsLost}
-use Rattle.derguard_program.specs.Reading.{IsPolicyAt, IsNoPolicyAt}
+use Rattle.derguard_program.specs.Reading.{AbstractLoaded, IsLoadedAt, IsNoPolicyAt}
 use Rattle.derguard_program.specs.Remarked.{AbstractRemarked, WritesRemarked}
-use Rattle.derguard_program.specs.ValueTexts.{no_values, IsNoValue, OfText, value_note}
+use Rattle.derguard_program.specs.ValueTexts.{names_for, IsNoValue, OfText, value_note}
 use Rattle.derguard_program.specs.Writing.{TellsOctets, TellsLine, TellsText, TellsNoMemory, Tells}
 
 -- What the words ask for: a value that is a word, or else is read; a frame, where a sender or a receiver is given; and
@@ -63,60 +64,63 @@ violation_status (Some w) = 1
 
 -- ---- of a text
 
--- the text writes this value of the type, and these octets are its encoding
-pub record IsEncoding (t : AbstractType) (text : List ℕ) (v : AbstractValue) (octets : List ℕ) : Type 0 where
-  pub value : IsReadAs no_values t text v
+-- where names mean this, the text writes this value of the type, and these octets are its encoding
+pub record IsEncoding (m : Meaning) (t : AbstractType) (text : List ℕ) (v : AbstractValue) (octets : List ℕ)
+    : Type 0 where
+  pub value : IsReadAs m t text v
   pub encoded : der t v ≡ Some octets
 
--- of the value that the text writes
-pub record IsEncoded (p : AbstractPolicy) (t : AbstractType) (asked : AbstractEncoding) (text : List ℕ)
+-- of the value of the message that the text writes
+pub record IsEncoded (l : AbstractLoaded) (d : AbstractMessage) (asked : AbstractEncoding) (text : List ℕ)
     (e : AbstractRemarked) : Type 0 where
   pub v : AbstractValue
   pub octets : List ℕ
   pub payload : List ℕ
-  pub encoding : IsEncoding t text v octets
+  pub encoding : IsEncoding (names_for l d) d.ty text v octets
   pub held : IsPayload asked.from asked.to asked.message octets payload
   pub out : e.out ≡ in_form asked.der payload
-  pub remarks : e.remarks ≡ line_of_violation p asked.message (violation t v)
-  pub status : e.status ≡ violation_status (violation t v)
+  pub remarks : e.remarks ≡ line_of_violation l.policy asked.message (violation d.ty v)
+  pub status : e.status ≡ violation_status (violation d.ty v)
 
 -- no frame that is asked for holds it
-pub record IsUnframed (t : AbstractType) (asked : AbstractEncoding) (text : List ℕ) : Type 0 where
+pub record IsUnframed (l : AbstractLoaded) (d : AbstractMessage) (asked : AbstractEncoding) (text : List ℕ)
+    : Type 0 where
   pub v : AbstractValue
   pub octets : List ℕ
-  pub encoding : IsEncoding t text v octets
+  pub encoding : IsEncoding (names_for l d) d.ty text v octets
   pub none : HasNoPayload asked.from asked.to asked.message octets
 
 -- What is written of it is written; or the text writes no value, which is reported with the place; or there is no frame.
-abbrev pub EncodesText : AbstractPolicy → AbstractType → AbstractEncoding → List ℕ → Device → Device → ℕ → Type 0
-EncodesText p t asked text out err status =
-    ((e : AbstractRemarked) × IsEncoded p t asked text e × WritesRemarked e out err status)
-    ⊎ ((f : Fault) × OfText (IsNoValue t text) f × IsUntouched out × TellsWith f (value_note text f) err status)
-    ⊎ (IsUnframed t asked text × IsUntouched out × TellsText (codes "bad frame") 2 err status)
+abbrev pub EncodesText : AbstractLoaded → AbstractMessage → AbstractEncoding → List ℕ → Device → Device → ℕ → Type 0
+EncodesText l d asked text out err status =
+    ((e : AbstractRemarked) × IsEncoded l d asked text e × WritesRemarked e out err status)
+    ⊎ ((f : Fault) × OfText (IsNoValue (names_for l d) d.ty text) f × IsUntouched out
+    × TellsWith f (value_note text f) err status)
+    ⊎ (IsUnframed l d asked text × IsUntouched out × TellsText (codes "bad frame") 2 err status)
 
 -- The text is the word that was given, and nothing is read.
-abbrev pub EncodesGiven : AbstractPolicy → AbstractType → AbstractEncoding → Option (List ℕ) → Input → Device → Device
+abbrev pub EncodesGiven : AbstractLoaded → AbstractMessage → AbstractEncoding → Option (List ℕ) → Input → Device → Device
     → ℕ → Type 0
-EncodesGiven p t asked (Some text) input out err status =
-    IsUnread input × EncodesText p t asked text out err status
+EncodesGiven l d asked (Some text) input out err status =
+    IsUnread input × EncodesText l d asked text out err status
 -- It is read; or that failed, which is reported.
-EncodesGiven p t asked None input out err status =
-    ((text : List ℕ) × IsRead input text × EncodesText p t asked text out err status)
+EncodesGiven l d asked None input out err status =
+    ((text : List ℕ) × IsRead input text × EncodesText l d asked text out err status)
     ⊎ (IsLost input × IsUntouched out × TellsLine (codes "F5 ReadFailed") 3 err status)
     ⊎ (IsUntouched out × TellsNoMemory err status)
 
 -- ---- under a policy
 
--- by the declared type of the message; where none of this name is declared that is said, as a verdict says it
-abbrev pub EncodesUnder : AbstractPolicy → AbstractEncoding → Input → Device → Device → ℕ → Type 0
-EncodesUnder p asked input out err status =
-    ((declared_type p asked.message ≡ None) × IsUnread input × IsUntouched out
+-- of the message of the name; where none is declared that is said, as a verdict says it
+abbrev pub EncodesUnder : AbstractLoaded → AbstractEncoding → Input → Device → Device → ℕ → Type 0
+EncodesUnder l asked input out err status =
+    ((declared_message l.policy asked.message ≡ None) × IsUnread input × IsUntouched out
     × TellsOctets (codes "unknown-message\n") 1 err status)
-    ⊎ ((t : AbstractType) × (declared_type p asked.message ≡ Some t)
-    × EncodesGiven p t asked asked.value input out err status)
+    ⊎ ((d : AbstractMessage) × (declared_message l.policy asked.message ≡ Some d)
+    × EncodesGiven l d asked asked.value input out err status)
 
--- the policy at the path; or why there is none, and nothing is read or written
+-- the policy at the path, with its modules; or why there is none, and nothing is read or written
 abbrev pub Encodes : Told → AbstractEncoding → Input → Device → Device → ℕ → Type 0
 Encodes told asked input out err status =
-    ((p : AbstractPolicy) × IsPolicyAt told asked.policy p × EncodesUnder p asked input out err status)
+    ((l : AbstractLoaded) × IsLoadedAt told asked.policy l × EncodesUnder l asked input out err status)
     ⊎ ((f : Fault) × IsNoPolicyAt told asked.policy f × IsUnread input × IsUntouched out × Tells f err status)

@@ -1,13 +1,19 @@
 -- The texts that a policy at a path needs, what they say, and why they can't be had or say nothing.
-use Rattle.std.specs.Prelude.{◌≡◌, ◌⊎◌, ℕ, List, [], ◌∷◌, ◌++◌, string_bytes, IsSomeAnd}
+use Rattle.std.specs.Prelude.{◌≡◌, ◌⊎◌, ℕ, List, [], ◌∷◌, ◌++◌, string_bytes, Ok, IsSomeAnd}
 pub use Rattle.guard_notes.specs.Sources.{folder}
+use Rattle.guard_schema.specs.Accepts.{Knows}
+use Rattle.guard_schema.specs.Known.{Known}
+use Rattle.guard_schema.specs.Schemas.{named_types, schema_of}
+use Rattle.guard_schema.specs.Views.{known_of}
 use Rattle.guard_policy.specs.Policies.{AbstractPolicy}
-use Rattle.guard_policy.specs.Loads.{ListsFiles, ListsNoFiles}
+use Rattle.guard_policy.specs.PolicyView.{policy_view}
+use Rattle.guard_policy.specs.Loads.{ListsFiles, ListsNoFiles, Loads}
 use Rattle.guard_policy.specs.PolicyFaults as policy
 use Rattle.guard_frames.specs.Texts.{SayPolicy, SayNone}
 use Rattle.guard_frames.specs.declared.texts.TextsFault.TheVariants as texts
 use Rattle.derguard_program.specs.declared.fault.Fault.{Fault}
 use Rattle.derguard_program.specs.declared.fault.Fault.TheVariants.{BadHex, CannotRead, Schema, Policy, Run, NoMemory}
+use Rattle.derguard_program.specs.declared.loaded.Loaded.{Loaded}
 use Rattle.derguard_program.specs.Files.{Told, after_read, HasText, HasNone}
 
 -- the texts at these names in a folder, read in order
@@ -52,6 +58,26 @@ AreMissing told path NoMemory = ⊥
 abbrev pub IsPolicyAt : Told → List ℕ → AbstractPolicy → Type 0
 IsPolicyAt told path p =
     (text : List ℕ) × (modules : List (List ℕ)) × AreTexts told path text modules × SayPolicy modules text p
+
+-- ---- a policy with its modules, in which values are written
+
+pub record AbstractLoaded : Type 0 where
+  pub policy : AbstractPolicy
+  pub known : Known
+
+abbrev pub loaded_view : Loaded → AbstractLoaded
+loaded_view l = record { policy = policy_view l.policy; known = known_of l.modules }
+
+-- This is known of the definitions in these modules, and over the schema that they so denote the text says the policy.
+abbrev pub SayLoaded : List (List ℕ) → List ℕ → AbstractLoaded → Type 0
+SayLoaded modules text l = Knows modules (Ok l.known) × Loads text (named_types (schema_of l.known)) l.policy
+
+-- So it is with the texts of the policy at the path.
+abbrev pub IsLoadedAt : Told → List ℕ → AbstractLoaded → Type 0
+IsLoadedAt told path l =
+    (text : List ℕ) × (modules : List (List ℕ)) × AreTexts told path text modules × SayLoaded modules text l
+
+-- ---- why there is none
 
 -- why these texts say no policy
 abbrev pub SayNothing : List (List ℕ) → List ℕ → Fault → Type 0

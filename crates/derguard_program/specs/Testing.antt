@@ -3,10 +3,9 @@ use Rattle.std.specs.Prelude.{◌≡◌, ◌⊎◌, ℕ, ◌+◌, Bool, ◌||◌
 use Rattle.hex.specs.Hex.{decode_of}
 use Rattle.hex.specs.declared.error.FromHexError.{FromHexError}
 use Rattle.toml.specs.Data.{Items, no_items, item}
-use Rattle.guard_model.specs.AbstractType.{AbstractType}
 use Rattle.guard_model.specs.AbstractValue.{AbstractValue}
 use Rattle.guard_policy.specs.Decisions.{IsReason}
-use Rattle.guard_policy.specs.Policies.{AbstractPolicy, AbstractRoute, declared_type}
+use Rattle.guard_policy.specs.Policies.{AbstractMessage, AbstractPolicy, AbstractRoute, declared_message}
 use Rattle.guard_policy.specs.Verdicts.{AbstractVerdict}
 use Rattle.guard_report.specs.Text.{verdict_octets}
 use Rattle.derguard_program.specs.declared.fault.Fault.{Fault}
@@ -19,9 +18,9 @@ use Rattle.derguard_program.specs.Devices.{Input, Device, IsUnread, IsUntouched}
 use Rattle.derguard_program.specs.Encodes.{IsEncoding}
 use Rattle.derguard_program.specs.Faults.{IsText}
 use Rattle.derguard_program.specs.Files.{Told, HasText, HasNone, IsLater}
-use Rattle.derguard_program.specs.Reading.{IsPolicyAt, IsNoPolicyAt, folder}
+use Rattle.derguard_program.specs.Reading.{AbstractLoaded, IsLoadedAt, IsNoPolicyAt, folder}
 use Rattle.derguard_program.specs.Reached.{Reaches, cover_lines}
-use Rattle.derguard_program.specs.ValueTexts.{IsNoValue, OfText}
+use Rattle.derguard_program.specs.ValueTexts.{names_for, IsNoValue, OfText}
 use Rattle.derguard_program.specs.Writing.{Writes, Tells, TellsText, TellsNoMemory}
 
 -- ---- what comes of a case
@@ -61,24 +60,26 @@ CameOfDigits p route text came =
     ((octets : List ℕ) × (decode_of (digits_in text) ≡ Ok octets) × CameOfOctets p route octets came)
     ⊎ ((e : FromHexError) × (decode_of (digits_in text) ≡ Err e) × (came ≡ only (codes "bad hex")))
 
--- on the encoding of the value of this type that the text writes; or the fault for which it writes none
-abbrev pub CameOfValue : AbstractPolicy → AbstractRoute → AbstractType → List ℕ → AbstractCame → Type 0
-CameOfValue p route t text came =
-    ((v : AbstractValue) × (octets : List ℕ) × IsEncoding t text v octets × CameOfOctets p route octets came)
-    ⊎ ((f : Fault) × OfText (IsNoValue t text) f × (f ≡ NoMemory → ⊥) × IsText f came.text × (came.reached ≡ []))
+-- on the encoding of the value of this message that the text writes; or the fault for which it writes none
+abbrev pub CameOfValue : AbstractLoaded → AbstractRoute → AbstractMessage → List ℕ → AbstractCame → Type 0
+CameOfValue l route d text came =
+    ((v : AbstractValue) × (octets : List ℕ) × IsEncoding (names_for l d) d.ty text v octets
+    × CameOfOctets l.policy route octets came)
+    ⊎ ((f : Fault) × OfText (IsNoValue (names_for l d) d.ty text) f × (f ≡ NoMemory → ⊥) × IsText f came.text
+    × (came.reached ≡ []))
 
--- by the declared type of the message
-abbrev pub CameOfText : AbstractPolicy → AbstractRoute → Option AbstractType → List ℕ → AbstractCame → Type 0
-CameOfText p route None text came = came ≡ only (codes "unknown-message")
-CameOfText p route (Some t) text came = CameOfValue p route t text came
+-- where the message is declared
+abbrev pub CameOfText : AbstractLoaded → AbstractRoute → Option AbstractMessage → List ℕ → AbstractCame → Type 0
+CameOfText l route None text came = came ≡ only (codes "unknown-message")
+CameOfText l route (Some d) text came = CameOfValue l route d text came
 
 -- one of the two is given
-abbrev pub CameOf : AbstractPolicy → AbstractRoute → Option (List ℕ) → Option (List ℕ) → AbstractCame → Type 0
-CameOf p route (Some digits) value came = CameOfDigits p route digits came
-CameOf p route None value came = CameOfText p route (declared_type p route.message) (unwrap_or value []) came
+abbrev pub CameOf : AbstractLoaded → AbstractRoute → Option (List ℕ) → Option (List ℕ) → AbstractCame → Type 0
+CameOf l route (Some digits) value came = CameOfDigits l.policy route digits came
+CameOf l route None value came = CameOfText l route (declared_message l.policy route.message) (unwrap_or value []) came
 
-abbrev pub IsCame : AbstractPolicy → AbstractCase → AbstractCame → Type 0
-IsCame p c came = CameOf p (case_route c) c.octets c.value came
+abbrev pub IsCame : AbstractLoaded → AbstractCase → AbstractCame → Type 0
+IsCame l c came = CameOf l (case_route c) c.octets c.value came
 
 -- ---- what is written
 
@@ -101,11 +102,11 @@ abbrev pub failures : AbstractCase → List ℕ → ℕ
 failures c came = if is_wanted c.verdict came then 0 else 1
 
 -- the lines of these cases, from this number on, how many fail, and the rules that they reach
-abbrev pub AreTried : AbstractPolicy → ℕ → Items → List ℕ → ℕ → List ℕ → Type 0
-AreTried p number no_items lines failed reached = (lines ≡ []) × (failed ≡ 0) × (reached ≡ [])
-AreTried p number (item d ds) lines failed reached =
-    (came : AbstractCame) × (rest : List ℕ) × (others : ℕ) × (more : List ℕ) × IsCame p (case_in (members_in d)) came
-    × AreTried p (number + 1) ds rest others more
+abbrev pub AreTried : AbstractLoaded → ℕ → Items → List ℕ → ℕ → List ℕ → Type 0
+AreTried l number no_items lines failed reached = (lines ≡ []) × (failed ≡ 0) × (reached ≡ [])
+AreTried l number (item d ds) lines failed reached =
+    (came : AbstractCame) × (rest : List ℕ) × (others : ℕ) × (more : List ℕ) × IsCame l (case_in (members_in d)) came
+    × AreTried l (number + 1) ds rest others more
     × (lines ≡ case_line number (case_in (members_in d)) came.text ++ rest)
     × (failed ≡ failures (case_in (members_in d)) came.text + others)
     × (reached ≡ came.reached ++ more)
@@ -123,10 +124,10 @@ abbrev pub tested_status : ℕ → ℕ
 tested_status failed = if nat_eq failed 0 then 0 else 1
 
 -- and to cover the cases the rules that none of them reaches
-abbrev pub IsTested : AbstractPolicy → Bool → Items → AbstractAnswer → Type 0
-IsTested p cover ds a =
-    (lines : List ℕ) × (failed : ℕ) × (reached : List ℕ) × AreTried p 1 ds lines failed reached
-    × (a.out ≡ lines ++ last_text (count ds) failed ++ cover_lines cover p reached)
+abbrev pub IsTested : AbstractLoaded → Bool → Items → AbstractAnswer → Type 0
+IsTested l cover ds a =
+    (lines : List ℕ) × (failed : ℕ) × (reached : List ℕ) × AreTried l 1 ds lines failed reached
+    × (a.out ≡ lines ++ last_text (count ds) failed ++ cover_lines cover l.policy reached)
     × (a.status ≡ tested_status failed)
 
 -- ---- the whole
@@ -137,9 +138,9 @@ cases_path policy None = folder policy ++ codes "tests.toml"
 cases_path policy (Some path) = path
 
 -- The cases of the text are tried; or it says none, which is reported.
-abbrev pub TestsText : AbstractPolicy → Bool → List ℕ → Device → Device → ℕ → Type 0
-TestsText p cover text out err status =
-    ((ds : Items) × (a : AbstractAnswer) × SaysCases text ds × IsTested p cover ds a
+abbrev pub TestsText : AbstractLoaded → Bool → List ℕ → Device → Device → ℕ → Type 0
+TestsText l cover text out err status =
+    ((ds : Items) × (a : AbstractAnswer) × SaysCases text ds × IsTested l cover ds a
     × Writes a.out a.status out err status)
     ⊎ ((fault : List ℕ) × IsCasesFault text fault × IsUntouched out × TellsText fault 2 err status)
     ⊎ (IsUntouched out × TellsNoMemory err status)
@@ -154,16 +155,16 @@ IsUnreadable told path (Policy f) = ⊥
 IsUnreadable told path (Run f) = ⊥
 
 -- of the file at the path; or it can't be read
-abbrev pub TestsFile : AbstractPolicy → Bool → Told → List ℕ → Device → Device → ℕ → Type 0
-TestsFile p cover told path out err status =
-    ((text : List ℕ) × HasText told path text × TestsText p cover text out err status)
+abbrev pub TestsFile : AbstractLoaded → Bool → Told → List ℕ → Device → Device → ℕ → Type 0
+TestsFile l cover told path out err status =
+    ((text : List ℕ) × HasText told path text × TestsText l cover text out err status)
     ⊎ ((f : Fault) × IsUnreadable told path f × IsUntouched out × Tells f err status)
     ⊎ (IsUntouched out × TellsNoMemory err status)
 
--- under the policy at its path, which is read first; or why there is none
+-- under the policy at its path, which is read first with its modules; or why there is none
 abbrev pub Tests : Told → List ℕ → Option (List ℕ) → Bool → Input → Device → Device → ℕ → Type 0
 Tests told path cases cover input out err status =
     IsUnread input
-    × (((p : AbstractPolicy) × (later : Told) × IsPolicyAt told path p × IsLater told later
-    × TestsFile p cover later (cases_path path cases) out err status)
+    × (((l : AbstractLoaded) × (later : Told) × IsLoadedAt told path l × IsLater told later
+    × TestsFile l cover later (cases_path path cases) out err status)
     ⊎ ((f : Fault) × IsNoPolicyAt told path f × IsUntouched out × Tells f err status))

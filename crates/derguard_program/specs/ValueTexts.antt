@@ -1,5 +1,5 @@
 -- The value of a type that a text alone writes, in the notation of X.680 17, or why it writes none.
-use Rattle.std.specs.Prelude.{◌≡◌, ℕ, List, [], ◌∷◌, ◌++◌, codes, None}
+use Rattle.std.specs.Prelude.{◌≡◌, ℕ, List, [], ◌∷◌, ◌++◌, codes}
 use Rattle.std.specs.Option.{option_map_or}
 use Rattle.guard_model.specs.declared.site.Site.{Site}
 use Rattle.guard_model.specs.AbstractType.{AbstractType}
@@ -12,16 +12,20 @@ use Rattle.guard_syntax.specs.TokensOf.{value_then}
 use Rattle.guard_syntax.specs.Trees.{WrittenValue}
 use Rattle.guard_values.specs.FirstFault.{IsFirstFault}
 use Rattle.guard_values.specs.Meanings.{Meaning}
+use Rattle.guard_schema.specs.Known.{values_in}
+use Rattle.guard_policy.specs.Policies.{AbstractMessage}
 use Rattle.guard_schema.specs.declared.fault.SchemaFault.{SchemaFault}
 use Rattle.guard_schema.specs.declared.fault.SchemaFault.TheVariants.{Lex, Syntax, Name, Tag, Clash, Cons, Value, DefaultOutside, TooLarge, OutOfMemory}
 use Rattle.guard_notes.specs.Notes.{schema_note}
 use Rattle.guard_notes.specs.Sources.{AbstractSources, sources, place_lines}
 use Rattle.derguard_program.specs.declared.fault.Fault.{Fault}
 use Rattle.derguard_program.specs.declared.fault.Fault.TheVariants.{BadHex, CannotRead, Schema, Policy, Run, NoMemory}
+use Rattle.derguard_program.specs.Reading.{AbstractLoaded}
 
--- A text that stands alone has no module around it, so no name in it means the value of one.
-abbrev pub no_values : Meaning
-no_values name = None
+-- What values names mean in a text that writes a value of a message: those that they mean in the module of its declared
+-- type (X.680 14.1).
+abbrev pub names_for : AbstractLoaded → AbstractMessage → Meaning
+names_for l d = values_in l.known d.home
 
 -- The tokens of the text, which is number 1, write this tree of the grammar, in which each node has the site of its
 -- first token.
@@ -38,19 +42,19 @@ abbrev pub HaveNoTree : List ℕ → List Token → Type 0
 HaveNoTree text tokens =
     (tree : WrittenValue) → IsValue most_levels tree → value_then tree [] ≡ lexemes_of text tokens → ⊥
 
--- Why a text writes no value of the type: it has no tokens; the grammar has no value with them; or the tree denotes no
--- value of the type.
-abbrev pub IsNoValue : AbstractType → List ℕ → SchemaFault → Type 0
-IsNoValue t text (Lex f) = FirstFault 1 text f
-IsNoValue t text (Syntax f) = (tokens : List Token) × Lexes 1 text tokens × HaveNoTree text tokens
-IsNoValue t text (Value f) = (tree : WrittenValue) × IsWrittenAs text tree × IsFirstFault no_values t tree f
-IsNoValue t text OutOfMemory = ⊥
-IsNoValue t text (Name f) = ⊥
-IsNoValue t text (Tag f) = ⊥
-IsNoValue t text (Clash site clash common) = ⊥
-IsNoValue t text (Cons f) = ⊥
-IsNoValue t text (DefaultOutside site) = ⊥
-IsNoValue t text (TooLarge site) = ⊥
+-- Why a text writes no value of the type, where names mean this: it has no tokens; the grammar has no value with them;
+-- or the tree denotes no value of the type.
+abbrev pub IsNoValue : Meaning → AbstractType → List ℕ → SchemaFault → Type 0
+IsNoValue m t text (Lex f) = FirstFault 1 text f
+IsNoValue m t text (Syntax f) = (tokens : List Token) × Lexes 1 text tokens × HaveNoTree text tokens
+IsNoValue m t text (Value f) = (tree : WrittenValue) × IsWrittenAs text tree × IsFirstFault m t tree f
+IsNoValue m t text OutOfMemory = ⊥
+IsNoValue m t text (Name f) = ⊥
+IsNoValue m t text (Tag f) = ⊥
+IsNoValue m t text (Clash site clash common) = ⊥
+IsNoValue m t text (Cons f) = ⊥
+IsNoValue m t text (DefaultOutside site) = ⊥
+IsNoValue m t text (TooLarge site) = ⊥
 
 -- the fault is one of a text, of which this holds; or memory ran out
 abbrev pub OfText : (SchemaFault → Type 0) → Fault → Type 0

@@ -6,6 +6,7 @@ pub mod Doing
 pub mod Encoded
 pub mod Headers
 pub mod Joining
+pub mod Loading
 pub mod NextFrame
 pub mod Passed
 pub mod Reported

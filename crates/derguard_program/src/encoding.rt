@@ -1,5 +1,5 @@
 //! The DER encoding of a value that is written, or the frame that holds it.
-ghost use Rattle.std.specs.Prelude.{◌≡◌, ◌⊎◌, ◌++◌, [], Some, None, codes, option_map, IfOk, IfErr, IfSome, IsTrue, string_bytes};
+ghost use Rattle.std.specs.Prelude.{◌≡◌, ◌⊎◌, ◌++◌, ℕ, List, [], Some, None, Ok, codes, map, option_map, IfOk, IfErr, IfSome, IsTrue, string_bytes};
 ghost use Rattle.hex.specs.Hex.{encode_upper};
 ghost use Rattle.guard_model.specs.TypeView.{type_view};
 ghost use Rattle.guard_model.specs.ValueView.{value_view};
@@ -7,33 +7,40 @@ ghost use Rattle.guard_der.specs.Fits.{fits};
 ghost use Rattle.guard_der.specs.Sound.{is_sound};
 ghost use Rattle.guard_eval.specs.Violations.{violation, violation_view};
 ghost use Rattle.guard_policy.specs.PolicyView.{policy_view};
+ghost use Rattle.guard_policy.specs.SaidView.{said_message_view};
+ghost use Rattle.guard_schema.specs.Accepts.{ReadsModules};
+ghost use Rattle.guard_schema.specs.Texts.{AreOfTexts};
+ghost use Rattle.guard_syntax.specs.ModuleViews.{module_view};
 ghost use Rattle.derguard_program.specs.declared.fault.Fault.TheVariants.{NoMemory};
 ghost use Rattle.derguard_program.specs.declared.encoding.Unencoded.TheVariants.{NoValue};
 ghost use Rattle.derguard_program.specs.Devices.{source_of, device_of, IsUntouched};
 ghost use Rattle.derguard_program.specs.Encodes.{encoding_view, in_form, line_of_violation, violation_status, IsEncoded, EncodesText, EncodesGiven, EncodesUnder, Encodes};
 ghost use Rattle.derguard_program.specs.Framing.{IsPayload, HasNoPayload};
 ghost use Rattle.derguard_program.specs.Explaining.{TellsWith};
+ghost use Rattle.derguard_program.specs.Reading.{loaded_view};
 ghost use Rattle.derguard_program.specs.ValueTexts.{value_note};
 ghost use Rattle.derguard_program.specs.Remarked.{remarked_view};
 ghost use Rattle.derguard_program.specs.inside.Encoded.{IsUnencoded};
+ghost use Rattle.derguard_program.specs.inside.Loading.{EncodesOver};
 
 use crate::answer::Remarked;
-use crate::checking::load;
 use crate::fault::Fault;
 use crate::files::Files;
 use crate::framing::frame;
 use crate::intake::{Unread, read_all};
-use crate::octets::add;
+use crate::loaded::Loaded;
 use crate::outputs::{
     tell, tell_failed_read, tell_line, tell_no_memory, tell_text, tell_with, write_remarked,
 };
+use crate::texts::Texts;
 use crate::written::encoded;
 use guard_eval::{Violation, first_violation};
 use guard_frames::{Sink, Source};
 use guard_model::{OutOfMemory, Ty, Value};
 use guard_notes::{Sources, place_lines, schema_note};
-use guard_policy::{Policy, Route, Verdict};
+use guard_policy::{Policy, Route, SaidMessage, Verdict};
 use guard_report::verdict_text;
+use guard_syntax::Module;
 use std::alloc::Global;
 
 /// What `encode` is asked for: the octets of a value of this message, under the policy at a path.
@@ -52,7 +59,8 @@ pub struct Encoding<'a> {
 
 /// Writes the octets of the value, or a frame that holds them, and answers the status: 0; 1 where the value is none of
 /// the declared type, whose line is on standard error, or no message of the name is declared; 2 where there is no policy
-/// at the path, the text writes no value, or no frame holds it; 3 where a device failed or memory ran out.
+/// at the path, the text writes no value, or no frame holds it; 3 where a device failed or memory ran out. Names in the
+/// text mean what they mean in the module of the declared type.
 pub fn encode<F: Files, S: Source, O: Sink, E: Sink>(
     alloc: Global,
     asked: &Encoding,
@@ -66,8 +74,51 @@ pub fn encode<F: Files, S: Source, O: Sink, E: Sink>(
         (device_of O.taken O.has_failed out.old out.new)
         (device_of E.taken E.has_failed err.old err.new) result }
 {
-    match load(alloc, asked.policy, files) {
-        Ok(policy) => encode_under(alloc, asked, &policy, input, out, err),
+    match Texts::read(alloc, asked.policy, files) {
+        Ok(texts) => encode_over(alloc, asked, &texts, input, out, err),
+        Err(fault) => tell(alloc, &fault, err),
+    }
+}
+
+/// Over the texts of the policy and of its modules.
+fn encode_over<S: Source, O: Sink, E: Sink>(
+    alloc: Global,
+    asked: &Encoding,
+    texts: &Texts,
+    input: &mut S,
+    out: &mut O,
+    err: &mut E,
+) -> u8
+    ensures { EncodesOver (map (λ text. text.items) texts.now.modules.items) texts.now.policy.items
+        (encoding_view asked.now) (source_of S.tells S.takes S.has_failed input.old input.new)
+        (device_of O.taken O.has_failed out.old out.new)
+        (device_of E.taken E.has_failed err.old err.new) result }
+{
+    match texts.trees(alloc) {
+        Ok(modules) => encode_within(alloc, asked, &modules, &texts.policy, input, out, err),
+        Err(fault) => tell(alloc, &fault, err),
+    }
+}
+
+/// Over these modules, where the text says the policy.
+fn encode_within<S: Source, O: Sink, E: Sink>(
+    alloc: Global,
+    asked: &Encoding,
+    modules: &[Module],
+    text: &[u8],
+    input: &mut S,
+    out: &mut O,
+    err: &mut E,
+) -> u8
+    requires { AreOfTexts (map module_view modules.now) }
+    ensures { (texts : List (List ℕ)) → ReadsModules texts (Ok (map module_view modules.now))
+        → EncodesOver texts text.now (encoding_view asked.now)
+        (source_of S.tells S.takes S.has_failed input.old input.new)
+        (device_of O.taken O.has_failed out.old out.new)
+        (device_of E.taken E.has_failed err.old err.new) result }
+{
+    match Loaded::of(alloc, modules, text) {
+        Ok(loaded) => encode_under(alloc, asked, &loaded, input, out, err),
         Err(fault) => tell(alloc, &fault, err),
     }
 }
@@ -75,18 +126,18 @@ pub fn encode<F: Files, S: Source, O: Sink, E: Sink>(
 fn encode_under<S: Source, O: Sink, E: Sink>(
     alloc: Global,
     asked: &Encoding,
-    policy: &Policy,
+    loaded: &Loaded,
     input: &mut S,
     out: &mut O,
     err: &mut E,
 ) -> u8
-    ensures { EncodesUnder (policy_view policy.now) (encoding_view asked.now)
+    ensures { EncodesUnder (loaded_view loaded.now) (encoding_view asked.now)
         (source_of S.tells S.takes S.has_failed input.old input.new)
         (device_of O.taken O.has_failed out.old out.new)
         (device_of E.taken E.has_failed err.old err.new) result }
 {
-    match policy.declared(asked.message.as_bytes()) {
-        Some(ty) => encode_given(alloc, asked, policy, ty, input, out, err),
+    match loaded.policy.message(asked.message.as_bytes()) {
+        Some(message) => encode_given(alloc, asked, loaded, &message, input, out, err),
         None => tell_line(b"unknown-message\n", 1, err),
     }
 }
@@ -95,41 +146,41 @@ fn encode_under<S: Source, O: Sink, E: Sink>(
 fn encode_given<S: Source, O: Sink, E: Sink>(
     alloc: Global,
     asked: &Encoding,
-    policy: &Policy,
-    ty: &Ty,
+    loaded: &Loaded,
+    message: &SaidMessage,
     input: &mut S,
     out: &mut O,
     err: &mut E,
 ) -> u8
-    requires { IsTrue (is_sound (type_view ty.now)) }
-    ensures { EncodesGiven (policy_view policy.now) (type_view ty.now) (encoding_view asked.now)
+    requires { IsTrue (is_sound (type_view message.now.ty.now)) }
+    ensures { EncodesGiven (loaded_view loaded.now) (said_message_view message.now) (encoding_view asked.now)
         (encoding_view asked.now).value (source_of S.tells S.takes S.has_failed input.old input.new)
         (device_of O.taken O.has_failed out.old out.new)
         (device_of E.taken E.has_failed err.old err.new) result }
 {
     match asked.value {
-        Some(text) => encode_text(alloc, asked, policy, ty, text.as_bytes(), out, err),
-        None => encode_read(alloc, asked, policy, ty, input, out, err),
+        Some(text) => encode_text(alloc, asked, loaded, message, text.as_bytes(), out, err),
+        None => encode_read(alloc, asked, loaded, message, input, out, err),
     }
 }
 
 fn encode_read<S: Source, O: Sink, E: Sink>(
     alloc: Global,
     asked: &Encoding,
-    policy: &Policy,
-    ty: &Ty,
+    loaded: &Loaded,
+    message: &SaidMessage,
     input: &mut S,
     out: &mut O,
     err: &mut E,
 ) -> u8
-    requires { IsTrue (is_sound (type_view ty.now)) }
-    ensures { EncodesGiven (policy_view policy.now) (type_view ty.now) (encoding_view asked.now) None
+    requires { IsTrue (is_sound (type_view message.now.ty.now)) }
+    ensures { EncodesGiven (loaded_view loaded.now) (said_message_view message.now) (encoding_view asked.now) None
         (source_of S.tells S.takes S.has_failed input.old input.new)
         (device_of O.taken O.has_failed out.old out.new)
         (device_of E.taken E.has_failed err.old err.new) result }
 {
     match read_all(alloc, input) {
-        Ok(text) => encode_text(alloc, asked, policy, ty, &text, out, err),
+        Ok(text) => encode_text(alloc, asked, loaded, message, &text, out, err),
         Err(Unread::Lost) => tell_failed_read(err),
         Err(Unread::NoMemory) => tell_no_memory(err),
     }
@@ -139,18 +190,18 @@ fn encode_read<S: Source, O: Sink, E: Sink>(
 fn encode_text<O: Sink, E: Sink>(
     alloc: Global,
     asked: &Encoding,
-    policy: &Policy,
-    ty: &Ty,
+    loaded: &Loaded,
+    message: &SaidMessage,
     text: &[u8],
     out: &mut O,
     err: &mut E,
 ) -> u8
-    requires { IsTrue (is_sound (type_view ty.now)) }
-    ensures { EncodesText (policy_view policy.now) (type_view ty.now) (encoding_view asked.now) text.now
+    requires { IsTrue (is_sound (type_view message.now.ty.now)) }
+    ensures { EncodesText (loaded_view loaded.now) (said_message_view message.now) (encoding_view asked.now) text.now
         (device_of O.taken O.has_failed out.old out.new)
         (device_of E.taken E.has_failed err.old err.new) result }
 {
-    match answer(alloc, asked, policy, ty, text) {
+    match answer(alloc, asked, loaded, message, text) {
         Ok(encoded) => write_remarked(&encoded, out, err),
         Err(Unencoded::NoValue(fault)) => tell_no_value(alloc, text, &fault, err),
         Err(Unencoded::NoFrame) => tell_text(alloc, "bad frame", 2, err),
@@ -219,21 +270,22 @@ impl From<OutOfMemory> for Unencoded {
 fn answer(
     alloc: Global,
     asked: &Encoding,
-    policy: &Policy,
-    ty: &Ty,
+    loaded: &Loaded,
+    message: &SaidMessage,
     text: &[u8],
 ) -> Result<Remarked, Unencoded>
-    requires { IsTrue (is_sound (type_view ty.now)) }
-    ensures encoded { IfOk result (λ e. IsEncoded (policy_view policy.now) (type_view ty.now) (encoding_view asked.now)
-        text.now (remarked_view e)) }
-    ensures none { IfErr result (IsUnencoded (type_view ty.now) (encoding_view asked.now) text.now) }
+    requires { IsTrue (is_sound (type_view message.now.ty.now)) }
+    ensures encoded { IfOk result (λ e. IsEncoded (loaded_view loaded.now) (said_message_view message.now)
+        (encoding_view asked.now) text.now (remarked_view e)) }
+    ensures none { IfErr result (IsUnencoded (loaded_view loaded.now) (said_message_view message.now)
+        (encoding_view asked.now) text.now) }
 {
-    let (value, octets) = encoded(alloc, ty, text)?;
+    let (value, octets) = encoded(alloc, &loaded.modules, message, text)?;
     let held = payload(alloc, asked, octets)?;
     let Some(payload) = held else {
         return Err(Unencoded::NoFrame);
     };
-    let (remarks, status) = said(alloc, policy, asked.message, ty, &value)?;
+    let (remarks, status) = said(alloc, &loaded.policy, asked.message, message.ty, &value)?;
     let out = in_form(alloc, asked.der, payload)?;
     Ok(Remarked {
         out,

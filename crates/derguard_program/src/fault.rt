@@ -1,5 +1,6 @@
 //! Why a request isn't met. Each fault is reported after `derguard: `.
 ghost use Rattle.std.specs.Prelude.{◌≡◌, IfOk, string_bytes};
+ghost use Rattle.guard_frames.specs.Texts.{of_schema};
 ghost use Rattle.derguard_program.specs.Faults.{fault_status, IsText, StandsForPolicy, of_texts};
 ghost use Rattle.derguard_program.specs.declared.fault.Fault.TheVariants as fault;
 
@@ -84,6 +85,14 @@ impl From<PolicyFault> for Fault {
             PolicyFault::OutOfMemory => Fault::NoMemory,
             fault => Fault::Policy(fault),
         }
+    }
+}
+
+impl From<SchemaFault> for Fault {
+    ghost from_gives = { λ f e. e ≡ of_texts (of_schema f) };
+
+    fn from(fault: SchemaFault) -> Fault {
+        Fault::from(TextsFault::from(fault))
     }
 }
 

@@ -5,6 +5,7 @@ ghost use Rattle.clap.specs.Words.{Text, fault_of};
 ghost use Rattle.derguard_program.specs.Devices.{Input, Device};
 ghost use Rattle.derguard_program.specs.Files.{Told};
 ghost use Rattle.derguard_program.specs.Muxing.{GuardsLinks};
+ghost use Rattle.derguard_program.specs.Reading.{AbstractLoaded, IsLoadedAt, IsPolicyAt};
 ghost use Rattle.derguard_program.specs.Records.{Record, AreRecords, HasNoRecord};
 ghost use Rattle.derguard_program.specs.Requests.{AbstractRequest};
 ghost use Rattle.derguard_program.specs.Words.{Asks, joined, the_app};
@@ -17,6 +18,7 @@ ghost use Rattle.guard_lexer.specs.Lexing.{longest_text};
 ghost use Rattle.guard_model.specs.AbstractType.{AbstractType};
 ghost use Rattle.guard_model.specs.AbstractValue.{AbstractValue};
 ghost use Rattle.guard_report.specs.Shown.{value_shown};
+ghost use Rattle.guard_values.specs.Meanings.{Meaning};
 ghost use Rattle.reads_back.specs.Names.{HasNames, is_seen};
 
 use reads_back::laws::{law_one_value_of_text, law_shown_reads_back};
@@ -46,17 +48,23 @@ pub fn law_status_of_links()
         GuardsLinks told path input out err 0 → Appends err.before err.after [] }
 {}
 
-/// What `show` prints of a value is encoded as the octets that were shown, and as no others. Left out are values with a
-/// hidden character, and those whose text or encoding is longer than what is read.
+/// What is loaded to write values under the policy at a path has the policy that is there.
+pub fn law_loaded()
+    ensures { (told : Told) (path : List ℕ) (l : AbstractLoaded) → IsLoadedAt told path l
+        → IsPolicyAt told path l.policy }
+{}
+
+/// What `show` prints of a value is encoded as the octets that were shown, and as no others, whatever names mean. Left out
+/// are values with a hidden character, and those whose text or encoding is longer than what is read.
 pub fn law_shown_encodes()
-    ensures there { (t : AbstractType) (octets : List ℕ) (v : AbstractValue) → IsTrue (is_sound t) → HasNames t
-        → IsTrue (fits t v) → IsTrue (is_seen v) → IsTrue (is_short (der t v))
+    ensures there { (m : Meaning) (t : AbstractType) (octets : List ℕ) (v : AbstractValue) → IsTrue (is_sound t)
+        → HasNames t → IsTrue (fits t v) → IsTrue (is_seen v) → IsTrue (is_short (der t v))
         → length (value_shown t octets v) ≤ longest_text → der t v ≡ Some octets
-        → IsEncoding t (value_shown t octets v) v octets }
-    ensures one { (t : AbstractType) (octets : List ℕ) (v : AbstractValue) → IsTrue (is_sound t) → HasNames t
-        → IsTrue (fits t v) → IsTrue (is_seen v) → IsTrue (is_short (der t v))
+        → IsEncoding m t (value_shown t octets v) v octets }
+    ensures one { (m : Meaning) (t : AbstractType) (octets : List ℕ) (v : AbstractValue) → IsTrue (is_sound t)
+        → HasNames t → IsTrue (fits t v) → IsTrue (is_seen v) → IsTrue (is_short (der t v))
         → length (value_shown t octets v) ≤ longest_text → der t v ≡ Some octets
-        → (w : AbstractValue) (encoded : List ℕ) → IsEncoding t (value_shown t octets v) w encoded
+        → (w : AbstractValue) (encoded : List ℕ) → IsEncoding m t (value_shown t octets v) w encoded
         → encoded ≡ octets }
 {
     law_shown_reads_back();

@@ -26,6 +26,7 @@
 //! | At which frame of its stream is a link's fault? | `begun.rt` | `specs/AtFault.antt`, `specs/inside/Begun.antt` |
 //! | What line has a frame that stays? | `reported.rt` | `specs/Watching.antt` (`Sees`) |
 //! | Which texts does a policy at a path need? | `texts.rt`, `files.rt` | `specs/Reading.antt`, `specs/Files.antt` |
+//! | What is a policy with its modules, in which values are written? | `loaded.rt` | `specs/Reading.antt` (`SayLoaded`) |
 //! | What is shown of a fault where it is to be explained? | `explaining.rt`, `guard_notes` | `specs/Explaining.antt` |
 //! | What is listed of a policy that is accepted? | `listing.rt` | `specs/Listing.antt` |
 //! | What is remarked of it where that counts? | `strictness.rt`, `parties.rt` | `specs/Strictness.antt`, `specs/Remarked.antt` |
@@ -67,6 +68,7 @@ pub mod laws;
 mod linked;
 mod links;
 mod listing;
+mod loaded;
 mod looking;
 mod meeting;
 mod muxing;

@@ -103,7 +103,7 @@ impl Links {
         ensures unseen { result ≡ Err WriteFailed → self.new.seen ≡ self.old.seen }
         ensures kept { OnOk result (IsKept self.new) }
     {
-        let answer = feed_link(&mut self.gateway, alloc, link, octets);
+        let answer = feed_link(alloc, &mut self.gateway, link, octets);
         let begun = bring(&mut self.begun, self.seen, link, octets);
         let is_reported = pass_on(&mut self.gateway, link, &mut self.seen, out, err)?;
         self.status = self.status.max(u8::from(is_reported));
@@ -123,7 +123,7 @@ impl Links {
         ensures seen { self.new.seen ≡ self.old.seen }
         ensures kept { OnOk result (IsKept self.new) }
     {
-        let answer = end_link(&mut self.gateway, alloc, link);
+        let answer = end_link(alloc, &mut self.gateway, link);
         let begun = bring(&mut self.begun, self.seen, link, &[]);
         self.tell_answer(link, answer, begun, err)
     }
@@ -164,7 +164,7 @@ impl Links {
             (device out out failed) (device_of E.taken E.has_failed err.old err.new) BreaksErr)) }
         ensures kept { OnOk result (IsKept self.new) }
     {
-        let answer = end_link(&mut self.gateway, alloc, link);
+        let answer = end_link(alloc, &mut self.gateway, link);
         if is_closed(answer) {
             return Ok(());
         }

@@ -41,8 +41,8 @@ pub fn new_sinks(alloc: Global, count: u16) -> Result<Vec<Ends<Kept>>, OutOfMemo
 
 /// Feeds a piece to a link, whose sinks are empty, and answers as the link does.
 pub fn feed_link(
-    gateway: &mut Gateway<Kept>,
     alloc: Global,
+    gateway: &mut Gateway<Kept>,
     link: u16,
     octets: &[u8],
 ) -> Result<(), LinkFault>
@@ -54,7 +54,7 @@ pub fn feed_link(
 }
 
 /// Ends a link, and answers as it does.
-pub fn end_link(gateway: &mut Gateway<Kept>, alloc: Global, link: u16) -> Result<(), LinkFault>
+pub fn end_link(alloc: Global, gateway: &mut Gateway<Kept>, link: u16) -> Result<(), LinkFault>
     requires link { link ≤ 15 }
     requires ready { IsReady gateway.old }
     ensures step { Step (gateway_view gateway.old) (end link) (step_answer result) nothing (gateway_view gateway.new) }

@@ -1,38 +1,44 @@
 //! Which cases that are kept beside a policy come out as they should.
-ghost use Rattle.std.specs.Prelude.{◌≡◌, ◌⊎◌, ◌++◌, codes, option_map, string_bytes, Ok, Err, IfOk, IfErr, OnOk, IsTrue};
+ghost use Rattle.std.specs.Prelude.{◌≡◌, ◌⊎◌, ◌++◌, ℕ, List, codes, map, option_map, string_bytes, Ok, Err, IfOk, IfErr, OnOk, IsTrue};
 ghost use Rattle.hex.specs.Hex.{decode_of};
 ghost use Rattle.hex.specs.declared.error.FromHexError.{FromHexError};
 ghost use Rattle.toml.specs.Data.{Items};
 ghost use Rattle.toml.specs.View.{items_view};
 ghost use Rattle.guard_der.specs.Sound.{is_sound};
 ghost use Rattle.guard_model.specs.TypeView.{type_view};
-ghost use Rattle.guard_policy.specs.Policies.{AbstractPolicy, declared_type};
+ghost use Rattle.guard_policy.specs.Policies.{declared_message};
 ghost use Rattle.guard_policy.specs.PolicyView.{policy_view, route_view};
+ghost use Rattle.guard_policy.specs.SaidView.{said_message_view};
+ghost use Rattle.guard_schema.specs.Accepts.{ReadsModules};
+ghost use Rattle.guard_schema.specs.Texts.{AreOfTexts};
+ghost use Rattle.guard_syntax.specs.ModuleViews.{module_view};
 ghost use Rattle.derguard_program.specs.Answers.{answer_view};
 ghost use Rattle.derguard_program.specs.Cases.{case_view, SaysCases, IsCasesFault};
 ghost use Rattle.derguard_program.specs.Devices.{device_of, IsUntouched};
 ghost use Rattle.derguard_program.specs.Files.{Told, IsLater};
-ghost use Rattle.derguard_program.specs.Reading.{IsPolicyAt, IsNoPolicyAt};
+ghost use Rattle.derguard_program.specs.Reading.{AbstractLoaded, IsLoadedAt, IsNoPolicyAt, loaded_view};
 ghost use Rattle.derguard_program.specs.Testing.{AreTried, CameOfDigits, CameOfOctets, CameOfText, CameOfValue, IsCame, IsTested, TestsFile, TestsText, came_view, case_line, case_route, cases_path, differing_line, digits_in, failures, is_blank, is_wanted, last_text, name_text, only, tested_status};
 ghost use Rattle.derguard_program.specs.Writing.{Tells};
 ghost use Rattle.derguard_program.specs.inside.Caseless.{OfFault};
+ghost use Rattle.derguard_program.specs.inside.Loading.{TestsOver};
 
 use crate::answer::Answer;
 use crate::cases::{Case, Untested, case_in, case_text, cases_of, document};
-use crate::checking::load;
 use crate::counts::first_word;
 use crate::fault::Fault;
 use crate::files::Files;
+use crate::loaded::Loaded;
 use crate::octets::add;
 use crate::outputs::{tell, tell_no_memory, tell_text, write};
 use crate::reached::{cover_lines, reached};
-use crate::texts::read;
+use crate::texts::{Texts, read};
 use crate::written::encoded;
 use guard_frames::Sink;
-use guard_model::{OutOfMemory, Ty};
+use guard_model::OutOfMemory;
 use guard_notes::beside;
-use guard_policy::{Policy, Route};
+use guard_policy::{Policy, Route, SaidMessage};
 use guard_report::verdict_text;
+use guard_syntax::Module;
 use hex::FromHexError;
 use std::alloc::{AllocError, Global};
 use toml::Value;
@@ -52,24 +58,25 @@ pub fn test<F: Files, O: Sink, E: Sink>(
     out: &mut O,
     err: &mut E,
 ) -> u8
-    ensures { ((p : AbstractPolicy) × (later : Told) × IsPolicyAt (F.told files.old) path.now p
+    ensures { ((l : AbstractLoaded) × (later : Told) × IsLoadedAt (F.told files.old) path.now l
         × IsLater (F.told files.old) later
-        × TestsFile p cover later (cases_path path.now (option_map (λ cases. cases.now) cases.entry))
+        × TestsFile l cover later (cases_path path.now (option_map (λ cases. cases.now) cases.entry))
         (device_of O.taken O.has_failed out.old out.new)
         (device_of E.taken E.has_failed err.old err.new) result)
         ⊎ ((f : Fault) × IsNoPolicyAt (F.told files.old) path.now f
         × IsUntouched (device_of O.taken O.has_failed out.old out.new)
         × Tells f (device_of E.taken E.has_failed err.old err.new) result) }
 {
-    match load(alloc, path, files) {
-        Ok(policy) => test_beside(alloc, &policy, path, cases, cover, files, out, err),
+    match Texts::read(alloc, path, files) {
+        Ok(texts) => test_over(alloc, &texts, path, cases, cover, files, out, err),
         Err(fault) => tell(alloc, &fault, err),
     }
 }
 
-fn test_beside<F: Files, O: Sink, E: Sink>(
+/// Over the texts of the policy and of its modules.
+fn test_over<F: Files, O: Sink, E: Sink>(
     alloc: Global,
-    policy: &Policy,
+    texts: &Texts,
     path: &str,
     cases: Option<&str>,
     cover: bool,
@@ -77,13 +84,69 @@ fn test_beside<F: Files, O: Sink, E: Sink>(
     out: &mut O,
     err: &mut E,
 ) -> u8
-    ensures { TestsFile (policy_view policy.now) cover (F.told files.old)
+    ensures { TestsOver (map (λ text. text.items) texts.now.modules.items) texts.now.policy.items cover
+        (F.told files.old) (cases_path path.now (option_map (λ cases. cases.now) cases.entry))
+        (device_of O.taken O.has_failed out.old out.new)
+        (device_of E.taken E.has_failed err.old err.new) result }
+{
+    match texts.trees(alloc) {
+        Ok(modules) => test_within(
+            alloc,
+            &modules,
+            &texts.policy,
+            path,
+            cases,
+            cover,
+            files,
+            out,
+            err,
+        ),
+        Err(fault) => tell(alloc, &fault, err),
+    }
+}
+
+/// Over these modules, where the text says the policy.
+fn test_within<F: Files, O: Sink, E: Sink>(
+    alloc: Global,
+    modules: &[Module],
+    text: &[u8],
+    path: &str,
+    cases: Option<&str>,
+    cover: bool,
+    files: &mut F,
+    out: &mut O,
+    err: &mut E,
+) -> u8
+    requires { AreOfTexts (map module_view modules.now) }
+    ensures { (texts : List (List ℕ)) → ReadsModules texts (Ok (map module_view modules.now))
+        → TestsOver texts text.now cover
+        (F.told files.old) (cases_path path.now (option_map (λ cases. cases.now) cases.entry))
+        (device_of O.taken O.has_failed out.old out.new)
+        (device_of E.taken E.has_failed err.old err.new) result }
+{
+    match Loaded::of(alloc, modules, text) {
+        Ok(loaded) => test_beside(alloc, &loaded, path, cases, cover, files, out, err),
+        Err(fault) => tell(alloc, &fault, err),
+    }
+}
+
+fn test_beside<F: Files, O: Sink, E: Sink>(
+    alloc: Global,
+    loaded: &Loaded,
+    path: &str,
+    cases: Option<&str>,
+    cover: bool,
+    files: &mut F,
+    out: &mut O,
+    err: &mut E,
+) -> u8
+    ensures { TestsFile (loaded_view loaded.now) cover (F.told files.old)
         (cases_path path.now (option_map (λ cases. cases.now) cases.entry))
         (device_of O.taken O.has_failed out.old out.new)
         (device_of E.taken E.has_failed err.old err.new) result }
 {
     match cases_path(alloc, path, cases) {
-        Ok(place) => test_file(alloc, policy, &place, cover, files, out, err),
+        Ok(place) => test_file(alloc, loaded, &place, cover, files, out, err),
         Err(_) => tell_no_memory(err),
     }
 }
@@ -101,36 +164,36 @@ fn cases_path(alloc: Global, policy: &str, cases: Option<&str>) -> Result<String
 
 fn test_file<F: Files, O: Sink, E: Sink>(
     alloc: Global,
-    policy: &Policy,
+    loaded: &Loaded,
     path: &str,
     cover: bool,
     files: &mut F,
     out: &mut O,
     err: &mut E,
 ) -> u8
-    ensures { TestsFile (policy_view policy.now) cover (F.told files.old) path.now
+    ensures { TestsFile (loaded_view loaded.now) cover (F.told files.old) path.now
         (device_of O.taken O.has_failed out.old out.new)
         (device_of E.taken E.has_failed err.old err.new) result }
 {
     match read(alloc, path, files) {
-        Ok(text) => test_text(alloc, policy, &text, cover, out, err),
+        Ok(text) => test_text(alloc, loaded, &text, cover, out, err),
         Err(fault) => tell(alloc, &fault, err),
     }
 }
 
 fn test_text<O: Sink, E: Sink>(
     alloc: Global,
-    policy: &Policy,
+    loaded: &Loaded,
     text: &[u8],
     cover: bool,
     out: &mut O,
     err: &mut E,
 ) -> u8
-    ensures { TestsText (policy_view policy.now) cover text.now
+    ensures { TestsText (loaded_view loaded.now) cover text.now
         (device_of O.taken O.has_failed out.old out.new)
         (device_of E.taken E.has_failed err.old err.new) result }
 {
-    match tested(alloc, policy, text, cover) {
+    match tested(alloc, loaded, text, cover) {
         Ok(answer) => write(&answer.out, answer.status, out, err),
         Err(Untested::Faulty(fault)) => tell_text(alloc, &fault, 2, err),
         Err(Untested::NoMemory) => tell_no_memory(err),
@@ -138,14 +201,14 @@ fn test_text<O: Sink, E: Sink>(
 }
 
 /// What is answered to the cases that the text says.
-fn tested(alloc: Global, policy: &Policy, text: &[u8], cover: bool) -> Result<Answer, Untested>
+fn tested(alloc: Global, loaded: &Loaded, text: &[u8], cover: bool) -> Result<Answer, Untested>
     ensures tested { IfOk result (λ a. (ds : Items) × SaysCases text.now ds
-        × IsTested (policy_view policy.now) cover ds (answer_view a)) }
+        × IsTested (loaded_view loaded.now) cover ds (answer_view a)) }
     ensures none { IfErr result (OfFault (IsCasesFault text.now)) }
 {
     let top = document(alloc, text)?;
     let items = cases_of(alloc, &top)?;
-    match answer_of(alloc, policy, items, cover) {
+    match answer_of(alloc, loaded, items, cover) {
         Ok(answer) => Ok(answer),
         Err(_) => Err(Untested::NoMemory),
     }
@@ -153,15 +216,15 @@ fn tested(alloc: Global, policy: &Policy, text: &[u8], cover: bool) -> Result<An
 
 fn answer_of(
     alloc: Global,
-    policy: &Policy,
+    loaded: &Loaded,
     items: &[Value],
     cover: bool,
 ) -> Result<Answer, OutOfMemory>
-    ensures { IfOk result (λ a. IsTested (policy_view policy.now) cover (items_view items.now) (answer_view a)) }
+    ensures { IfOk result (λ a. IsTested (loaded_view loaded.now) cover (items_view items.now) (answer_view a)) }
 {
-    let tried = tried(alloc, policy, items)?;
+    let tried = tried(alloc, loaded, items)?;
     let last = last_text(alloc, items.len(), tried.failed)?;
-    let unreached = cover_lines(alloc, cover, policy, &tried.reached)?;
+    let unreached = cover_lines(alloc, cover, &loaded.policy, &tried.reached)?;
     let mut out = tried.lines;
     add(&mut out, last.as_bytes())?;
     add(&mut out, &unreached)?;
@@ -179,8 +242,8 @@ pub struct Outcome {
     pub reached: Vec<usize>,
 }
 
-fn tried(alloc: Global, policy: &Policy, items: &[Value]) -> Result<Outcome, OutOfMemory>
-    ensures { IfOk result (λ r. AreTried (policy_view policy.now) 1 (items_view items.now) r.lines.items r.failed
+fn tried(alloc: Global, loaded: &Loaded, items: &[Value]) -> Result<Outcome, OutOfMemory>
+    ensures { IfOk result (λ r. AreTried (loaded_view loaded.now) 1 (items_view items.now) r.lines.items r.failed
         r.reached.items) }
 {
     let mut lines = Vec::new(alloc);
@@ -188,7 +251,7 @@ fn tried(alloc: Global, policy: &Policy, items: &[Value]) -> Result<Outcome, Out
     let mut reached = Vec::new(alloc);
     for (place, item) in items.iter().enumerate() {
         let case = case_in(item);
-        let came = came_of(alloc, policy, &case)?;
+        let came = came_of(alloc, loaded, &case)?;
         failed += add_case(alloc, &mut lines, place + 1, &case, &came.text)?;
         reached.extend_from_slice(&came.reached)?;
     }
@@ -298,13 +361,13 @@ fn only(alloc: Global, text: Vec<u8>) -> Came
     }
 }
 
-fn came_of(alloc: Global, policy: &Policy, case: &Case) -> Result<Came, OutOfMemory>
-    ensures { IfOk result (λ came. IsCame (policy_view policy.now) (case_view case.now) (came_view came)) }
+fn came_of(alloc: Global, loaded: &Loaded, case: &Case) -> Result<Came, OutOfMemory>
+    ensures { IfOk result (λ came. IsCame (loaded_view loaded.now) (case_view case.now) (came_view came)) }
 {
     let route = route_of(case);
     match case.octets {
-        Some(digits) => came_of_digits(alloc, policy, &route, digits),
-        None => came_of_text(alloc, policy, &route, case.value.unwrap_or("")),
+        Some(digits) => came_of_digits(alloc, &loaded.policy, &route, digits),
+        None => came_of_text(alloc, loaded, &route, case.value.unwrap_or("")),
     }
 }
 
@@ -357,32 +420,33 @@ fn is_blank(octet: u8) -> bool
 
 fn came_of_text(
     alloc: Global,
-    policy: &Policy,
+    loaded: &Loaded,
     route: &Route,
     text: &str,
 ) -> Result<Came, OutOfMemory>
-    ensures { IfOk result (λ came. CameOfText (policy_view policy.now) (route_view route.now)
-        (declared_type (policy_view policy.now) (route_view route.now).message) text.now (came_view came)) }
+    ensures { IfOk result (λ came. CameOfText (loaded_view loaded.now) (route_view route.now)
+        (declared_message (loaded_view loaded.now).policy (route_view route.now).message) text.now
+        (came_view came)) }
 {
-    match policy.declared(route.message) {
-        Some(ty) => came_of_value(alloc, policy, route, ty, text.as_bytes()),
+    match loaded.policy.message(route.message) {
+        Some(message) => came_of_value(alloc, loaded, route, &message, text.as_bytes()),
         None => Ok(only(alloc, Vec::from_slice(alloc, b"unknown-message")?)),
     }
 }
 
 fn came_of_value(
     alloc: Global,
-    policy: &Policy,
+    loaded: &Loaded,
     route: &Route,
-    ty: &Ty,
+    message: &SaidMessage,
     text: &[u8],
 ) -> Result<Came, OutOfMemory>
-    requires { IsTrue (is_sound (type_view ty.now)) }
-    ensures { IfOk result (λ came. CameOfValue (policy_view policy.now) (route_view route.now) (type_view ty.now)
-        text.now (came_view came)) }
+    requires { IsTrue (is_sound (type_view message.now.ty.now)) }
+    ensures { IfOk result (λ came. CameOfValue (loaded_view loaded.now) (route_view route.now)
+        (said_message_view message.now) text.now (came_view came)) }
 {
-    match encoded(alloc, ty, text) {
-        Ok((_, octets)) => came_of_octets(alloc, policy, route, &octets),
+    match encoded(alloc, &loaded.modules, message, text) {
+        Ok((_, octets)) => came_of_octets(alloc, &loaded.policy, route, &octets),
         Err(Fault::NoMemory) => Err(OutOfMemory),
         Err(fault) => Ok(only(alloc, fault.text(alloc)?.into_bytes())),
     }

@@ -1,15 +1,21 @@
 //! The texts of a policy and of its modules.
-ghost use Rattle.std.specs.Prelude.{◌≡◌, ◌++◌, map, string_bytes, IfOk, IfErr};
+ghost use Rattle.std.specs.Prelude.{◌≡◌, ◌++◌, map, string_bytes, Ok, IfOk, IfErr};
 ghost use Rattle.guard_policy.specs.Loads.{ListsFiles};
+ghost use Rattle.guard_schema.specs.Accepts.{ReadsModules};
+ghost use Rattle.guard_schema.specs.Texts.{AreOfTexts};
+ghost use Rattle.guard_syntax.specs.ModuleViews.{module_view};
 ghost use Rattle.derguard_program.specs.Files.{Told, HasText, after_read, IsLater};
 ghost use Rattle.derguard_program.specs.Reading.{folder, HaveTexts, AreTexts, IsNoPolicyAt};
 ghost use Rattle.derguard_program.specs.Explaining.{AreTextsOf};
+ghost use Rattle.derguard_program.specs.inside.Loading.{SayNoneLoaded};
 ghost use Rattle.derguard_program.specs.inside.Texts.{CannotBeRead, CannotAllBeRead, IsBeforeModules};
 
 use crate::fault::Fault;
 use crate::files::{Files, FilesFault};
 use guard_notes::beside;
 use guard_policy::module_files;
+use guard_schema::read_modules;
+use guard_syntax::Module;
 use std::alloc::{AllocError, Global};
 
 /// The text of a policy, the files of the modules that it lists, in order, and their texts.
@@ -53,6 +59,19 @@ impl Texts {
         }
         Ok(slices)
     }
+
+    /// The trees of the modules. It refuses with Schema, by the first fault of tokens or grammar, or where there are too
+    /// many modules.
+    pub fn trees(&self, alloc: Global) -> Result<Vec<Module<'_>>, Fault>
+        ensures read { IfOk result (λ trees. ReadsModules (map (λ text. text.items) self.now.modules.items)
+            (Ok (map module_view trees.items))) }
+        ensures kept { IfOk result (λ trees. AreOfTexts (map module_view trees.items)) }
+        ensures none { IfErr result (SayNoneLoaded (map (λ text. text.items) self.now.modules.items)
+            self.now.policy.items) }
+    {
+        let slices = self.module_slices(alloc)?;
+        Ok(read_modules(alloc, &slices)?)
+    }
 }
 
 /// The files that the policy's text lists, and their texts beside the policy at the path, which was read before.
@@ -71,12 +90,12 @@ pub fn beside_policy<F: Files>(
     ensures later { IsLater (F.told files.old) (F.told files.new) }
 {
     let listed = module_files(alloc, policy)?;
-    let modules = read_modules(alloc, path, &listed, files)?;
+    let modules = module_texts(alloc, path, &listed, files)?;
     Ok((listed, modules))
 }
 
 /// The texts of these files, beside the policy at the path.
-fn read_modules<F: Files>(
+fn module_texts<F: Files>(
     alloc: Global,
     path: &str,
     listed: &[String],

@@ -1,6 +1,8 @@
 //! The words of the command line. `clap` splits them.
-ghost use Rattle.std.specs.Prelude.{◌≡◌, ℕ, List, Some, codes, false, map, option_map, string_bytes, IfOk, IfErr};
+ghost use Rattle.std.specs.Prelude.{◌≡◌, ℕ, List, Some, None, codes, false, map, option_map, string_bytes, IfOk, IfErr};
 ghost use Rattle.clap.specs.Words.{HasKind, Row, Text, app_of, fault_of, first_of, found_of, rows_of, rule_of, shape_of, subcommand_rows_of};
+ghost use Rattle.derguard_program.specs.Encodes.{encoding_view};
+ghost use Rattle.derguard_program.specs.Questions.{question_view};
 ghost use Rattle.derguard_program.specs.Requests.{AbstractRequest, request_view};
 ghost use Rattle.derguard_program.specs.Words.{AreFound, IsCommand, ask_shape, check_shape, decide_shape, encode_shape, flag_of, flag_rule, free_option_rule, free_place_rule, free_rule, mux_shape, option_rule, place_rule, required_rule, run_shape, show_shape, test_shape, the_app};
 
@@ -75,25 +77,8 @@ fn request_of<'a>(matches: &ArgMatches<'a>) -> Request<'a>
             explain: flag(found, "explain"),
             strict: flag(found, "strict"),
         },
-        Some(("show", found)) => Request::Show(Question {
-            policy: text(found, "policy"),
-            from: None,
-            to: None,
-            message: given(found, "message"),
-            hex: given(found, "hex"),
-            der: given(found, "der"),
-            frame: given(found, "frame"),
-            link: given(found, "link"),
-            explain: false,
-        }),
-        Some(("encode", found)) => Request::Encode(Encoding {
-            policy: text(found, "policy"),
-            message: text(found, "message"),
-            value: given(found, "value"),
-            from: given(found, "from"),
-            to: given(found, "to"),
-            der: flag(found, "der"),
-        }),
+        Some(("show", found)) => Request::Show(question_to_show(found)),
+        Some(("encode", found)) => Request::Encode(encoding_of(found)),
         Some(("test", found)) => Request::Test {
             policy: text(found, "policy"),
             cases: given(found, "cases"),
@@ -110,18 +95,81 @@ fn request_of<'a>(matches: &ArgMatches<'a>) -> Request<'a>
             policy: text(found, "policy"),
             verbose: flag(found, "verbose"),
         },
-        Some((_, found)) => Request::Decide(Question {
-            policy: text(found, "policy"),
-            from: given(found, "from"),
-            to: given(found, "to"),
-            message: given(found, "message"),
-            hex: given(found, "hex"),
-            der: given(found, "der"),
-            frame: given(found, "frame"),
-            link: given(found, "link"),
-            explain: flag(found, "explain"),
-        }),
+        Some((_, found)) => Request::Decide(question_to_decide(found)),
         None => unreachable!(),
+    }
+}
+
+/// What `decide` asks for. The policy is required, so it is there.
+fn question_to_decide<'a>(found: &ArgMatches<'a>) -> Question<'a>
+    ensures policy { (path : List ℕ) → first_of (codes "policy") (rows_of (found_of found.now)) ≡ Some path
+        → (question_view result).policy ≡ path }
+    ensures sender { (question_view result).from ≡ first_of (codes "from") (rows_of (found_of found.now)) }
+    ensures receiver { (question_view result).to ≡ first_of (codes "to") (rows_of (found_of found.now)) }
+    ensures message { (question_view result).message ≡ first_of (codes "message") (rows_of (found_of found.now)) }
+    ensures digits { (question_view result).hex ≡ first_of (codes "hex") (rows_of (found_of found.now)) }
+    ensures file { (question_view result).der ≡ first_of (codes "der") (rows_of (found_of found.now)) }
+    ensures frame { (question_view result).frame ≡ first_of (codes "frame") (rows_of (found_of found.now)) }
+    ensures link { (question_view result).link ≡ first_of (codes "link") (rows_of (found_of found.now)) }
+    ensures explain { (question_view result).explain ≡ flag_of (codes "explain") (rows_of (found_of found.now)) }
+{
+    Question {
+        policy: text(found, "policy"),
+        from: given(found, "from"),
+        to: given(found, "to"),
+        message: given(found, "message"),
+        hex: given(found, "hex"),
+        der: given(found, "der"),
+        frame: given(found, "frame"),
+        link: given(found, "link"),
+        explain: flag(found, "explain"),
+    }
+}
+
+/// What `show` asks for, which takes no sender and no receiver and explains nothing.
+fn question_to_show<'a>(found: &ArgMatches<'a>) -> Question<'a>
+    ensures policy { (path : List ℕ) → first_of (codes "policy") (rows_of (found_of found.now)) ≡ Some path
+        → (question_view result).policy ≡ path }
+    ensures sender { (question_view result).from ≡ None }
+    ensures receiver { (question_view result).to ≡ None }
+    ensures message { (question_view result).message ≡ first_of (codes "message") (rows_of (found_of found.now)) }
+    ensures digits { (question_view result).hex ≡ first_of (codes "hex") (rows_of (found_of found.now)) }
+    ensures file { (question_view result).der ≡ first_of (codes "der") (rows_of (found_of found.now)) }
+    ensures frame { (question_view result).frame ≡ first_of (codes "frame") (rows_of (found_of found.now)) }
+    ensures link { (question_view result).link ≡ first_of (codes "link") (rows_of (found_of found.now)) }
+    ensures explain { (question_view result).explain ≡ false }
+{
+    Question {
+        policy: text(found, "policy"),
+        from: None,
+        to: None,
+        message: given(found, "message"),
+        hex: given(found, "hex"),
+        der: given(found, "der"),
+        frame: given(found, "frame"),
+        link: given(found, "link"),
+        explain: false,
+    }
+}
+
+/// What `encode` asks for. The policy and the message's name are required, so they are there.
+fn encoding_of<'a>(found: &ArgMatches<'a>) -> Encoding<'a>
+    ensures policy { (path : List ℕ) → first_of (codes "policy") (rows_of (found_of found.now)) ≡ Some path
+        → (encoding_view result).policy ≡ path }
+    ensures message { (name : List ℕ) → first_of (codes "message") (rows_of (found_of found.now)) ≡ Some name
+        → (encoding_view result).message ≡ name }
+    ensures value { (encoding_view result).value ≡ first_of (codes "value") (rows_of (found_of found.now)) }
+    ensures sender { (encoding_view result).from ≡ first_of (codes "from") (rows_of (found_of found.now)) }
+    ensures receiver { (encoding_view result).to ≡ first_of (codes "to") (rows_of (found_of found.now)) }
+    ensures der { (encoding_view result).der ≡ flag_of (codes "der") (rows_of (found_of found.now)) }
+{
+    Encoding {
+        policy: text(found, "policy"),
+        message: text(found, "message"),
+        value: given(found, "value"),
+        from: given(found, "from"),
+        to: given(found, "to"),
+        der: flag(found, "der"),
     }
 }
 

@@ -1,7 +1,7 @@
 //! The value that a text alone writes, and its encoding.
 //!
 //! The grammar has values only where modules assign them. So the tokens of the text are read among those of a module
-//! that assigns their value and nothing else.
+//! that assigns their value and nothing else. The names of values in it are those of another module: that of the type.
 ghost use Rattle.std.specs.Prelude.{◌≡◌, Some, List, IfOk, IfErr, IsTrue};
 ghost use Rattle.guard_model.specs.declared.site.Site.{Site};
 ghost use Rattle.guard_model.specs.TypeView.{type_view};
@@ -17,37 +17,47 @@ ghost use Rattle.guard_syntax.specs.Parses.{IsWritten, HasSites};
 ghost use Rattle.guard_syntax.specs.Sites.{sited};
 ghost use Rattle.guard_syntax.specs.Trees.{WrittenValue, WrittenModule};
 ghost use Rattle.guard_syntax.specs.Views as trees;
+ghost use Rattle.guard_schema.specs.Known.{values_in};
+ghost use Rattle.guard_schema.specs.Views.{known_of};
 ghost use Rattle.guard_values.specs.Denotes.{Denotes};
 ghost use Rattle.reads_back.specs.ReadingBack.{IsReadAs};
 ghost use Rattle.derguard_program.specs.Encodes.{IsEncoding};
-ghost use Rattle.derguard_program.specs.ValueTexts.{no_values, IsNoValue, OfText};
+ghost use Rattle.derguard_program.specs.ValueTexts.{IsNoValue, OfText};
 ghost use Rattle.derguard_program.specs.inside.Assigned.{assigned, sites_around, AssignsOne, IsLexFault, IsSyntaxFault, IsUnexpected, IsValueFault, syntax_refusal, value_refusal};
 
 use crate::fault::Fault;
 use guard_der::{EncodeFault, encode};
 use guard_lexer::{LexFault, Mark, Reserved, Token, TokenKind, tokens};
 use guard_model::{OutOfMemory, Site, Ty, Value};
-use guard_names::resolve;
-use guard_schema::SchemaFault;
+use guard_policy::SaidMessage;
+use guard_schema::{BuiltModules, SchemaFault};
 use guard_syntax::{Module, SyntaxFault, ValueTree, end_of, parse};
-use guard_values::{Known, ValueFault, value};
+use guard_values::ValueFault;
 use std::alloc::{AllocError, Global};
 
 /// The number of the text in a site.
 const PLACE: u32 = 1;
 
-/// The value of the type that the text writes, and its encoding.
+/// The value of the message that the text writes, and its encoding. Names in it mean what they mean in the module of the
+/// message's type.
 ///
 /// It refuses with Schema where the text has no tokens (L1 to L7), the grammar has no value with them (P1 to P3), or the
 /// tree denotes no value of the type (V1 to V8).
-pub fn encoded(alloc: Global, ty: &Ty, text: &[u8]) -> Result<(Value, Vec<u8>), Fault>
-    requires { IsTrue (is_sound (type_view ty.now)) }
-    ensures encoding { IfOk result (λ p. IsEncoding (type_view ty.now) text.now (value_view p.0) p.1.items) }
-    ensures fits { IfOk result (λ p. IsTrue (fits (type_view ty.now) (value_view p.0))) }
-    ensures none { IfErr result (OfText (IsNoValue (type_view ty.now) text.now)) }
+pub fn encoded(
+    alloc: Global,
+    modules: &BuiltModules,
+    message: &SaidMessage,
+    text: &[u8],
+) -> Result<(Value, Vec<u8>), Fault>
+    requires { IsTrue (is_sound (type_view message.now.ty.now)) }
+    ensures encoding { IfOk result (λ p. IsEncoding (values_in (known_of modules.now) message.now.home.now)
+        (type_view message.now.ty.now) text.now (value_view p.0) p.1.items) }
+    ensures fits { IfOk result (λ p. IsTrue (fits (type_view message.now.ty.now) (value_view p.0))) }
+    ensures none { IfErr result (OfText (IsNoValue (values_in (known_of modules.now) message.now.home.now)
+        (type_view message.now.ty.now) text.now)) }
 {
-    let value = value_in(alloc, ty, text)?;
-    let octets = encoding_of(alloc, ty, &value)?;
+    let value = value_in(alloc, modules, message, text)?;
+    let octets = encoding_of(alloc, message.ty, &value)?;
     Ok((value, octets))
 }
 
@@ -65,17 +75,24 @@ fn encoding_of(alloc: Global, ty: &Ty, value: &Value) -> Result<Vec<u8>, OutOfMe
 }
 
 /// The value that the text writes.
-fn value_in(alloc: Global, ty: &Ty, text: &[u8]) -> Result<Value, Fault>
-    requires { IsTrue (is_sound (type_view ty.now)) }
-    ensures read { IfOk result (λ v. IsReadAs no_values (type_view ty.now) text.now (value_view v)) }
-    ensures fits { IfOk result (λ v. IsTrue (fits (type_view ty.now) (value_view v))) }
-    ensures short { IfOk result (λ v. IsTrue (is_short (der (type_view ty.now) (value_view v)))) }
-    ensures none { IfErr result (OfText (IsNoValue (type_view ty.now) text.now)) }
+fn value_in(
+    alloc: Global,
+    modules: &BuiltModules,
+    message: &SaidMessage,
+    text: &[u8],
+) -> Result<Value, Fault>
+    requires { IsTrue (is_sound (type_view message.now.ty.now)) }
+    ensures read { IfOk result (λ v. IsReadAs (values_in (known_of modules.now) message.now.home.now)
+        (type_view message.now.ty.now) text.now (value_view v)) }
+    ensures fits { IfOk result (λ v. IsTrue (fits (type_view message.now.ty.now) (value_view v))) }
+    ensures short { IfOk result (λ v. IsTrue (is_short (der (type_view message.now.ty.now) (value_view v)))) }
+    ensures none { IfErr result (OfText (IsNoValue (values_in (known_of modules.now) message.now.home.now)
+        (type_view message.now.ty.now) text.now)) }
 {
     let tokens = tokens_in(alloc, text)?;
     let module = module_with(alloc, text, &tokens)?;
     let tree = assigned(&module)?;
-    value_of(alloc, ty, tree)
+    value_of(alloc, modules, message, tree)
 }
 
 fn tokens_in(alloc: Global, text: &[u8]) -> Result<Vec<Token>, Fault>
@@ -89,22 +106,21 @@ fn tokens_in(alloc: Global, text: &[u8]) -> Result<Vec<Token>, Fault>
     }
 }
 
-/// The value of the type that the tree denotes where no name means a value.
-fn value_of(alloc: Global, ty: &Ty, tree: &ValueTree) -> Result<Value, Fault>
-    requires { IsTrue (is_sound (type_view ty.now)) }
-    ensures denoted { IfOk result (λ v. Denotes no_values (type_view ty.now) (trees.value_view tree.now) (value_view v)) }
-    ensures fits { IfOk result (λ v. IsTrue (fits (type_view ty.now) (value_view v))) }
-    ensures none { IfErr result (OfText (IsValueFault (type_view ty.now) (trees.value_view tree.now))) }
+/// The value of the message that the tree denotes.
+fn value_of(
+    alloc: Global,
+    modules: &BuiltModules,
+    message: &SaidMessage,
+    tree: &ValueTree,
+) -> Result<Value, Fault>
+    requires { IsTrue (is_sound (type_view message.now.ty.now)) }
+    ensures denoted { IfOk result (λ v. Denotes (values_in (known_of modules.now) message.now.home.now)
+        (type_view message.now.ty.now) (trees.value_view tree.now) (value_view v)) }
+    ensures fits { IfOk result (λ v. IsTrue (fits (type_view message.now.ty.now) (value_view v))) }
+    ensures none { IfErr result (OfText (IsValueFault (values_in (known_of modules.now) message.now.home.now)
+        (type_view message.now.ty.now) (trees.value_view tree.now))) }
 {
-    // Of no modules nothing but memory can be wanting.
-    let Ok(names) = resolve(alloc, &[]) else {
-        return Err(Fault::NoMemory);
-    };
-    let known = Known {
-        types: Vec::new(alloc),
-        values: Vec::new(alloc),
-    };
-    match value(alloc, &names, &known, 0, ty, tree) {
+    match modules.value(alloc, message.home, message.ty, tree) {
         Ok(value) => Ok(value),
         Err(fault) => Err(refused_value(fault)),
     }

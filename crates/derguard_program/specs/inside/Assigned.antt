@@ -14,11 +14,12 @@ use Rattle.guard_syntax.specs.declared.fault.SyntaxFault.TheVariants.{Unexpected
 use Rattle.guard_values.specs.declared.fault.ValueFault.{ValueFault}
 use Rattle.guard_values.specs.declared.fault.ValueFault.TheVariants as values
 use Rattle.guard_values.specs.FirstFault.{IsFirstFault}
+use Rattle.guard_values.specs.Meanings.{Meaning}
 use Rattle.guard_schema.specs.declared.fault.SchemaFault.{SchemaFault}
 use Rattle.guard_schema.specs.declared.fault.SchemaFault.TheVariants.{Lex, Syntax, Value}
 use Rattle.derguard_program.specs.declared.fault.Fault.{Fault}
 use Rattle.derguard_program.specs.declared.fault.Fault.TheVariants.{Schema, NoMemory}
-use Rattle.derguard_program.specs.ValueTexts.{no_values, HaveNoTree}
+use Rattle.derguard_program.specs.ValueTexts.{HaveNoTree}
 
 -- Module DEFINITIONS ::= BEGIN value NULL ::=, with no letter in either name, and END behind the value
 abbrev pub assigned : List Lexeme → List Lexeme
@@ -53,10 +54,10 @@ IsSyntaxFault text tokens _ = ⊥
 abbrev pub IsUnexpected : SchemaFault → Type 0
 IsUnexpected f = (site : Site) × (f ≡ Syntax (Unexpected site))
 
--- the tree denotes no value of the type
-abbrev pub IsValueFault : AbstractType → WrittenValue → SchemaFault → Type 0
-IsValueFault t tree (Value f) = IsFirstFault no_values t tree f
-IsValueFault t tree _ = ⊥
+-- the tree denotes no value of the type, where names mean this
+abbrev pub IsValueFault : Meaning → AbstractType → WrittenValue → SchemaFault → Type 0
+IsValueFault m t tree (Value f) = IsFirstFault m t tree f
+IsValueFault m t tree _ = ⊥
 
 -- what is answered for it: that memory ran out is no fault of the text
 abbrev pub value_refusal : ValueFault → Fault

@@ -8,7 +8,7 @@ use Rattle.derguard_program.proofs.testing.answer_of.Goals as goal
 
 pub returns : goal.returns
 returns c =
-    let p = policy_view c.args.policy.now in
+    let p = policy_view c.args.loaded.now.policy in
     let items = c.args.items.now in
     let lines = c.in_ok-tried.tried.lines.items in
     let failed = c.in_ok-tried.tried.failed in

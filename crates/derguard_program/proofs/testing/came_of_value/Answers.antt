@@ -7,7 +7,7 @@ use Rattle.derguard_program.proofs.testing.came_of_value.Goals as goal
 
 pub returns-in-Ok : goal.returns-in-Ok
 returns-in-Ok c =
-    let p = policy_view c.args.policy.now in
+    let p = policy_view c.args.loaded.now.policy in
     let route = route_view c.args.route.now in
     IfOk-weaker c.came_of_octets.result _ _ (λ came h. inl (
       value_view c.in-Ok.field-0-0,

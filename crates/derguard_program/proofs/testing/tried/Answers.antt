@@ -2,7 +2,7 @@ use Rattle.std.proofs.Common.{◌≤◌, ◌+◌, ℕ, List, arith, subst, sym}
 use Rattle.std.proofs.lemmas.List.{drop_all}
 use Rattle.toml.specs.View.{items_view}
 use Rattle.toml.specs.declared.value.Value.{Value}
-use Rattle.guard_policy.specs.PolicyView.{policy_view}
+use Rattle.derguard_program.specs.Reading.{loaded_view}
 use Rattle.derguard_program.specs.Cases.{case_view}
 use Rattle.derguard_program.specs.Testing.{came_view}
 use Rattle.derguard_program.proofs.TriedCases.{Continues, all_tried, few, none_tried, one_tried}
@@ -11,7 +11,7 @@ use Rattle.derguard_program.proofs.testing.tried.Goals as goal
 pub loop-place-init : goal.loop-place-init
 loop-place-init c = record {
   few = omega arith;
-  so_far = rw (c.new-lines.ensures.items, c.new-reached.ensures.items) (none_tried (policy_view c.args.policy.now) (items_view c.args.items.now));
+  so_far = rw (c.new-lines.ensures.items, c.new-reached.ensures.items) (none_tried (loaded_view c.args.loaded.now) (items_view c.args.items.now));
 }
 
 pub overflow_add-failed : goal.overflow_add-failed
@@ -22,7 +22,7 @@ overflow_add-failed c =
 
 pub loop-place-preserved : goal.loop-place-preserved
 loop-place-preserved c =
-    let p = policy_view c.args.policy.now in
+    let p = loaded_view c.args.loaded.now in
     let items = c.args.items.now in
     let i = c.loop-place.place in
     let x : Value = c.index-items-place.result in
@@ -40,7 +40,7 @@ loop-place-preserved c =
 
 pub returns : goal.returns
 returns c =
-    let p = policy_view c.args.policy.now in
+    let p = loaded_view c.args.loaded.now in
     let items = c.args.items.now in
     all_tried p (c.loop-place.place + 1) (items_view items) c.loop-place.lines.items c.loop-place.failed c.loop-place.reached.items
     (subst (λ (left : List Value). Continues p (c.loop-place.place + 1) (items_view left) c.loop-place.lines.items c.loop-place.failed c.loop-place.reached.items (items_view items))

@@ -2,7 +2,7 @@ use Rattle.std.proofs.Common.{map, drop, string_bytes}
 use Rattle.derguard_program.specs.Files.{IsLater}
 use Rattle.derguard_program.specs.Reading.{folder}
 use Rattle.derguard_program.proofs.ReadingTexts.{ReadSoFar}
-use Rattle.derguard_program.proofs.texts.read_modules.Given as goal
+use Rattle.derguard_program.proofs.texts.module_texts.Given as goal
 
 abbrev pub invariant-loop-name : goal.invariant-loop-name
 invariant-loop-name g l =

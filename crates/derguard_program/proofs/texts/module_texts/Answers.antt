@@ -2,7 +2,7 @@ use Rattle.std.proofs.Common.{◌∙◌, ◌++◌, ℕ, List, ap, map}
 use Rattle.std.proofs.lemmas.List.{map_push}
 use Rattle.derguard_program.specs.Reading.{folder}
 use Rattle.derguard_program.proofs.ReadingTexts.{read_next, read_whole, later_read}
-use Rattle.derguard_program.proofs.texts.read_modules.Goals as goal
+use Rattle.derguard_program.proofs.texts.module_texts.Goals as goal
 
 pub loop-name-preserved : goal.loop-name-preserved
 loop-name-preserved g c =

@@ -8,7 +8,7 @@ use std::{fs, io};
 
 const NO_ESCAPE: &str = "(a backslash begins nothing)";
 
-/// Where memory was wanting. The rows below it are tried all the same.
+/// Where memory ran out. The rows below it are tried all the same.
 const NO_MEMORY: &str = "OutOfMemory";
 
 /// Reads a file of rows, prints each row whose answer isn't the expected one, with both, and then how many rows there

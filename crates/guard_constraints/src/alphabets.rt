@@ -48,7 +48,8 @@ pub enum Item {
 
 /// The strings of the permitted characters. `site` is that of the word FROM.
 pub fn alphabet(alloc: Global, tree: &ConsTree, site: Site, ty: &Ty) -> Result<Cons, ConsFault>
-    ensures { Gives constraint_view named result (read_alphabet (type_view ty.now) site (sets.constraint_view tree.now)) }
+    ensures { Gives constraint_view named result
+        (read_alphabet (type_view ty.now) site (sets.constraint_view tree.now)) }
 {
     let Kind::Chars(kind) = &ty.kind else {
         return Err(ConsFault::NotApplicable(site));
@@ -74,7 +75,8 @@ fn in_set(
     site: Site,
     items: Vec<Item>,
 ) -> Result<Vec<Item>, ConsFault>
-    ensures { Gives (λ v. map item_view v.items) named result (gathered site (map item_view items.items) (alphabets.items_of (sets.set_view set.now))) }
+    ensures { Gives (λ v. map item_view v.items) named result
+        (gathered site (map item_view items.items) (alphabets.items_of (sets.set_view set.now))) }
 {
     match &set.form {
         SetForm::AllExcept(_) => Err(ConsFault::AlphabetForm(site)),
@@ -92,7 +94,8 @@ fn in_united(
     site: Site,
     items: Vec<Item>,
 ) -> Result<Vec<Item>, ConsFault>
-    ensures { Gives (λ v. map item_view v.items) named result (gathered site (map item_view items.items) (alphabets.items_of_united (united_of (map sets.joined_intersection_view others.now)))) }
+    ensures { Gives (λ v. map item_view v.items) named result (gathered site (map item_view items.items)
+        (alphabets.items_of_united (united_of (map sets.joined_intersection_view others.now)))) }
 {
     let mut all = items;
     for other in others {
@@ -110,7 +113,8 @@ fn in_intersection(
     site: Site,
     items: Vec<Item>,
 ) -> Result<Vec<Item>, ConsFault>
-    ensures { Gives (λ v. map item_view v.items) named result (gathered site (map item_view items.items) (alphabets.items_of_intersection (sets.intersection_view tree.now))) }
+    ensures { Gives (λ v. map item_view v.items) named result (gathered site (map item_view items.items)
+        (alphabets.items_of_intersection (sets.intersection_view tree.now))) }
 {
     let others: &[JoinedDifference] = &tree.others;
     if !others.is_empty() {
@@ -127,7 +131,8 @@ fn in_difference(
     site: Site,
     items: Vec<Item>,
 ) -> Result<Vec<Item>, ConsFault>
-    ensures { Gives (λ v. map item_view v.items) named result (gathered site (map item_view items.items) (alphabets.items_of_difference (sets.difference_view tree.now))) }
+    ensures { Gives (λ v. map item_view v.items) named result
+        (gathered site (map item_view items.items) (alphabets.items_of_difference (sets.difference_view tree.now))) }
 {
     if tree.except.is_some() {
         return Err(ConsFault::AlphabetForm(site));
@@ -143,7 +148,8 @@ fn in_element(
     site: Site,
     items: Vec<Item>,
 ) -> Result<Vec<Item>, ConsFault>
-    ensures { Gives (λ v. map item_view v.items) named result (gathered site (map item_view items.items) (alphabets.items_of_element (sets.element_view tree.now))) }
+    ensures { Gives (λ v. map item_view v.items) named result
+        (gathered site (map item_view items.items) (alphabets.items_of_element (sets.element_view tree.now))) }
 {
     match &tree.form {
         ElementForm::Parentheses(set) => in_set(alloc, set, site, items),
@@ -154,7 +160,8 @@ fn in_element(
 }
 
 fn with_item(site: Site, items: Vec<Item>, item: Option<Item>) -> Result<Vec<Item>, ConsFault>
-    ensures { Gives (λ v. map item_view v.items) named result (gathered site (map item_view items.items) (alphabets.item_alone (option_map item_view item))) }
+    ensures { Gives (λ v. map item_view v.items) named result
+        (gathered site (map item_view items.items) (alphabets.item_alone (option_map item_view item))) }
 {
     let Some(item) = item else {
         return Err(ConsFault::AlphabetForm(site));
@@ -210,7 +217,8 @@ fn code_end(alloc: Global, end: &Option<EndTree>) -> Result<Option<End>, AllocEr
 
 /// The character of a string that has one.
 fn character_end(site: Site, codes: &[u32]) -> Option<End>
-    ensures { option_map code_view result ≡ option_map (alphabets.character site) (alphabets.one_alone (Some codes.now)) }
+    ensures { option_map code_view result
+        ≡ option_map (alphabets.character site) (alphabets.one_alone (Some codes.now)) }
 {
     if codes.len() == 1 {
         Some(End::Character(site, codes[0]))

@@ -18,7 +18,8 @@ pub fn contained(
     site: Site,
     ty: &Ty,
 ) -> Result<Cons, ConsFault>
-    ensures { Gives constraint_view named result (read_contained (type_view ty.now) site ((visible_in scope.entry).types name.now)) }
+    ensures { Gives constraint_view named result
+        (read_contained (type_view ty.now) site ((visible_in scope.entry).types name.now)) }
 {
     let Some(contained) = scope.type_named(name) else {
         return Err(ConsFault::ContainedMismatch(site));

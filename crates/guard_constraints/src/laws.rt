@@ -12,16 +12,20 @@ ghost use Rattle.guard_constraints.specs.Visible.{Visible};
 
 /// A tree denotes one constraint at most.
 pub fn law_one_constraint()
-    ensures { (names : Visible) (t : AbstractType) (tree : WrittenConstraint) (c d : Constraint) → Denotes names t tree c → Denotes names t tree d → c ≡ d }
+    ensures { (names : Visible) (t : AbstractType) (tree : WrittenConstraint) (c d : Constraint) →
+        Denotes names t tree c → Denotes names t tree d → c ≡ d }
 {}
 
 /// One fault at most is named of a tree.
 pub fn law_one_fault()
-    ensures { (names : Visible) (t : AbstractType) (tree : WrittenConstraint) (f g : ConsFault) → IsFirstConstraintFault names t tree f → IsFirstConstraintFault names t tree g → f ≡ g }
+    ensures { (names : Visible) (t : AbstractType) (tree : WrittenConstraint) (f g : ConsFault) →
+        IsFirstConstraintFault names t tree f → IsFirstConstraintFault names t tree g → f ≡ g }
 {}
 
 /// None is named of a tree that denotes a constraint on a sound type, where each visible value is one of its
 /// governor's.
 pub fn law_no_fault()
-    ensures { (names : Visible) (t : AbstractType) (tree : WrittenConstraint) (c : Constraint) (f : ConsFault) → AreFitting names.values → IsTrue (is_sound t) → Denotes names t tree c → IsFirstConstraintFault names t tree f → ⊥ }
+    ensures { (names : Visible) (t : AbstractType) (tree : WrittenConstraint) (c : Constraint) (f : ConsFault) →
+        AreFitting names.values → IsTrue (is_sound t) → Denotes names t tree c → IsFirstConstraintFault names t tree f →
+        ⊥ }
 {}

@@ -59,7 +59,8 @@ pub fn check_parts(parts: &[ComponentConsTree], ty: &Ty, site: Site) -> Result<(
 
 /// All are looked through for one fault before the next.
 fn check_each(kind: &Kind, parts: &[ComponentConsTree]) -> Result<(), ConsFault>
-    ensures { Gives (λ u. tt) named result (reading.unless_fault (part_fault (kind_view kind.now) (map head_view parts.now))) }
+    ensures { Gives (λ u. tt) named result
+        (reading.unless_fault (part_fault (kind_view kind.now) (map head_view parts.now))) }
 {
     if let Some(site) = first_bad_word(kind, parts) {
         return Err(ConsFault::PresenceWord(site));

@@ -28,7 +28,8 @@ pub fn range(
 ) -> Result<Cons, ConsFault>
     requires sound { IsTrue (is_sound (type_view ty.now)) }
     requires fitting { AreKnownFitting scope.known.now }
-    ensures { Gives constraint_view named result (read_range (meaning_of scope.entry) (type_view ty.now) site (range_view tree.now)) }
+    ensures { Gives constraint_view named result
+        (read_range (meaning_of scope.entry) (type_view ty.now) site (range_view tree.now)) }
 {
     if !ty.kind.is_integer() {
         return Err(ConsFault::NotApplicable(site));
@@ -63,7 +64,8 @@ fn limit(
 ) -> Result<Limit, ConsFault>
     requires sound { IsTrue (is_sound (type_view ty.now)) }
     requires fitting { AreKnownFitting scope.known.now }
-    ensures { Gives (λ l. l) named result (read_limit (meaning_of scope.entry) (type_view ty.now) outside (end_or_view end.now)) }
+    ensures { Gives (λ l. l) named result
+        (read_limit (meaning_of scope.entry) (type_view ty.now) outside (end_or_view end.now)) }
 {
     let Some(end) = end else {
         return Ok(Limit::Free);

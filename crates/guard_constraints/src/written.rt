@@ -48,12 +48,16 @@ pub fn constraint(
     requires fitting { AreKnownFitting known.now }
     requires known { AreKnownSound known.now }
     // The constraint is the one denoted, with the sites of its nodes, and it may be on the type.
-    ensures denoted { IfOk result (λ c. Denotes (visible_at names.now known.now id) (type_view ty.now) (views.constraint_view tree.now) (constraint_view c)) }
+    ensures denoted { IfOk result (λ c. Denotes (visible_at names.now known.now id) (type_view ty.now)
+        (views.constraint_view tree.now) (constraint_view c)) }
     ensures proper { IfOk result (λ c. IsTrue (is_proper_constraint (constraint_view c) (type_view ty.now))) }
-    ensures faultless { IfOk result (λ c. (f : ConsFault) → IsFirstConstraintFault (visible_at names.now known.now id) (type_view ty.now) (views.constraint_view tree.now) f → ⊥) }
+    ensures faultless { IfOk result (λ c. (f : ConsFault) → IsFirstConstraintFault (visible_at names.now known.now id)
+        (type_view ty.now) (views.constraint_view tree.now) f → ⊥) }
     // A fault that is named is the first, and then nothing is denoted.
-    ensures first { IfErr result (λ e. IfSome (named e) (λ f. IsFirstConstraintFault (visible_at names.now known.now id) (type_view ty.now) (views.constraint_view tree.now) f)) }
-    ensures none { IfErr result (λ e. IfSome (named e) (λ f. (c : Constraint) → Denotes (visible_at names.now known.now id) (type_view ty.now) (views.constraint_view tree.now) c → ⊥)) }
+    ensures first { IfErr result (λ e. IfSome (named e) (λ f. IsFirstConstraintFault (visible_at names.now known.now id)
+        (type_view ty.now) (views.constraint_view tree.now) f)) }
+    ensures none { IfErr result (λ e. IfSome (named e) (λ f. (c : Constraint) →
+        Denotes (visible_at names.now known.now id) (type_view ty.now) (views.constraint_view tree.now) c → ⊥)) }
 {
     on_type(alloc, Scope { names, known, id }, tree, ty)
 }
@@ -64,7 +68,8 @@ pub fn constraint(
 fn on_type(alloc: Global, scope: Scope, tree: &ConsTree, ty: &Ty) -> Result<Cons, ConsFault>
     requires sound { IsTrue (is_sound (type_view ty.now)) }
     requires fitting { AreKnownFitting scope.known.now }
-    ensures { Gives constraint_view named result (reading.read (visible_in scope.entry) (type_view ty.now) (views.constraint_view tree.now)) }
+    ensures { Gives constraint_view named result
+        (reading.read (visible_in scope.entry) (type_view ty.now) (views.constraint_view tree.now)) }
 {
     set(alloc, scope, &tree.set, ty)
 }
@@ -74,7 +79,8 @@ fn on_type(alloc: Global, scope: Scope, tree: &ConsTree, ty: &Ty) -> Result<Cons
 fn set(alloc: Global, scope: Scope, tree: &SetTree, ty: &Ty) -> Result<Cons, ConsFault>
     requires sound { IsTrue (is_sound (type_view ty.now)) }
     requires fitting { AreKnownFitting scope.known.now }
-    ensures { Gives constraint_view named result (reading.read_set (visible_in scope.entry) (type_view ty.now) (views.set_view tree.now)) }
+    ensures { Gives constraint_view named result
+        (reading.read_set (visible_in scope.entry) (type_view ty.now) (views.set_view tree.now)) }
 {
     match &tree.form {
         SetForm::AllExcept(other) => {
@@ -116,7 +122,8 @@ fn joined(
     first: Cons,
     others: Vec<Cons>,
 ) -> Result<Cons, AllocError>
-    ensures { IfOk result (λ c. constraint_view c ≡ denotes.joined (reading.joined_by join) site (constraint_view first) (constraints_of (map constraint_view others.items))) }
+    ensures { IfOk result (λ c. constraint_view c ≡ denotes.joined (reading.joined_by join) site (constraint_view first)
+        (constraints_of (map constraint_view others.items))) }
 {
     let joined_parts: &[Cons] = &others;
     if joined_parts.is_empty() {
@@ -137,7 +144,8 @@ fn with_first(alloc: Global, first: Cons, others: Vec<Cons>) -> Result<Vec<Cons>
 }
 
 fn of_all(join: Join, site: Site, all: Vec<Cons>) -> Cons
-    ensures { constraint_view result ≡ abstract.at site (reading.joined_by join (constraints_of (map constraint_view all.items))) }
+    ensures { constraint_view result
+        ≡ abstract.at site (reading.joined_by join (constraints_of (map constraint_view all.items))) }
 {
     match join {
         Join::Union => Cons {
@@ -161,7 +169,8 @@ fn united(
 ) -> Result<Vec<Cons>, ConsFault>
     requires sound { IsTrue (is_sound (type_view ty.now)) }
     requires fitting { AreKnownFitting scope.known.now }
-    ensures { Gives (λ v. map constraint_view v.items) named result (reading.joined_intersections (visible_in scope.entry) (type_view ty.now) (map views.joined_intersection_view others.now)) }
+    ensures { Gives (λ v. map constraint_view v.items) named result (reading.joined_intersections
+        (visible_in scope.entry) (type_view ty.now) (map views.joined_intersection_view others.now)) }
 {
     let mut all = Vec::new(alloc);
     for other in others {
@@ -180,7 +189,8 @@ fn intersection(
 ) -> Result<Cons, ConsFault>
     requires sound { IsTrue (is_sound (type_view ty.now)) }
     requires fitting { AreKnownFitting scope.known.now }
-    ensures { Gives constraint_view named result (reading.read_intersection (visible_in scope.entry) (type_view ty.now) (views.intersection_view tree.now)) }
+    ensures { Gives constraint_view named result
+        (reading.read_intersection (visible_in scope.entry) (type_view ty.now) (views.intersection_view tree.now)) }
 {
     let site = tree.first.element.site;
     let first = difference(alloc, scope, &tree.first, ty)?;
@@ -198,7 +208,8 @@ fn met(
 ) -> Result<Vec<Cons>, ConsFault>
     requires sound { IsTrue (is_sound (type_view ty.now)) }
     requires fitting { AreKnownFitting scope.known.now }
-    ensures { Gives (λ v. map constraint_view v.items) named result (reading.joined_differences (visible_in scope.entry) (type_view ty.now) (map views.joined_difference_view others.now)) }
+    ensures { Gives (λ v. map constraint_view v.items) named result (reading.joined_differences (visible_in scope.entry)
+        (type_view ty.now) (map views.joined_difference_view others.now)) }
 {
     let mut all = Vec::new(alloc);
     for other in others {
@@ -218,7 +229,8 @@ fn difference(
 ) -> Result<Cons, ConsFault>
     requires sound { IsTrue (is_sound (type_view ty.now)) }
     requires fitting { AreKnownFitting scope.known.now }
-    ensures { Gives constraint_view named result (reading.read_difference (visible_in scope.entry) (type_view ty.now) (views.difference_view tree.now)) }
+    ensures { Gives constraint_view named result
+        (reading.read_difference (visible_in scope.entry) (type_view ty.now) (views.difference_view tree.now)) }
 {
     let all = element(alloc, scope, &tree.element, ty)?;
     match &tree.except {
@@ -231,7 +243,8 @@ fn difference(
 }
 
 fn except(alloc: Global, site: Site, all: Cons, less: Cons) -> Result<Cons, AllocError>
-    ensures { IfOk result (λ c. constraint_view c ≡ abstract.at site (abstract.except (constraint_view all) (constraint_view less))) }
+    ensures { IfOk result (λ c. constraint_view c
+        ≡ abstract.at site (abstract.except (constraint_view all) (constraint_view less))) }
 {
     let all = Box::new(alloc, all)?;
     let less = Box::new(alloc, less)?;
@@ -248,7 +261,8 @@ fn except(alloc: Global, site: Site, all: Cons, less: Cons) -> Result<Cons, Allo
 fn element(alloc: Global, scope: Scope, tree: &ElementTree, ty: &Ty) -> Result<Cons, ConsFault>
     requires sound { IsTrue (is_sound (type_view ty.now)) }
     requires fitting { AreKnownFitting scope.known.now }
-    ensures { Gives constraint_view named result (reading.read_element (visible_in scope.entry) (type_view ty.now) (views.element_view tree.now)) }
+    ensures { Gives constraint_view named result
+        (reading.read_element (visible_in scope.entry) (type_view ty.now) (views.element_view tree.now)) }
 {
     let site = tree.site;
     match &tree.form {
@@ -276,7 +290,8 @@ fn single_value(
 ) -> Result<Cons, ConsFault>
     requires sound { IsTrue (is_sound (type_view ty.now)) }
     requires fitting { AreKnownFitting scope.known.now }
-    ensures { Gives constraint_view named result (reading.read_element_form (visible_in scope.entry) (type_view ty.now) site (trees.value (values.value_view tree.now))) }
+    ensures { Gives constraint_view named result (reading.read_element_form (visible_in scope.entry) (type_view ty.now)
+        site (trees.value (values.value_view tree.now))) }
 {
     let single = written_value(alloc, scope, tree, ty)?;
     Ok(Cons {
@@ -297,7 +312,8 @@ fn size(
 ) -> Result<Cons, ConsFault>
     requires sound { IsTrue (is_sound (type_view ty.now)) }
     requires fitting { AreKnownFitting scope.known.now }
-    ensures { Gives constraint_view named result (reading.read_element_form (visible_in scope.entry) (type_view ty.now) site (trees.size (views.constraint_view inner.now))) }
+    ensures { Gives constraint_view named result (reading.read_element_form (visible_in scope.entry) (type_view ty.now)
+        site (trees.size (views.constraint_view inner.now))) }
 {
     let number = size_type(alloc, ty, site)?;
     let size = on_type(alloc, scope, inner, &number)?;
@@ -330,7 +346,8 @@ fn each(
 ) -> Result<Cons, ConsFault>
     requires sound { IsTrue (is_sound (type_view ty.now)) }
     requires fitting { AreKnownFitting scope.known.now }
-    ensures { Gives constraint_view named result (reading.read_element_form (visible_in scope.entry) (type_view ty.now) site (trees.with_component (views.constraint_view inner.now))) }
+    ensures { Gives constraint_view named result (reading.read_element_form (visible_in scope.entry) (type_view ty.now)
+        site (trees.with_component (views.constraint_view inner.now))) }
 {
     let element = element_type(ty, site)?;
     let each = Box::new(alloc, on_type(alloc, scope, inner, element)?)?;
@@ -355,7 +372,8 @@ fn parts(
 ) -> Result<Cons, ConsFault>
     requires sound { IsTrue (is_sound (type_view ty.now)) }
     requires fitting { AreKnownFitting scope.known.now }
-    ensures { Gives constraint_view named result (reading.read_element_form (visible_in scope.entry) (type_view ty.now) site (trees.with_components partial (trees.parts_of (map views.part_view listed.now)))) }
+    ensures { Gives constraint_view named result (reading.read_element_form (visible_in scope.entry) (type_view ty.now)
+        site (trees.with_components partial (trees.parts_of (map views.part_view listed.now)))) }
 {
     check_parts(listed, ty, site)?;
     let parts = each_part(alloc, scope, listed, ty)?;
@@ -363,7 +381,8 @@ fn parts(
 }
 
 fn with_components(site: Site, partial: bool, parts: Vec<Part>) -> Cons
-    ensures { constraint_view result ≡ abstract.at site (abstract.with_components partial (parts_of (map part_view parts.items))) }
+    ensures { constraint_view result
+        ≡ abstract.at site (abstract.with_components partial (parts_of (map part_view parts.items))) }
 {
     Cons {
         site,
@@ -380,7 +399,8 @@ fn each_part(
 ) -> Result<Vec<Part>, ConsFault>
     requires sound { IsTrue (is_sound (type_view ty.now)) }
     requires fitting { AreKnownFitting scope.known.now }
-    ensures { Gives (λ v. map part_view v.items) named result (each (reading.read_part (visible_in scope.entry) (kind_of (type_view ty.now))) (map views.part_view listed.now)) }
+    ensures { Gives (λ v. map part_view v.items) named result (each
+        (reading.read_part (visible_in scope.entry) (kind_of (type_view ty.now))) (map views.part_view listed.now)) }
 {
     let mut parts = Vec::with_capacity(alloc, listed.len())?;
     for one in listed {
@@ -395,7 +415,8 @@ fn each_part(
 fn part(alloc: Global, scope: Scope, tree: &ComponentConsTree, ty: &Ty) -> Result<Part, ConsFault>
     requires sound { IsTrue (is_sound (type_view ty.now)) }
     requires fitting { AreKnownFitting scope.known.now }
-    ensures { Gives part_view named result (reading.read_part (visible_in scope.entry) (kind_of (type_view ty.now)) (views.part_view tree.now)) }
+    ensures { Gives part_view named result
+        (reading.read_part (visible_in scope.entry) (kind_of (type_view ty.now)) (views.part_view tree.now)) }
 {
     let (place, inside) = located(tree.name, ty, tree.site)?;
     match &tree.cons {

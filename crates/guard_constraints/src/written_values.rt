@@ -24,7 +24,8 @@ pub fn written_value(
 ) -> Result<Arc<Value>, ConsFault>
     requires sound { IsTrue (is_sound (type_view ty.now)) }
     requires fitting { AreKnownFitting scope.known.now }
-    ensures { Gives shared_view named result (read_value (meaning_of scope.entry) (type_view ty.now) (trees.value_view tree.now)) }
+    ensures { Gives shared_view named result
+        (read_value (meaning_of scope.entry) (type_view ty.now) (trees.value_view tree.now)) }
 {
     let Scope { names, known, id } = scope;
     Ok(shared_value(alloc, names, known, id, ty, tree)?)

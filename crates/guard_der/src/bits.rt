@@ -1,7 +1,8 @@
 //! The bits of a BIT STRING: how many there are, how many are unused, what these are, and what the last bit is.
 ghost use Rattle.std.specs.Prelude.{◌≡◌, ◌-◌, ◌*◌, ◌^◌, ◌≤◌, length, map, pos};
 ghost use Rattle.guard_model.specs.TypeView.{named_view};
-ghost use Rattle.guard_der.specs.Fits.{last_octet as last_of, has_proper_end, has_zero_end, has_no_trailing_zero, ends_as_named};
+ghost use Rattle.guard_der.specs.Fits.{last_octet as last_of, has_proper_end, has_zero_end};
+ghost use Rattle.guard_der.specs.Fits.{has_no_trailing_zero, ends_as_named};
 
 use guard_model::Named;
 

@@ -6,7 +6,8 @@ use guard_model::CharKind;
 
 /// The text that octets of the kind spell: UTF-8, each character of the kind's alphabet.
 pub fn text_of(kind: CharKind, octets: &[u8]) -> Option<&str>
-    ensures { option_map (λ text. chars text.now) result ≡ (if is_text kind octets.now then Some (characters_of kind octets.now) else None) }
+    ensures { option_map (λ text. chars text.now) result
+        ≡ (if is_text kind octets.now then Some (characters_of kind octets.now) else None) }
 {
     let Ok(text) = str::from_utf8(octets) else {
         return None;

@@ -6,7 +6,8 @@ ghost use Rattle.guard_model.specs.Answer.{Gives};
 ghost use Rattle.guard_model.specs.TypeView.{kind_view, named_view};
 ghost use Rattle.guard_model.specs.ValueView.{value_view};
 ghost use Rattle.guard_der.specs.Octets.{twos_complement as twos_read};
-ghost use Rattle.guard_der.specs.Simple.{boolean_fault, boolean_of, integer_fault, bits_fault, bits_of, null_fault, enumerated_fault, characters_fault, characters_of, simple_fault, simple_value};
+ghost use Rattle.guard_der.specs.Simple.{boolean_fault, boolean_of, integer_fault, bits_fault, bits_of, null_fault};
+ghost use Rattle.guard_der.specs.Simple.{enumerated_fault, characters_fault, characters_of, simple_fault, simple_value};
 ghost use Rattle.guard_der.specs.Reading.{unless_fault};
 ghost use Rattle.guard_der.specs.inside.Faults.{fault_of};
 
@@ -28,7 +29,8 @@ pub fn value_of_simple(
     at: usize,
     octets: &[u8],
 ) -> Result<Value, Fault>
-    ensures { Gives value_view (fault_of path.new.items) result (unless_fault at (simple_fault (kind_view kind.now) octets.now) (simple_value (kind_view kind.now) octets.now)) }
+    ensures { Gives value_view (fault_of path.new.items) result (unless_fault at
+        (simple_fault (kind_view kind.now) octets.now) (simple_value (kind_view kind.now) octets.now)) }
 {
     match kind {
         Kind::Bool => boolean(path, at, octets),
@@ -45,7 +47,8 @@ pub fn value_of_simple(
 
 /// FALSE is 00, TRUE is FF (X.690 8.2, 11.1).
 fn boolean(path: &mut Path, at: usize, octets: &[u8]) -> Result<Value, Fault>
-    ensures { Gives value_view (fault_of path.new.items) result (unless_fault at (boolean_fault octets.now) (abstract.boolean (boolean_of octets.now))) }
+    ensures { Gives value_view (fault_of path.new.items) result
+        (unless_fault at (boolean_fault octets.now) (abstract.boolean (boolean_of octets.now))) }
 {
     match octets {
         [0] => Ok(Value::Bool(false)),
@@ -56,7 +59,8 @@ fn boolean(path: &mut Path, at: usize, octets: &[u8]) -> Result<Value, Fault>
 
 /// A NULL has no contents (X.690 8.8.2).
 fn null(path: &mut Path, at: usize, octets: &[u8]) -> Result<Value, Fault>
-    ensures { Gives value_view (fault_of path.new.items) result (unless_fault at (null_fault octets.now) abstract.null) }
+    ensures { Gives value_view (fault_of path.new.items) result
+        (unless_fault at (null_fault octets.now) abstract.null) }
 {
     match octets {
         [] => Ok(Value::Null),
@@ -73,7 +77,8 @@ fn bit_string(
     at: usize,
     octets: &[u8],
 ) -> Result<Value, Fault>
-    ensures { Gives value_view (fault_of path.new.items) result (unless_fault at (bits_fault (map named_view names.now) octets.now) (bits_of octets.now)) }
+    ensures { Gives value_view (fault_of path.new.items) result
+        (unless_fault at (bits_fault (map named_view names.now) octets.now) (bits_of octets.now)) }
 {
     let [unused, rest @ ..] = octets else {
         return Err(fault_at(path, Code::BitStringContents, at));
@@ -101,7 +106,8 @@ fn text(
     at: usize,
     octets: &[u8],
 ) -> Result<Value, Fault>
-    ensures { Gives value_view (fault_of path.new.items) result (unless_fault at (characters_fault kind octets.now) (abstract.characters (characters_of kind octets.now))) }
+    ensures { Gives value_view (fault_of path.new.items) result
+        (unless_fault at (characters_fault kind octets.now) (abstract.characters (characters_of kind octets.now))) }
 {
     match text_of(kind, octets) {
         Some(text) => Ok(Value::Chars(String::from_str(alloc, text)?)),
@@ -110,7 +116,8 @@ fn text(
 }
 
 fn integer(path: &mut Path, at: usize, octets: &[u8]) -> Result<Value, Fault>
-    ensures { Gives value_view (fault_of path.new.items) result (unless_fault at (integer_fault octets.now) (abstract.integer (twos_read octets.now))) }
+    ensures { Gives value_view (fault_of path.new.items) result
+        (unless_fault at (integer_fault octets.now) (abstract.integer (twos_read octets.now))) }
 {
     match fault_of_integer(octets) {
         Some(code) => Err(fault_at(path, code, at)),
@@ -120,7 +127,8 @@ fn integer(path: &mut Path, at: usize, octets: &[u8]) -> Result<Value, Fault>
 
 /// An INTEGER that is the number of an item (X.690 8.4).
 fn enumerated(path: &mut Path, items: &[Named], at: usize, octets: &[u8]) -> Result<Value, Fault>
-    ensures { Gives value_view (fault_of path.new.items) result (unless_fault at (enumerated_fault (map named_view items.now) octets.now) (abstract.enumerated (twos_read octets.now))) }
+    ensures { Gives value_view (fault_of path.new.items) result (unless_fault at
+        (enumerated_fault (map named_view items.now) octets.now) (abstract.enumerated (twos_read octets.now))) }
 {
     match fault_of_integer(octets) {
         Some(code) => Err(fault_at(path, code, at)),

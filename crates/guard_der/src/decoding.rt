@@ -1,5 +1,6 @@
 //! The value that octets encode, or their breach.
-ghost use Rattle.std.specs.Prelude.{◌≡◌, ◌&&◌, ℕ, ◌+◌, ◌-◌, ◌<◌, ◌≤◌, ◌^◌, [], length, map, List, Some, None, Ok, Err, IfOk, IfErr, IfSome, IsTrue};
+ghost use Rattle.std.specs.Prelude.{◌≡◌, ◌&&◌, ℕ, ◌+◌, ◌-◌, ◌<◌, ◌≤◌, ◌^◌, [], length, map, List};
+ghost use Rattle.std.specs.Prelude.{Some, None, Ok, Err, IfOk, IfErr, IfSome, IsTrue};
 ghost use Rattle.guard_model.specs.Answer.{Gives};
 ghost use Rattle.guard_model.specs.AbstractType.{type_of, no_constraints};
 ghost use Rattle.guard_model.specs.AbstractValue.{AbstractValue, no_fields};
@@ -13,7 +14,9 @@ ghost use Rattle.guard_der.specs.Der.{der};
 ghost use Rattle.guard_der.specs.Fits.{fits, descends as descending};
 ghost use Rattle.guard_der.specs.Sound.{is_sound, is_proper, is_proper_kind, are_proper, is_proper_presence};
 ghost use Rattle.guard_der.specs.Breach.{AbstractBreach, IsBreach};
-ghost use Rattle.guard_der.specs.Reading.{due_at, alone_at, component_at, end_at, element_at, untagged_at, contents_at, chosen_at, part_at, fields_at, item_alone, item_at, items_at, message_of, sent_at, set_element_at, set_at};
+ghost use Rattle.guard_der.specs.Reading.{due_at, alone_at, component_at, end_at, element_at, untagged_at, contents_at};
+ghost use Rattle.guard_der.specs.Reading.{chosen_at, part_at, fields_at, item_alone, item_at, items_at, message_of};
+ghost use Rattle.guard_der.specs.Reading.{sent_at, set_element_at, set_at};
 ghost use Rattle.guard_der.specs.Views.{head_view, breach_of};
 ghost use Rattle.guard_der.specs.inside.Faults.{fault_of};
 
@@ -38,13 +41,16 @@ use std::alloc::Global;
 pub fn decode(alloc: Global, ty: &Ty, octets: &[u8]) -> Result<Value, DecodeFault>
     requires { IsTrue (is_sound (type_view ty.now)) }
     // What is answered fits the type, and the octets are its encoding.
-    ensures decoded { IfOk result (λ v. IsTrue (fits (type_view ty.now) (value_view v)) × (der (type_view ty.now) (value_view v) ≡ Some octets.now)) }
+    ensures decoded { IfOk result (λ v. IsTrue (fits (type_view ty.now) (value_view v))
+        × (der (type_view ty.now) (value_view v) ≡ Some octets.now)) }
     // A value whose encoding the octets are is answered, unless memory runs out.
-    ensures only { (v : AbstractValue) → IsTrue (fits (type_view ty.now) v) → der (type_view ty.now) v ≡ Some octets.now → Gives value_view breach_of result (Ok v) }
+    ensures only { (v : AbstractValue) → IsTrue (fits (type_view ty.now) v) →
+        der (type_view ty.now) v ≡ Some octets.now → Gives value_view breach_of result (Ok v) }
     // A breach that is answered is the octets'.
     ensures breach { IfErr result (λ e. IfSome (breach_of e) (IsBreach (type_view ty.now) octets.now)) }
     // A breach of the octets is answered, unless memory runs out.
-    ensures breach_only { (b : AbstractBreach) → IsBreach (type_view ty.now) octets.now b → Gives value_view breach_of result (Err b) }
+    ensures breach_only { (b : AbstractBreach) → IsBreach (type_view ty.now) octets.now b →
+        Gives value_view breach_of result (Err b) }
 {
     message(alloc, ty, octets)
 }
@@ -76,7 +82,8 @@ fn alone(
     requires proper { IsTrue (is_proper (type_of tags.now (kind_view kind.now) no_constraints)) }
     requires depth { nesting (type_of tags.now (kind_view kind.now) no_constraints) ≤ 32 }
     requires room { at + length octets.now < 2 ^ 64 }
-    ensures { Gives value_view (fault_of path.new.items) result (alone_at (begins_with (type_of tags.now (kind_view kind.now) no_constraints)) (element_at (type_of tags.now (kind_view kind.now) no_constraints)) at octets.now) }
+    ensures { Gives value_view (fault_of path.new.items) result (alone_at (begins_with (type_of tags.now (kind_view
+        kind.now) no_constraints)) (element_at (type_of tags.now (kind_view kind.now) no_constraints)) at octets.now) }
 {
     let head = due(path, tags, kind, at, octets)?;
     let value = element(alloc, path, tags, kind, at, head, octets)?;
@@ -90,7 +97,8 @@ fn alone(
 /// The header at the front, where an element of a kind with these tags is due.
 #[tactic(auto, unfolding(crate::specs::Reading::due_at))]
 fn due(path: &mut Path, tags: &[Tag], kind: &Kind, at: usize, octets: &[u8]) -> Result<Head, Fault>
-    ensures { Gives head_view (fault_of path.new.items) result (due_at (begins_with (type_of tags.now (kind_view kind.now) no_constraints)) at octets.now) }
+    ensures { Gives head_view (fault_of path.new.items) result
+        (due_at (begins_with (type_of tags.now (kind_view kind.now) no_constraints)) at octets.now) }
 {
     let head = header_at_front(path, at, octets)?;
     if begins_in(tags, kind, head.tag) {
@@ -115,7 +123,8 @@ fn element(
     requires depth { nesting (type_of tags.now (kind_view kind.now) no_constraints) ≤ 32 }
     requires header { head_of octets.now ≡ Ok (head_view head) }
     requires room { at + length octets.now < 2 ^ 64 }
-    ensures { Gives value_view (fault_of path.new.items) result (element_at (type_of tags.now (kind_view kind.now) no_constraints) at (head_view head) octets.now) }
+    ensures { Gives value_view (fault_of path.new.items) result
+        (element_at (type_of tags.now (kind_view kind.now) no_constraints) at (head_view head) octets.now) }
 {
     if tags.is_empty() {
         return untagged(alloc, path, kind, at, head, octets);
@@ -149,7 +158,8 @@ fn untagged(
     requires depth { nesting_inside (kind_view kind.now) ≤ 32 }
     requires header { head_of octets.now ≡ Ok (head_view head) }
     requires room { at + length octets.now < 2 ^ 64 }
-    ensures { Gives value_view (fault_of path.new.items) result (untagged_at (kind_view kind.now) at (head_view head) octets.now) }
+    ensures { Gives value_view (fault_of path.new.items) result
+        (untagged_at (kind_view kind.now) at (head_view head) octets.now) }
 {
     match kind {
         Kind::Choice(alternatives) => chosen(alloc, path, alternatives, at, head, octets),
@@ -172,7 +182,9 @@ fn chosen(
     requires depth { deepest (components_of (map component_view alternatives.now)) ≤ 31 }
     requires header { head_of octets.now ≡ Ok (head_view head) }
     requires room { at + length octets.now < 2 ^ 64 }
-    ensures { Gives value_view (fault_of path.new.items) result (chosen_at (components_of (map component_view alternatives.now)) (part_at (components_of (map component_view alternatives.now))) at (head_view head) octets.now) }
+    ensures { Gives value_view (fault_of path.new.items)
+        result (chosen_at (components_of (map component_view alternatives.now))
+        (part_at (components_of (map component_view alternatives.now))) at (head_view head) octets.now) }
 {
     let Some(place) = one_with(alternatives, head.tag) else {
         return Err(fault_at(path, Code::UnexpectedTag, at));
@@ -226,7 +238,8 @@ fn components(
     requires few { length comps.now ≤ 64 }
     requires depth { deepest (components_of (map component_view comps.now)) ≤ 31 }
     requires room { start + length octets.now < 2 ^ 64 }
-    ensures { Gives (λ v. fields_view v.items) (fault_of path.new.items) result (fields_at 0 (components_of (map component_view comps.now)) start octets.now) }
+    ensures { Gives (λ v. fields_view v.items) (fault_of path.new.items) result
+        (fields_at 0 (components_of (map component_view comps.now)) start octets.now) }
 {
     let mut fields = Vec::with_capacity(alloc, comps.len())?;
     let mut at = start;
@@ -265,7 +278,8 @@ fn component(
     requires depth { nesting (type_view ty.now) ≤ 31 }
     requires room { at + length octets.now < 2 ^ 64 }
     ensures within { IfOk result (λ x. x.1 ≤ length octets.now) }
-    ensures given { Gives (λ x. (field_view x.0, x.1)) (fault_of path.new.items) result (component_at index (presence_view presence.now) (begins_with (type_view ty.now)) (element_at (type_view ty.now)) at octets.now) }
+    ensures given { Gives (λ x. (field_view x.0, x.1)) (fault_of path.new.items) result (component_at index
+        (presence_view presence.now) (begins_with (type_view ty.now)) (element_at (type_view ty.now)) at octets.now) }
 {
     if octets.is_empty() {
         let missing = fault_at(path, Code::MissingComponent, at).below(
@@ -299,7 +313,8 @@ fn sent(
     requires depth { nesting (type_view ty.now) ≤ 31 }
     requires header { head_of octets.now ≡ Ok (head_view head) }
     requires room { at + length octets.now < 2 ^ 64 }
-    ensures { Gives value_view (fault_of path.new.items) result (sent_at index (presence_view presence.now) (element_at (type_view ty.now)) at (head_view head) octets.now) }
+    ensures { Gives value_view (fault_of path.new.items) result
+        (sent_at index (presence_view presence.now) (element_at (type_view ty.now)) at (head_view head) octets.now) }
 {
     match element(alloc, path, &ty.tags, &ty.kind, at, head, octets) {
         Ok(value) => {
@@ -329,7 +344,8 @@ fn items(
     requires depth { nesting (type_view ty.now) ≤ 31 }
     requires room { start + length octets.now < 2 ^ 64 }
     requires short { length octets.now < 2 ^ 32 }
-    ensures { Gives (λ v. items_view v.items) (fault_of path.new.items) result (items_at (length octets.now) ordered (begins_with (type_view ty.now)) (element_at (type_view ty.now)) 0 [] start octets.now) }
+    ensures { Gives (λ v. items_view v.items) (fault_of path.new.items) result (items_at (length octets.now) ordered
+        (begins_with (type_view ty.now)) (element_at (type_view ty.now)) 0 [] start octets.now) }
 {
     let mut items = Vec::new(alloc);
     let mut at = start;
@@ -372,7 +388,8 @@ fn item(
     requires room { at + length octets.now < 2 ^ 64 }
     ensures some { IfOk result (λ x. 1 ≤ x.1) }
     ensures within { IfOk result (λ x. x.1 ≤ length octets.now) }
-    ensures given { Gives (λ x. (value_view x.0, x.1)) (fault_of path.new.items) result (item_at ordered (begins_with (type_view ty.now)) (element_at (type_view ty.now)) index before.now at octets.now) }
+    ensures given { Gives (λ x. (value_view x.0, x.1)) (fault_of path.new.items) result (item_at ordered
+        (begins_with (type_view ty.now)) (element_at (type_view ty.now)) index before.now at octets.now) }
 {
     match next_item(alloc, path, ty, ordered, before, at, octets) {
         Ok((value, size)) => Ok((value, size)),
@@ -397,7 +414,8 @@ fn next_item(
     requires room { at + length octets.now < 2 ^ 64 }
     ensures some { IfOk result (λ x. 1 ≤ x.1) }
     ensures within { IfOk result (λ x. x.1 ≤ length octets.now) }
-    ensures given { Gives (λ x. (value_view x.0, x.1)) (fault_of path.new.items) result (item_alone ordered (begins_with (type_view ty.now)) (element_at (type_view ty.now)) before.now at octets.now) }
+    ensures given { Gives (λ x. (value_view x.0, x.1)) (fault_of path.new.items) result
+        (item_alone ordered (begins_with (type_view ty.now)) (element_at (type_view ty.now)) before.now at octets.now) }
 {
     let head = due(path, &ty.tags, &ty.kind, at, octets)?;
     let value = element(alloc, path, &ty.tags, &ty.kind, at, head, octets)?;
@@ -429,7 +447,9 @@ fn set_components(
     requires few { length comps.now ≤ 64 }
     requires depth { deepest (components_of (map component_view comps.now)) ≤ 31 }
     requires room { start + length octets.now < 2 ^ 64 }
-    ensures { Gives (λ v. fields_view v.items) (fault_of path.new.items) result (set_at (length octets.now) (components_of (map component_view comps.now)) (part_at (components_of (map component_view comps.now))) (all_absent (components_of (map component_view comps.now))) None start octets.now) }
+    ensures { Gives (λ v. fields_view v.items) (fault_of path.new.items) result (set_at (length octets.now)
+        (components_of (map component_view comps.now)) (part_at (components_of (map component_view comps.now)))
+        (all_absent (components_of (map component_view comps.now))) None start octets.now) }
 {
     let mut fields = absent_fields(alloc, comps)?;
     let mut before = None;
@@ -466,7 +486,9 @@ fn set_component(
     ensures place { IfOk result (λ x. x.0 < length comps.now) }
     ensures some { IfOk result (λ x. 1 ≤ x.2.size) }
     ensures within { IfOk result (λ x. x.2.size + x.2.contents ≤ length octets.now) }
-    ensures given { Gives (λ x. (x.0, value_view x.1, head_view x.2)) (fault_of path.new.items) result (set_element_at (components_of (map component_view comps.now)) (part_at (components_of (map component_view comps.now))) (fields_view fields.now) before at octets.now) }
+    ensures given { Gives (λ x. (x.0, value_view x.1, head_view x.2))
+        (fault_of path.new.items) result (set_element_at (components_of (map component_view comps.now))
+        (part_at (components_of (map component_view comps.now))) (fields_view fields.now) before at octets.now) }
 {
     let head = header_at_front(path, at, octets)?;
     let place = place_of(path, comps, fields, before, at, head.tag)?;

@@ -53,7 +53,8 @@ pub fn encode(alloc: Global, ty: &Ty, value: &Value) -> Result<Vec<u8>, EncodeFa
 /// than four octets; OutOfMemory where a growth is refused.
 pub fn encode_contents(alloc: Global, kind: &Kind, value: &Value) -> Result<Vec<u8>, EncodeFault>
     requires { IsTrue (fits_kind (kind_view kind.now) (value_view value.now)) }
-    ensures exact { Gives (λ v. v.items) refusal result (or_too_long (contents_octets (kind_view kind.now) (value_view value.now))) }
+    ensures exact { Gives (λ v. v.items) refusal result
+        (or_too_long (contents_octets (kind_view kind.now) (value_view value.now))) }
 {
     values::contents(alloc, kind, value)
 }

@@ -3,7 +3,8 @@ ghost use Rattle.std.specs.Prelude.{◌≡◌, map, IfOk};
 ghost use Rattle.guard_model.specs.TypeView.{type_view, kind_view, component_view, components_of, presence_view};
 ghost use Rattle.guard_model.specs.ValueView.{value_view, field_view, fields_view, items_view};
 ghost use Rattle.guard_der.specs.Der.{der};
-ghost use Rattle.guard_der.specs.Fits.{fits, fits_kind, fits_fields, fits_alternative, every_fits, may_be_absent, fits_field, fits_items, fits_set};
+ghost use Rattle.guard_der.specs.Fits.{fits, fits_kind, fits_fields, fits_alternative, every_fits};
+ghost use Rattle.guard_der.specs.Fits.{may_be_absent, fits_field, fits_items, fits_set};
 
 pub(crate) mod ascending;
 pub(crate) mod simple;
@@ -55,7 +56,8 @@ fn kind_fits(alloc: Global, kind: &Kind, value: &Value) -> Result<bool, OutOfMem
 /// A fitting value at each component, or none at an OPTIONAL one.
 #[cycle(fitting)]
 fn fields_fit(alloc: Global, comps: &[Comp], fields: &[Option<Value>]) -> Result<bool, OutOfMemory>
-    ensures { IfOk result (λ b. b ≡ fits_fields (components_of (map component_view comps.now)) (fields_view fields.now)) }
+    ensures { IfOk result
+        (λ b. b ≡ fits_fields (components_of (map component_view comps.now)) (fields_view fields.now)) }
 {
     if comps.len() != fields.len() {
         return Ok(false);
@@ -102,7 +104,8 @@ fn alternative_fits(
     at: usize,
     value: &Value,
 ) -> Result<bool, OutOfMemory>
-    ensures { IfOk result (λ b. b ≡ fits_alternative (components_of (map component_view alternatives.now)) at (value_view value.now)) }
+    ensures { IfOk result
+        (λ b. b ≡ fits_alternative (components_of (map component_view alternatives.now)) at (value_view value.now)) }
 {
     if at >= alternatives.len() {
         return Ok(false);
@@ -136,7 +139,8 @@ fn all_fit(alloc: Global, ty: &Ty, items: &[Value]) -> Result<bool, OutOfMemory>
 /// Of a SET OF also the encodings ascend.
 #[cycle(fitting)]
 fn set_fits(alloc: Global, ty: &Ty, items: &[Value]) -> Result<bool, OutOfMemory>
-    ensures { IfOk result (λ b. b ≡ fits_set (fits (type_view ty.now)) (der (type_view ty.now)) (items_view items.now)) }
+    ensures { IfOk result
+        (λ b. b ≡ fits_set (fits (type_view ty.now)) (der (type_view ty.now)) (items_view items.now)) }
 {
     if !items_fit(alloc, ty, items)? {
         return Ok(false);

@@ -3,7 +3,8 @@ ghost use Rattle.std.specs.Prelude.{◌≡◌, ◌≤◌, ◌*◌, ◌-◌, ◌�
 ghost use Rattle.guard_model.specs.AbstractValue as abstract;
 ghost use Rattle.guard_model.specs.Answer.{Gives};
 ghost use Rattle.guard_model.specs.ValueView.{value_view};
-ghost use Rattle.guard_der.specs.Simple.{are_subidentifiers as subidentifiers_end, subidentifiers, object_id_fault, arcs_of as arcs_from};
+ghost use Rattle.guard_der.specs.Simple.{are_subidentifiers as subidentifiers_end, subidentifiers};
+ghost use Rattle.guard_der.specs.Simple.{object_id_fault, arcs_of as arcs_from};
 ghost use Rattle.guard_der.specs.Reading.{unless_fault};
 ghost use Rattle.guard_der.specs.inside.Faults.{fault_of};
 ghost use Rattle.guard_der.specs.declared.breach.Code.TheVariants.{ObjectIdContents, ObjectIdTooLong};
@@ -23,7 +24,8 @@ pub fn object_identifier(
     at: usize,
     octets: &[u8],
 ) -> Result<Value, Fault>
-    ensures { Gives value_view (fault_of path.new.items) result (unless_fault at (object_id_fault octets.now) (abstract.object_identifier (arcs_from (subidentifiers 0 octets.now)))) }
+    ensures { Gives value_view (fault_of path.new.items) result (unless_fault at (object_id_fault octets.now)
+        (abstract.object_identifier (arcs_from (subidentifiers 0 octets.now)))) }
 {
     if octets.is_empty() {
         return Err(fault_at(path, Code::ObjectIdContents, at));
@@ -85,7 +87,8 @@ fn are_subidentifiers(starts: bool, octets: &[u8]) -> bool
 
 /// Appends the arcs of the next subidentifier: the first one is 40X + Y for the first two (8.19.4).
 fn push_arcs(arcs: &mut Vec<u128>, number: u128) -> Result<(), OutOfMemory>
-    ensures { (before : List ℕ) → arcs.old.items ≡ arcs_from before → OnOk result (arcs.new.items ≡ arcs_from (before ++ number ∷ [])) }
+    ensures { (before : List ℕ) → arcs.old.items ≡ arcs_from before →
+        OnOk result (arcs.new.items ≡ arcs_from (before ++ number ∷ [])) }
 {
     if !arcs.is_empty() {
         return Ok(arcs.push(number)?);

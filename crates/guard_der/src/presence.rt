@@ -28,7 +28,8 @@ pub fn is_left_out(presence: &Presence, value: &Value) -> bool
 /// What a component is that isn't sent; or this fault, if it is mandatory.
 pub fn not_sent(alloc: Global, presence: &Presence, fault: Fault) -> Result<Option<Value>, Fault>
     requires named { fault_of [] fault ≢ None }
-    ensures { (steps : List Step) (b : AbstractBreach) → fault_of steps fault ≡ Some b → Gives field_view (fault_of steps) result (unsent (presence_view presence.now) b) }
+    ensures { (steps : List Step) (b : AbstractBreach) → fault_of steps fault ≡ Some b →
+        Gives field_view (fault_of steps) result (unsent (presence_view presence.now) b) }
 {
     match presence {
         Presence::Mandatory => Err(fault),

@@ -2,7 +2,8 @@
 ghost use Rattle.std.specs.Prelude.{◌≡◌, ◌&&◌, map, nat_le, IfOk, IsTrue, option_map};
 ghost use Rattle.guard_model.specs.Counts.{component_count};
 ghost use Rattle.guard_model.specs.SameType.{same_base};
-ghost use Rattle.guard_model.specs.TypeView.{type_view, kind_view, component_view, components_of, presence_view, constraint_view, constraints_of, part_view, parts_of};
+ghost use Rattle.guard_model.specs.TypeView.{type_view, kind_view, component_view, components_of, presence_view};
+ghost use Rattle.guard_model.specs.TypeView.{constraint_view, constraints_of, part_view, parts_of};
 ghost use Rattle.guard_model.specs.ValueView.{value_view};
 ghost use Rattle.guard_tagcheck.specs.Distinct.{Distinct};
 ghost use Rattle.guard_tagcheck.specs.Limits.{nesting};
@@ -11,7 +12,8 @@ ghost use Rattle.guard_der.specs.Fits.{fits};
 ghost use Rattle.guard_der.specs.ProperConstraints.{may_stand_in, is_short, takes_size, is_there_and};
 ghost use Rattle.guard_model.specs.Kinds.{kind_of, type_of_size, element_of, has_parts, part_of};
 ghost use Rattle.guard_model.specs.Limits.{most_components, deepest_nesting};
-ghost use Rattle.guard_der.specs.Sound.{is_sound, is_proper, is_proper_kind, are_proper, is_proper_presence, are_proper_constraints, is_proper_constraint, are_proper_parts};
+ghost use Rattle.guard_der.specs.Sound.{is_sound, is_proper, is_proper_kind, are_proper, is_proper_presence};
+ghost use Rattle.guard_der.specs.Sound.{are_proper_constraints, is_proper_constraint, are_proper_parts};
 ghost use Rattle.guard_der.specs.inside.SoundParts.{is_proper_part, is_proper_within};
 
 mod forms;
@@ -38,7 +40,8 @@ pub fn sound(alloc: Global, ty: &Ty) -> Result<bool, OutOfMemory>
     // Of a sound type all tags that must differ do.
     ensures distinct { IfOk result (λ b. IsTrue b → Distinct (type_view ty.now)) }
     // A type all of whose tags that must differ do is sound where the rest is as it should be.
-    ensures accepted { IfOk result (λ b. Distinct (type_view ty.now) → IsTrue (is_proper (type_view ty.now)) → IsTrue (nat_le (nesting (type_view ty.now)) deepest_nesting) → IsTrue b) }
+    ensures accepted { IfOk result (λ b. Distinct (type_view ty.now) → IsTrue (is_proper (type_view ty.now)) →
+        IsTrue (nat_le (nesting (type_view ty.now)) deepest_nesting) → IsTrue b) }
 {
     is_sound(alloc, ty)
 }
@@ -86,7 +89,8 @@ fn is_proper_kind(alloc: Global, kind: &Kind) -> Result<bool, OutOfMemory>
 /// Of a SEQUENCE, SET or CHOICE.
 #[cycle(proper)]
 fn list_is_proper(alloc: Global, comps: &[Comp]) -> Result<bool, OutOfMemory>
-    ensures { IfOk result (λ b. b ≡ (nat_le (component_count (components_of (map component_view comps.now))) most_components && are_proper (components_of (map component_view comps.now)))) }
+    ensures { IfOk result (λ b. b ≡ (nat_le (component_count (components_of (map component_view comps.now)))
+        most_components && are_proper (components_of (map component_view comps.now)))) }
 {
     if comps.len() > MOST_COMPONENTS {
         return Ok(false);
@@ -108,7 +112,8 @@ fn are_proper(alloc: Global, comps: &[Comp]) -> Result<bool, OutOfMemory>
 
 #[cycle(proper)]
 fn is_proper_component(alloc: Global, ty: &Ty, presence: &Presence) -> Result<bool, OutOfMemory>
-    ensures { IfOk result (λ b. b ≡ (is_proper (type_view ty.now) && is_proper_presence (type_view ty.now) (presence_view presence.now))) }
+    ensures { IfOk result (λ b. b
+        ≡ (is_proper (type_view ty.now) && is_proper_presence (type_view ty.now) (presence_view presence.now))) }
 {
     if !is_proper(alloc, ty)? {
         return Ok(false);
@@ -131,7 +136,8 @@ fn is_proper_presence(alloc: Global, ty: &Ty, presence: &Presence) -> Result<boo
 
 #[cycle(proper)]
 fn are_proper_constraints(alloc: Global, constraints: &[Cons], ty: &Ty) -> Result<bool, OutOfMemory>
-    ensures { IfOk result (λ b. b ≡ are_proper_constraints (constraints_of (map constraint_view constraints.now)) (type_view ty.now)) }
+    ensures { IfOk result
+        (λ b. b ≡ are_proper_constraints (constraints_of (map constraint_view constraints.now)) (type_view ty.now)) }
 {
     for constraint in constraints {
         if !is_proper_constraint(alloc, constraint, ty)? {
@@ -169,7 +175,8 @@ fn is_proper_constraint(alloc: Global, constraint: &Cons, ty: &Ty) -> Result<boo
 /// A contained type has the base of the type that it constrains, and is sound.
 #[cycle(proper)]
 fn is_proper_inside(alloc: Global, contained: &Ty, ty: &Ty) -> Result<bool, OutOfMemory>
-    ensures { IfOk result (λ b. b ≡ (same_base (type_view contained.now) (type_view ty.now) && is_sound (type_view contained.now))) }
+    ensures { IfOk result
+        (λ b. b ≡ (same_base (type_view contained.now) (type_view ty.now) && is_sound (type_view contained.now))) }
 {
     if !contained.same_base(ty) {
         return Ok(false);
@@ -179,7 +186,8 @@ fn is_proper_inside(alloc: Global, contained: &Ty, ty: &Ty) -> Result<bool, OutO
 
 #[cycle(proper)]
 fn is_proper_size(alloc: Global, size: &Cons, ty: &Ty) -> Result<bool, OutOfMemory>
-    ensures { IfOk result (λ b. b ≡ (takes_size (kind_of (type_view ty.now)) && is_proper_constraint (constraint_view size.now) type_of_size)) }
+    ensures { IfOk result (λ b. b
+        ≡ (takes_size (kind_of (type_view ty.now)) && is_proper_constraint (constraint_view size.now) type_of_size)) }
 {
     if !takes_size(&ty.kind) {
         return Ok(false);
@@ -191,7 +199,8 @@ fn is_proper_size(alloc: Global, size: &Cons, ty: &Ty) -> Result<bool, OutOfMemo
 /// WITH COMPONENT.
 #[cycle(proper)]
 fn is_proper_each(alloc: Global, each: &Cons, ty: &Ty) -> Result<bool, OutOfMemory>
-    ensures { IfOk result (λ b. b ≡ is_there_and (is_proper_constraint (constraint_view each.now)) (element_of (kind_of (type_view ty.now)))) }
+    ensures { IfOk result (λ b. b
+        ≡ is_there_and (is_proper_constraint (constraint_view each.now)) (element_of (kind_of (type_view ty.now)))) }
 {
     match ty.kind.element() {
         Some(element) => is_proper_constraint(alloc, each, element),
@@ -203,7 +212,8 @@ fn is_proper_each(alloc: Global, each: &Cons, ty: &Ty) -> Result<bool, OutOfMemo
 
 #[cycle(proper)]
 fn is_proper_list(alloc: Global, parts: &[Part], ty: &Ty) -> Result<bool, OutOfMemory>
-    ensures { IfOk result (λ b. b ≡ (has_parts (kind_of (type_view ty.now)) && are_proper_parts (parts_of (map part_view parts.now)) (type_view ty.now))) }
+    ensures { IfOk result (λ b. b ≡ (has_parts (kind_of (type_view ty.now))
+        && are_proper_parts (parts_of (map part_view parts.now)) (type_view ty.now))) }
 {
     if !ty.kind.has_parts() {
         return Ok(false);

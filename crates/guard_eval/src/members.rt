@@ -36,7 +36,8 @@ pub fn member(ty: &Ty, value: &Value) -> bool
 /// Whether a constraint that a type of this kind may have allows the value, which fits the kind (X.680 clauses 49 to
 /// 51).
 pub fn holds_on_kind(cons: &Cons, kind: &Kind, value: &Value) -> bool
-    requires proper { (t : AbstractType) × (kind_of t ≡ kind_view kind.now) × IsTrue (is_proper_constraint (constraint_view cons.now) t) }
+    requires proper { (t : AbstractType) × (kind_of t ≡ kind_view kind.now)
+        × IsTrue (is_proper_constraint (constraint_view cons.now) t) }
     requires fits { IsTrue (fits_kind (kind_view kind.now) (value_view value.now)) }
     ensures { result ≡ holds (constraint_view cons.now) (kind_view kind.now) (value_view value.now) }
 {

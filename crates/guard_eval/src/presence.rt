@@ -3,7 +3,8 @@ ghost use Rattle.std.specs.Prelude.{◌≡◌, map, option_map};
 ghost use Rattle.guard_model.specs.TypeView.{kind_view, component_view, part_view, parts_of, presence_view};
 ghost use Rattle.guard_model.specs.ValueView.{value_view, field_view, fields_view};
 ghost use Rattle.guard_der.specs.Fits.{may_be_absent};
-ghost use Rattle.guard_eval.specs.Presence.{element_kind, kind_at, has_parts, field_at, part_at, is_there, is_as_said, is_listed, is_ruled_out, first_ruled_out, first_intruder};
+ghost use Rattle.guard_eval.specs.Presence.{element_kind, kind_at, has_parts, field_at, part_at, is_there, is_as_said};
+ghost use Rattle.guard_eval.specs.Presence.{is_listed, is_ruled_out, first_ruled_out, first_intruder};
 
 use guard_model::{Comp, Kind, Part, Presence, Value, Word};
 
@@ -93,7 +94,8 @@ pub fn is_optional(presence: &Presence) -> bool
 
 /// The first component that is there though a full list makes it absent.
 pub fn first_intruder(partial: bool, parts: &[Part], kind: &Kind, value: &Value) -> Option<usize>
-    ensures { result ≡ first_intruder partial (kind_view kind.now) (parts_of (map part_view parts.now)) (value_view value.now) }
+    ensures { result
+        ≡ first_intruder partial (kind_view kind.now) (parts_of (map part_view parts.now)) (value_view value.now) }
 {
     if partial {
         return None;
@@ -109,7 +111,8 @@ pub fn first_intruder(partial: bool, parts: &[Part], kind: &Kind, value: &Value)
 
 /// What a full list doesn't name must be absent, if it is an OPTIONAL component or an alternative.
 pub fn is_ruled_out(parts: &[Part], kind: &Kind, at: usize, presence: &Presence) -> bool
-    ensures { result ≡ is_ruled_out (kind_view kind.now) (parts_of (map part_view parts.now)) at (presence_view presence.now) }
+    ensures { result
+        ≡ is_ruled_out (kind_view kind.now) (parts_of (map part_view parts.now)) at (presence_view presence.now) }
 {
     !is_listed(parts, at) && (kind.is_choice() || is_optional(presence))
 }

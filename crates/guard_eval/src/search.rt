@@ -4,12 +4,16 @@
 ghost use Rattle.std.specs.Prelude.{◌≡◌, None, map, option_map};
 ghost use Rattle.std.specs.Option.{is_none, is_some, option_or};
 ghost use Rattle.guard_model.specs.declared.site.Step.TheVariants.{Component};
-ghost use Rattle.guard_model.specs.TypeView.{type_view, kind_view, component_view, constraint_view, part_view, components_of, constraints_of, parts_of};
+ghost use Rattle.guard_model.specs.TypeView.{type_view, kind_view, component_view, constraint_view};
+ghost use Rattle.guard_model.specs.TypeView.{part_view, components_of, constraints_of, parts_of};
 ghost use Rattle.guard_model.specs.ValueView.{value_view, fields_view, items_view};
 ghost use Rattle.guard_eval.specs.Elements.{has_size as is_sized};
 ghost use Rattle.guard_eval.specs.Presence.{element_kind, has_parts, first_intruder, part_at};
 ghost use Rattle.guard_eval.specs.Violations.{unless as blamed_unless};
-ghost use Rattle.guard_eval.specs.inside.Failures.{found_by, under, failure, failure_inside, failure_from, failure_of_chosen, failure_among, first_failure, some_allows, failure_by, failure_in_items, first_part_failure, part_failure, failure_within, placing_failure, intruder_failure};
+ghost use Rattle.guard_eval.specs.inside.Failures.{found_by, under, failure, failure_inside, failure_from};
+ghost use Rattle.guard_eval.specs.inside.Failures.{failure_of_chosen, failure_among, first_failure, some_allows};
+ghost use Rattle.guard_eval.specs.inside.Failures.{failure_by, failure_in_items, first_part_failure, part_failure};
+ghost use Rattle.guard_eval.specs.inside.Failures.{failure_within, placing_failure, intruder_failure};
 
 use super::elements::{is_between, is_spelled_in, size_of};
 use super::found::{here, under_component, under_element, unless};
@@ -49,7 +53,8 @@ fn failure_inside(path: &mut Path, kind: &Kind, value: &Value) -> Option<Site>
 
 #[cycle(search)]
 fn failure_from(path: &mut Path, comps: &[Comp], fields: &[Option<Value>]) -> Option<Site>
-    ensures { found_by path.new.items result ≡ failure_from 0 (components_of (map component_view comps.now)) (fields_view fields.now) }
+    ensures { found_by path.new.items result
+        ≡ failure_from 0 (components_of (map component_view comps.now)) (fields_view fields.now) }
 {
     for (index, (comp, field)) in comps.iter().zip(fields).enumerate() {
         if let Some(value) = field
@@ -63,7 +68,8 @@ fn failure_from(path: &mut Path, comps: &[Comp], fields: &[Option<Value>]) -> Op
 
 #[cycle(search)]
 fn failure_of_chosen(path: &mut Path, comps: &[Comp], at: u8, value: &Value) -> Option<Site>
-    ensures { found_by path.new.items result ≡ under (Component at) (failure_of_chosen (components_of (map component_view comps.now)) at (value_view value.now)) }
+    ensures { found_by path.new.items result ≡ under (Component at)
+        (failure_of_chosen (components_of (map component_view comps.now)) at (value_view value.now)) }
 {
     let comp = comps.get(usize::from(at))?;
     let site = failure(path, &comp.ty, value)?;
@@ -88,7 +94,8 @@ fn failure_of_items(path: &mut Path, ty: &Ty, items: &[Value]) -> Option<Site>
 /// By the first of the constraints that does not have the value.
 #[cycle(search)]
 fn first_failure(path: &mut Path, cons: &[Cons], kind: &Kind, value: &Value) -> Option<Site>
-    ensures { found_by path.new.items result ≡ first_failure (constraints_of (map constraint_view cons.now)) (kind_view kind.now) (value_view value.now) }
+    ensures { found_by path.new.items result
+        ≡ first_failure (constraints_of (map constraint_view cons.now)) (kind_view kind.now) (value_view value.now) }
 {
     for one in cons {
         if let Some(site) = failure_by(path, one, kind, value) {
@@ -101,7 +108,8 @@ fn first_failure(path: &mut Path, cons: &[Cons], kind: &Kind, value: &Value) -> 
 /// One of the constraints has the value.
 #[cycle(search)]
 fn some_allows(path: &mut Path, cons: &[Cons], kind: &Kind, value: &Value) -> bool
-    ensures { result ≡ some_allows (constraints_of (map constraint_view cons.now)) (kind_view kind.now) (value_view value.now) }
+    ensures { result
+        ≡ some_allows (constraints_of (map constraint_view cons.now)) (kind_view kind.now) (value_view value.now) }
 {
     for one in cons {
         if failure_by(path, one, kind, value).is_none() {
@@ -111,12 +119,13 @@ fn some_allows(path: &mut Path, cons: &[Cons], kind: &Kind, value: &Value) -> bo
     false
 }
 
-/// The constraint that is blamed: of an intersection, the first one in it that fails; of `A EXCEPT B`, what `A` blames if
-/// it fails, and else the whole; of WITH COMPONENT and WITH COMPONENTS, what fails within the value's parts; of any
+/// The constraint that is blamed: of an intersection, the first one in it that fails; of `A EXCEPT B`, what `A` blames
+/// if it fails, and else the whole; of WITH COMPONENT and WITH COMPONENTS, what fails within the value's parts; of any
 /// other one, itself.
 #[cycle(search)]
 pub fn failure_by(path: &mut Path, cons: &Cons, kind: &Kind, value: &Value) -> Option<Site>
-    ensures { found_by path.new.items result ≡ failure_by (constraint_view cons.now) (kind_view kind.now) (value_view value.now) }
+    ensures { found_by path.new.items result
+        ≡ failure_by (constraint_view cons.now) (kind_view kind.now) (value_view value.now) }
 {
     let site = cons.site;
     match &cons.rule {
@@ -155,7 +164,8 @@ fn failure_of_other(
     kind: &Kind,
     value: &Value,
 ) -> Option<Site>
-    ensures { found_by path.new.items result ≡ blamed_unless (is_some (failure_by (constraint_view other.now) (kind_view kind.now) (value_view value.now))) site }
+    ensures { found_by path.new.items result ≡ blamed_unless
+        (is_some (failure_by (constraint_view other.now) (kind_view kind.now) (value_view value.now))) site }
 {
     let fails = failure_by(path, other, kind, value).is_some();
     unless(path, fails, site)
@@ -164,7 +174,8 @@ fn failure_of_other(
 /// The constraint has the size, as a number.
 #[cycle(search)]
 fn has_size(path: &mut Path, size: &Cons, kind: &Kind, value: &Value) -> bool
-    ensures { result ≡ is_sized (λ n. is_none (failure_by (constraint_view size.now) (kind_view kind.now) n)) (value_view value.now) }
+    ensures { result ≡ is_sized (λ n. is_none (failure_by (constraint_view size.now) (kind_view kind.now) n))
+        (value_view value.now) }
 {
     match size_of(value) {
         Some(number) => failure_by(path, size, kind, &Value::Int(number)).is_none(),
@@ -180,7 +191,8 @@ fn failure_in_items(
     kind: &Kind,
     value: &Value,
 ) -> Option<Site>
-    ensures { found_by path.new.items result ≡ failure_in_items (failure_by (constraint_view each.now) (element_kind (kind_view kind.now))) site (value_view value.now) }
+    ensures { found_by path.new.items result ≡ failure_in_items
+        (failure_by (constraint_view each.now) (element_kind (kind_view kind.now))) site (value_view value.now) }
 {
     match value {
         Value::Items(items) => failure_among(path, each, element_kind(kind), items),
@@ -190,7 +202,8 @@ fn failure_in_items(
 
 #[cycle(search)]
 fn failure_among(path: &mut Path, each: &Cons, kind: &Kind, items: &[Value]) -> Option<Site>
-    ensures { found_by path.new.items result ≡ failure_among (failure_by (constraint_view each.now) (kind_view kind.now)) 0 (items_view items.now) }
+    ensures { found_by path.new.items result
+        ≡ failure_among (failure_by (constraint_view each.now) (kind_view kind.now)) 0 (items_view items.now) }
 {
     for (index, item) in items.iter().enumerate() {
         if let Some(site) = failure_by(path, each, kind, item) {
@@ -213,7 +226,9 @@ fn failure_in_parts(
     value: &Value,
 ) -> Option<Site>
     ensures { found_by path.new.items result
-        ≡ option_or (blamed_unless (has_parts (value_view value.now)) site) (option_or (first_part_failure (parts_of (map part_view parts.now)) partial (kind_view kind.now) (value_view value.now)) (intruder_failure site (first_intruder partial (kind_view kind.now) (parts_of (map part_view parts.now)) (value_view value.now)))) }
+        ≡ option_or (blamed_unless (has_parts (value_view value.now)) site) (option_or (first_part_failure
+        (parts_of (map part_view parts.now)) partial (kind_view kind.now) (value_view value.now)) (intruder_failure site
+        (first_intruder partial (kind_view kind.now) (parts_of (map part_view parts.now)) (value_view value.now)))) }
 {
     if !has_parts(value) {
         return Some(here(path, site));
@@ -240,7 +255,8 @@ fn first_part_failure(
     kind: &Kind,
     value: &Value,
 ) -> Option<Site>
-    ensures { found_by path.new.items result ≡ first_part_failure (parts_of (map part_view parts.now)) partial (kind_view kind.now) (value_view value.now) }
+    ensures { found_by path.new.items result
+        ≡ first_part_failure (parts_of (map part_view parts.now)) partial (kind_view kind.now) (value_view value.now) }
 {
     for part in parts {
         if let Some(site) = part_failure(path, part, partial, kind, value) {
@@ -259,7 +275,8 @@ fn part_failure(
     kind: &Kind,
     value: &Value,
 ) -> Option<Site>
-    ensures { found_by path.new.items result ≡ part_failure (part_view part.now) partial (kind_view kind.now) (value_view value.now) }
+    ensures { found_by path.new.items result
+        ≡ part_failure (part_view part.now) partial (kind_view kind.now) (value_view value.now) }
 {
     let comp = kind.component(part.at);
     let there = is_there(value, usize::from(part.at));
@@ -277,7 +294,8 @@ fn placing_failure(
     comp: Option<&Comp>,
     there: bool,
 ) -> Option<Site>
-    ensures { found_by path.new.items result ≡ placing_failure partial (part_view part.now).site (part_view part.now).place (option_map (λ c. component_view c.now) comp.entry) (part_view part.now).word there }
+    ensures { found_by path.new.items result ≡ placing_failure partial (part_view part.now).site
+        (part_view part.now).place (option_map (λ c. component_view c.now) comp.entry) (part_view part.now).word there }
 {
     match comp {
         Some(comp) => {
@@ -291,7 +309,8 @@ fn placing_failure(
 /// In the value of the part, if it is there and constrained.
 #[cycle(search)]
 fn failure_within(path: &mut Path, part: &Part, kind: &Kind, value: &Value) -> Option<Site>
-    ensures { found_by path.new.items result ≡ failure_within (part_view part.now) (kind_view kind.now) (value_view value.now) }
+    ensures { found_by path.new.items result
+        ≡ failure_within (part_view part.now) (kind_view kind.now) (value_view value.now) }
 {
     match (&part.cons, part_at(value, usize::from(part.at))) {
         (Some(cons), Some(inner)) => {

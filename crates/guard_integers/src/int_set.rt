@@ -119,7 +119,8 @@ impl IntSet {
     pub fn alike_to(&self, first: i128) -> i128
         ensures from { first ≤ℤ result }
         ensures alike { (x : ℤ) → first ≤ℤ x → x ≤ℤ result → holds self.now x ≡ holds self.now first }
-        ensures last { IsTrue (fits_128_bits (result +ℤ pos 1)) → holds self.now (result +ℤ pos 1) ≡ not (holds self.now first) }
+        ensures last { IsTrue (fits_128_bits (result +ℤ pos 1)) →
+            holds self.now (result +ℤ pos 1) ≡ not (holds self.now first) }
     {
         alike_to(&self.ranges, first)
     }

@@ -1,7 +1,8 @@
 //! What lists of ranges have in common, and what they leave.
 ghost use Rattle.std.specs.Prelude.{◌≡◌, ◌+ℤ◌, ◌<ℤ◌, pos, ◌++◌, IfOk, not};
 ghost use Rattle.std.specs.Int.Signed.{lt_z};
-ghost use Rattle.guard_integers.specs.inside.Computing.{least, greatest, gaps_from, before, common_of, overlap, ends_first};
+ghost use Rattle.guard_integers.specs.inside.Computing.{least, greatest, gaps_from, before};
+ghost use Rattle.guard_integers.specs.inside.Computing.{common_of, overlap, ends_first};
 
 use crate::ranges::Range;
 use guard_model::OutOfMemory;

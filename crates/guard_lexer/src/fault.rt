@@ -7,7 +7,8 @@ use std::alloc::{AllocError, AllocFailed};
 use thiserror::Error;
 
 /// Why a text has no tokens: the first fault of the text. In place of any other answer it may say that memory ran out.
-/// That a text is too long comes before that it isn't UTF-8, and this before all others, of which the leftmost is named.
+/// That a text is too long comes before that it isn't UTF-8, and this before all others, of which the leftmost is
+/// named.
 #[derive(Clone, Copy, Debug, PartialEq, Eq, Error)]
 pub enum LexFault {
     /// Here no token, comment or white space begins, or a digit comes directly after the number 0.

@@ -1,7 +1,8 @@
 //! White space, comments and tokens: which of them a text begins with, and how long it is.
 ghost use Rattle.std.specs.Prelude.{◌≡◌, length, ◌≤◌, option_map, option_copied};
 ghost use Rattle.std.specs.Option.{ForSome};
-ghost use Rattle.guard_lexer.specs.inside.Reading.{behind_bits, behind_hexadecimal, found_before, found_digit_string, item_at, marked_item_at};
+ghost use Rattle.guard_lexer.specs.inside.Reading.{behind_bits, behind_hexadecimal, found_before, found_digit_string};
+ghost use Rattle.guard_lexer.specs.inside.Reading.{item_at, marked_item_at};
 
 use crate::comment::{behind_block_comment, comment_body_len};
 use crate::mark::mark_at;

@@ -17,7 +17,8 @@ pub(crate) fn item_fault(found: FoundItem, left: &[u8], site: Site) -> Option<Le
     requires item { IsItem found.kind (take found.len left.now) (drop found.len left.now) }
     requires line { site.line + length left.now < 2 ^ 32 }
     requires column { site.column + length left.now < 2 ^ 32 }
-    ensures found { is_some result ≡ is_some (item_fault found.kind (take found.len left.now) (drop found.len left.now)) }
+    ensures found { is_some result
+        ≡ is_some (item_fault found.kind (take found.len left.now) (drop found.len left.now)) }
     ensures named { (before : List ℕ) → site ≡ site_after site.text before → result
         ≡ option_map (λ wrong. wrong.fault (site_after site.text (before ++ take wrong.offset left.now)))
         (item_fault found.kind (take found.len left.now) (drop found.len left.now)) }

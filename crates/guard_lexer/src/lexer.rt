@@ -3,7 +3,8 @@ ghost use Rattle.std.specs.Prelude.{◌≡◌, ◌+◌, ◌<◌, ◌≤◌, ◌^
 ghost use Rattle.guard_model.specs.Answer.{Gives};
 ghost use Rattle.guard_lexer.specs.Sites.{site_after};
 ghost use Rattle.guard_lexer.specs.Spans.{AreSpans};
-ghost use Rattle.guard_lexer.specs.Lexing.{Item, kind_of, tokens_from, IsCut, FaultAt, Lexes, FirstFault, longest_text, fault_named};
+ghost use Rattle.guard_lexer.specs.Lexing.{Item, kind_of, tokens_from, IsCut, FaultAt, Lexes};
+ghost use Rattle.guard_lexer.specs.Lexing.{FirstFault, longest_text, fault_named};
 ghost use Rattle.guard_lexer.specs.inside.Reading.{IsFaultlessItem, IsFaultAt};
 ghost use Rattle.guard_lexer.specs.declared.fault.LexFault.TheVariants.{OutOfMemory};
 
@@ -57,7 +58,8 @@ fn read(alloc: Global, place: u32, text: &[u8]) -> Result<Vec<Token>, LexFault>
 /// The tokens among the items of a text.
 fn read_items(alloc: Global, place: u32, text: &[u8]) -> Result<Vec<Token>, LexFault>
     requires { length text.now ≤ longest_text }
-    ensures tokens { IfOk result (λ v. (items : List Item) × IsCut text.now items [] × (v.items ≡ tokens_from place text.now 0 items)) }
+    ensures tokens { IfOk result (λ v. (items : List Item) × IsCut text.now items []
+        × (v.items ≡ tokens_from place text.now 0 items)) }
     ensures fault { IfErr result (λ f. (f ≡ OutOfMemory) ⊎ FaultAt place text.now f) }
 {
     let mut tokens = Vec::new(alloc);
@@ -92,7 +94,8 @@ fn read_item(left: &[u8], site: Site) -> Result<FoundItem, LexFault>
     requires line { site.line + length left.now < 2 ^ 32 }
     requires column { site.column + length left.now < 2 ^ 32 }
     ensures item { IfOk result (IsFaultlessItem left.now) }
-    ensures fault { IfErr result (λ f. (before : List ℕ) → site ≡ site_after site.text before → IsFaultAt site.text before left.now f) }
+    ensures fault { IfErr result (λ f. (before : List ℕ) → site ≡ site_after site.text before →
+        IsFaultAt site.text before left.now f) }
 {
     let Some(item) = item_at(left) else {
         return Err(no_item_fault(left, site));

@@ -1,6 +1,7 @@
 //! Single octets of a text.
 ghost use Rattle.std.specs.Prelude.{◌≡◌};
-ghost use Rattle.guard_lexer.specs.Octets.{is_letter_or_digit, is_hyphen, is_digit, is_white_space, is_line_end, is_of_bits, is_of_hexadecimal, is_asterisk, begins};
+ghost use Rattle.guard_lexer.specs.Octets.{is_letter_or_digit, is_hyphen, is_digit, is_white_space, is_line_end};
+ghost use Rattle.guard_lexer.specs.Octets.{is_of_bits, is_of_hexadecimal, is_asterisk, begins};
 ghost use Rattle.guard_lexer.specs.Items.{is_of_word, begins_comment, ends_comment};
 
 pub(crate) fn is_white_space(octet: u8) -> bool

@@ -8,7 +8,8 @@ use guard_model::Site;
 pub fn site_behind(site: Site, octets: &[u8]) -> Site
     requires line { site.line + length octets.now < 2 ^ 32 }
     requires column { site.column + length octets.now < 2 ^ 32 }
-    ensures { (before : List ℕ) → site ≡ site_after site.text before → result ≡ site_after site.text (before ++ octets.now) }
+    ensures { (before : List ℕ) → site ≡ site_after site.text before →
+        result ≡ site_after site.text (before ++ octets.now) }
 {
     let mut site = site;
     for octet in octets {

@@ -1,5 +1,6 @@
 //! The alphabets of the character strings (X.680 clause 41).
-ghost use Rattle.guard_model.specs.Alphabets.{all_characters, fits_characters, is_character, is_printable_mark as printable_mark};
+ghost use Rattle.guard_model.specs.Alphabets.{all_characters, fits_characters, is_character};
+ghost use Rattle.guard_model.specs.Alphabets.{is_printable_mark as printable_mark};
 ghost use Rattle.std.specs.Char.{is_ascii_alphabetic, is_ascii_digit};
 ghost use Rattle.std.specs.Prelude.{◌≡◌, chars};
 

@@ -1,6 +1,7 @@
 //! Copies of values and types. A copy means what its source means, and a call fails only where memory runs out.
 ghost use Rattle.std.specs.Prelude.{◌≡◌, map, IfOk};
-ghost use Rattle.guard_model.specs.TypeView.{type_view, kind_view, presence_view, component_view, constraint_view, element_view, part_view};
+ghost use Rattle.guard_model.specs.TypeView.{type_view, kind_view, presence_view, component_view};
+ghost use Rattle.guard_model.specs.TypeView.{constraint_view, element_view, part_view};
 ghost use Rattle.guard_model.specs.ValueView.{value_view, field_view};
 
 use crate::memory::OutOfMemory;

@@ -1,7 +1,8 @@
 //! What kinds have inside, and which elements of constraints apply to them (X.680 clause 51).
 ghost use Rattle.std.specs.Prelude.{◌≡◌, IfOk, map, option_map};
 ghost use Rattle.guard_model.specs.Components.{component_at, components_in};
-ghost use Rattle.guard_model.specs.Kinds.{element_of, has_named_bits, has_parts, has_size, is_choice, is_integer, is_string, part_of, type_of_size};
+ghost use Rattle.guard_model.specs.Kinds.{element_of, has_named_bits, has_parts, has_size, is_choice};
+ghost use Rattle.guard_model.specs.Kinds.{is_integer, is_string, part_of, type_of_size};
 ghost use Rattle.guard_model.specs.TypeView.{component_view, components_of, kind_view, type_view};
 
 use crate::memory::OutOfMemory;

@@ -38,7 +38,8 @@ impl Value {
 
 impl Bits {
     fn is_same(&self, other: &Bits) -> bool
-        ensures { result ≡ (nat_eq self.now.unused other.now.unused && same_numbers self.now.octets.items other.now.octets.items) }
+        ensures { result
+            ≡ (nat_eq self.now.unused other.now.unused && same_numbers self.now.octets.items other.now.octets.items) }
     {
         self.unused == other.unused && self.octets == other.octets
     }

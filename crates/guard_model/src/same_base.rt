@@ -1,11 +1,16 @@
 //! Whether two types are the same, or have the same base. One comparison serves both; it is told whether the whole
 //! counts.
-ghost use Rattle.guard_model.specs.inside.Compared.{bits_compared, compared, constraint_compared, element_compared, kind_compared, names_compared, site_compared};
-ghost use Rattle.guard_model.specs.inside.Compared.{components_in_view, constraints_in_view, parts_in_view, same_component, same_part};
+ghost use Rattle.guard_model.specs.inside.Compared.{bits_compared, compared, constraint_compared, element_compared};
+ghost use Rattle.guard_model.specs.inside.Compared.{kind_compared, names_compared, site_compared};
+ghost use Rattle.guard_model.specs.inside.Compared.{components_in_view, constraints_in_view, parts_in_view};
+ghost use Rattle.guard_model.specs.inside.Compared.{same_component, same_part};
 ghost use Rattle.guard_model.specs.SameBase.{HasSameBase, bare_names};
-ghost use Rattle.guard_model.specs.SameType.{same_base, same_components, same_constraint, same_constraints, same_element, same_kind, same_limit, same_named, same_parts, same_presence, same_range, same_site, same_type};
+ghost use Rattle.guard_model.specs.SameType.{same_base, same_components, same_constraint, same_constraints};
+ghost use Rattle.guard_model.specs.SameType.{same_element, same_kind, same_limit, same_named, same_parts};
+ghost use Rattle.guard_model.specs.SameType.{same_presence, same_range, same_site, same_type};
 ghost use Rattle.guard_model.specs.Tags.{same_tag};
-ghost use Rattle.guard_model.specs.TypeView.{component_view, constraint_view, element_view, kind_view, named_view, part_view, presence_view, type_view};
+ghost use Rattle.guard_model.specs.TypeView.{component_view, constraint_view, element_view, kind_view};
+ghost use Rattle.guard_model.specs.TypeView.{named_view, part_view, presence_view, type_view};
 ghost use Rattle.std.specs.Bool.{Decides};
 ghost use Rattle.std.specs.Cmp.Lexicographic.{pointwise};
 ghost use Rattle.std.specs.Prelude.{◌≡◌, map};
@@ -54,7 +59,8 @@ fn are_same_tags(tags: &[Tag], others: &[Tag]) -> bool
 impl Kind {
     #[cycle(same_types)]
     fn is_same(&self, other: &Kind, whole: bool) -> bool
-        ensures { result ≡ same_kind (kind_compared whole (kind_view self.now)) (kind_compared whole (kind_view other.now)) }
+        ensures { result
+            ≡ same_kind (kind_compared whole (kind_view self.now)) (kind_compared whole (kind_view other.now)) }
     {
         match (self, other) {
             (Kind::Bool, Kind::Bool) => true,
@@ -101,7 +107,8 @@ fn are_same_bits(names: &[Named], others: &[Named], whole: bool) -> bool
 
 /// Both have named bits, or neither has.
 fn are_both_named(names: &[Named], others: &[Named]) -> bool
-    ensures { result ≡ pointwise same_named (bare_names (map named_view names.now)) (bare_names (map named_view others.now)) }
+    ensures { result
+        ≡ pointwise same_named (bare_names (map named_view names.now)) (bare_names (map named_view others.now)) }
 {
     names.is_empty() == others.is_empty()
 }
@@ -170,7 +177,8 @@ impl Presence {
 
 #[cycle(same_types)]
 fn are_same_constraints(constraints: &[Cons], others: &[Cons], whole: bool) -> bool
-    ensures { result ≡ same_constraints (constraints_in_view whole constraints.now) (constraints_in_view whole others.now) }
+    ensures { result
+        ≡ same_constraints (constraints_in_view whole constraints.now) (constraints_in_view whole others.now) }
 {
     if constraints.len() != others.len() {
         return false;

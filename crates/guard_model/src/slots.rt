@@ -12,7 +12,8 @@ use std::alloc::Global;
 /// A slot for each component, none of which has a value yet. It fails only where memory runs out.
 pub fn absent_fields(alloc: Global, comps: &[Comp]) -> Result<Vec<Option<Value>>, OutOfMemory>
     ensures count { IfOk result (λ v. length v.items ≡ length comps.now) }
-    ensures absent { IfOk result (λ v. fields_view v.items ≡ all_absent (components_of (map component_view comps.now))) }
+    ensures absent { IfOk result (λ v. fields_view v.items
+        ≡ all_absent (components_of (map component_view comps.now))) }
 {
     let mut fields = Vec::with_capacity(alloc, comps.len())?;
     for _comp in comps {

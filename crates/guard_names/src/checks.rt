@@ -22,7 +22,8 @@ pub fn check_imports<'a>(
     declarations: &[Declaration<'a>],
     table: &Table,
 ) -> Result<(), NameFault>
-    requires origins { origin_in table.now ≡ declared.origin_there (declared.declarations (map module_view modules.now)) }
+    requires origins { origin_in table.now
+        ≡ declared.origin_there (declared.declarations (map module_view modules.now)) }
     requires declared { map declaration_view declarations.now ≡ declared.declarations (map module_view modules.now) }
     requires numbered { All (IsNumbered (map module_view table.now.modules.now)) declarations.now }
     ensures { Gives nothing faults.named result (reading.check_imports (map module_view modules.now)) }
@@ -34,7 +35,8 @@ pub fn check_imports<'a>(
 
 /// Looks for an import from a module that isn't there.
 fn check_modules<'a>(modules: &[Module<'a>], table: &Table) -> Result<(), NameFault>
-    ensures { Gives nothing faults.named result (refused_at fault.NoModule (faults.first_found (faults.no_module_in (origin_in table.now)) (map module_view modules.now))) }
+    ensures { Gives nothing faults.named result (refused_at fault.NoModule
+        (faults.first_found (faults.no_module_in (origin_in table.now)) (map module_view modules.now))) }
 {
     for module in modules {
         check_sources(written_imports(module), table)?;
@@ -43,7 +45,8 @@ fn check_modules<'a>(modules: &[Module<'a>], table: &Table) -> Result<(), NameFa
 }
 
 fn check_sources<'a>(imports: &[ImportTree<'a>], table: &Table) -> Result<(), NameFault>
-    ensures { Gives nothing faults.named result (refused_at fault.NoModule (faults.first_where (faults.is_missing (origin_in table.now)) (λ i. i.module_site) (map import_view imports.now))) }
+    ensures { Gives nothing faults.named result (refused_at fault.NoModule (faults.first_where
+        (faults.is_missing (origin_in table.now)) (λ i. i.module_site) (map import_view imports.now))) }
 {
     for import in imports {
         if !table.has_module(import.module.name) {
@@ -56,7 +59,8 @@ fn check_sources<'a>(imports: &[ImportTree<'a>], table: &Table) -> Result<(), Na
 /// Looks for a name that is imported from a module that doesn't assign it.
 fn check_assigned(declarations: &[Declaration], table: &Table) -> Result<(), NameFault>
     requires { All (IsNumbered (map module_view table.now.modules.now)) declarations.now }
-    ensures { Gives nothing faults.named result (refused_at fault.ImportNotDefined (faults.not_defined_among (origin_in table.now) (map declaration_view declarations.now))) }
+    ensures { Gives nothing faults.named result (refused_at fault.ImportNotDefined
+        (faults.not_defined_among (origin_in table.now) (map declaration_view declarations.now))) }
 {
     for declaration in declarations {
         if is_undefined_import(declaration, table) {
@@ -68,7 +72,8 @@ fn check_assigned(declarations: &[Declaration], table: &Table) -> Result<(), Nam
 
 fn is_undefined_import(declaration: &Declaration, table: &Table) -> bool
     requires { IsNumbered (map module_view table.now.modules.now) declaration.now }
-    ensures { result ≡ faults.is_undefined_import (origin_in table.now) declaration.now.name.now (origin_view declaration.now.origin) }
+    ensures { result ≡ faults.is_undefined_import (origin_in table.now) declaration.now.name.now
+        (origin_view declaration.now.origin) }
 {
     match declaration.origin {
         Origin::Module => false,
@@ -80,7 +85,8 @@ fn is_undefined_import(declaration: &Declaration, table: &Table) -> bool
 /// Looks for a name that is imported from a module that doesn't export it.
 fn check_exported(declarations: &[Declaration], table: &Table) -> Result<(), NameFault>
     requires { All (IsNumbered (map module_view table.now.modules.now)) declarations.now }
-    ensures { Gives nothing faults.named result (refused_at fault.NotExported (faults.not_exported_among (origin_in table.now) (map declaration_view declarations.now))) }
+    ensures { Gives nothing faults.named result (refused_at fault.NotExported
+        (faults.not_exported_among (origin_in table.now) (map declaration_view declarations.now))) }
 {
     for declaration in declarations {
         if is_closed_import(declaration, table) {
@@ -92,7 +98,8 @@ fn check_exported(declarations: &[Declaration], table: &Table) -> Result<(), Nam
 
 fn is_closed_import(declaration: &Declaration, table: &Table) -> bool
     requires { IsNumbered (map module_view table.now.modules.now) declaration.now }
-    ensures { result ≡ faults.is_closed_import (origin_in table.now) declaration.now.name.now (origin_view declaration.now.origin) }
+    ensures { result
+        ≡ faults.is_closed_import (origin_in table.now) declaration.now.name.now (origin_view declaration.now.origin) }
 {
     match declaration.origin {
         Origin::Module => false,

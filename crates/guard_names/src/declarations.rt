@@ -1,5 +1,6 @@
 //! The names that modules declare (X.680 13.1), in module and text order.
-ghost use Rattle.std.specs.Prelude.{◌≡◌, ◌+◌, ◌≤◌, ◌++◌, All, List, ℕ, true, Some, is_some, map, length, IfOk, OnOk, vec_len};
+ghost use Rattle.std.specs.Prelude.{◌≡◌, ◌+◌, ◌≤◌, ◌++◌, All, List, ℕ, true, Some};
+ghost use Rattle.std.specs.Prelude.{is_some, map, length, IfOk, OnOk, vec_len};
 ghost use Rattle.std.specs.List.{flat_map};
 ghost use Rattle.guard_names.specs.Declarations as declared;
 ghost use Rattle.guard_names.specs.inside.DeclarationViews.{declaration_view};
@@ -7,7 +8,8 @@ ghost use Rattle.guard_names.specs.inside.ExportViews.{has_name};
 ghost use Rattle.guard_names.specs.inside.Numbered.{HasNumber, IsNumbered};
 ghost use Rattle.guard_names.specs.TableViews.{module_number};
 ghost use Rattle.guard_syntax.specs.Trees.{WrittenModule};
-ghost use Rattle.guard_syntax.specs.ModuleViews.{module_view, import_view, symbol_view, assignment_view, perhaps_exports_view};
+ghost use Rattle.guard_syntax.specs.ModuleViews.{module_view, import_view, symbol_view, assignment_view};
+ghost use Rattle.guard_syntax.specs.ModuleViews.{perhaps_exports_view};
 
 use crate::exports::Exports;
 use guard_model::Site;
@@ -51,7 +53,8 @@ pub fn declarations<'a>(
     alloc: Global,
     modules: &[Module<'a>],
 ) -> Result<Vec<Declaration<'a>>, AllocError>
-    ensures found { IfOk result (λ v. map declaration_view v.items ≡ declared.declarations (map module_view modules.now)) }
+    ensures found { IfOk result (λ v. map declaration_view v.items
+        ≡ declared.declarations (map module_view modules.now)) }
     ensures numbered { IfOk result (λ v. All (IsNumbered (map module_view modules.now)) v.items) }
 {
     let mut found = Vec::new(alloc);
@@ -99,8 +102,10 @@ fn add_module<'a>(
 ) -> Result<Id, AllocError>
     requires few { first ≤ vec_len into.old }
     requires there { is_some (module_number (map module_view modules.now) tree.now.name.now) ≡ true }
-    ensures numbered { OnOk result (All (IsNumbered (map module_view modules.now)) into.old.items → All (IsNumbered (map module_view modules.now)) into.new.items) }
-    ensures added { OnOk result (map declaration_view into.new.items ≡ map declaration_view into.old.items ++ declared.module_declarations first (module_view tree.now)) }
+    ensures numbered { OnOk result (All (IsNumbered (map module_view modules.now)) into.old.items →
+        All (IsNumbered (map module_view modules.now)) into.new.items) }
+    ensures added { OnOk result (map declaration_view into.new.items ≡ map declaration_view into.old.items
+        ++ declared.module_declarations first (module_view tree.now)) }
     ensures next { IfOk result (λ next. next ≡ first + length (module_view tree.now).assignments) }
     ensures few { IfOk result (λ next. next ≤ vec_len into.new) }
 {
@@ -142,9 +147,11 @@ fn add_imports<'a>(
     imports: &[ImportTree<'a>],
     into: &mut Vec<Declaration<'a>>,
 ) -> Result<(), AllocError>
-    ensures added { OnOk result (map declaration_view into.new.items ≡ map declaration_view into.old.items ++ flat_map (declared.import_declarations home.entry.name.now) (map import_view imports.now)) }
+    ensures added { OnOk result (map declaration_view into.new.items ≡ map declaration_view into.old.items
+        ++ flat_map (declared.import_declarations home.entry.name.now) (map import_view imports.now)) }
     ensures more { OnOk result (vec_len into.old ≤ vec_len into.new) }
-    ensures numbered { OnOk result (HasNumber (map module_view modules.now) (Some home.entry) → All (IsNumbered (map module_view modules.now)) into.old.items → All (IsNumbered (map module_view modules.now)) into.new.items) }
+    ensures numbered { OnOk result (HasNumber (map module_view modules.now) (Some home.entry) → All (IsNumbered
+        (map module_view modules.now)) into.old.items → All (IsNumbered (map module_view modules.now)) into.new.items) }
 {
     for import in imports {
         let from = import.module.name;
@@ -160,9 +167,11 @@ fn add_symbols<'a>(
     symbols: &[SymbolTree<'a>],
     into: &mut Vec<Declaration<'a>>,
 ) -> Result<(), AllocError>
-    ensures added { OnOk result (map declaration_view into.new.items ≡ map declaration_view into.old.items ++ declared.symbol_declarations home.entry.name.now from.now (map symbol_view symbols.now)) }
+    ensures added { OnOk result (map declaration_view into.new.items ≡ map declaration_view into.old.items
+        ++ declared.symbol_declarations home.entry.name.now from.now (map symbol_view symbols.now)) }
     ensures more { OnOk result (vec_len into.old ≤ vec_len into.new) }
-    ensures numbered { OnOk result ((ms : List WrittenModule) → HasNumber ms (Some home.entry) → number ≡ module_number ms from.now → All (IsNumbered ms) into.old.items → All (IsNumbered ms) into.new.items) }
+    ensures numbered { OnOk result ((ms : List WrittenModule) → HasNumber ms (Some home.entry) →
+        number ≡ module_number ms from.now → All (IsNumbered ms) into.old.items → All (IsNumbered ms) into.new.items) }
 {
     for symbol in symbols {
         into.push(Declaration {
@@ -185,8 +194,11 @@ fn add_assigned<'a>(
 ) -> Result<Id, AllocError>
     requires few { first ≤ vec_len into.old }
     requires home { home.name.now ≡ tree.now.name.now }
-    ensures numbered { OnOk result ((ms : List WrittenModule) → HasNumber ms (Some home.entry) → All (IsNumbered ms) into.old.items → All (IsNumbered ms) into.new.items) }
-    ensures added { OnOk result (map declaration_view into.new.items ≡ map declaration_view into.old.items ++ declared.assigned_declarations (module_view tree.now) first (map assignment_view tree.now.assignments.items)) }
+    ensures numbered { OnOk result ((ms : List WrittenModule) → HasNumber ms (Some home.entry) →
+        All (IsNumbered ms) into.old.items → All (IsNumbered ms) into.new.items) }
+    ensures added { OnOk result (map declaration_view into.new.items
+        ≡ map declaration_view into.old.items ++ declared.assigned_declarations (module_view tree.now) first
+        (map assignment_view tree.now.assignments.items)) }
     ensures next { IfOk result (λ next. next ≡ first + length (module_view tree.now).assignments) }
     ensures few { IfOk result (λ next. next ≤ vec_len into.new) }
 {
@@ -203,9 +215,13 @@ fn add_assignments<'a>(
 ) -> Result<Id, AllocError>
     requires few { first ≤ vec_len into.old }
     requires home { home.name.now ≡ tree.now.name.now }
-    requires exports { (name : List ℕ) → has_name exports.now name ≡ declared.lists_name (perhaps_exports_view tree.now.exports) name }
-    ensures numbered { OnOk result ((ms : List WrittenModule) → HasNumber ms (Some home.entry) → All (IsNumbered ms) into.old.items → All (IsNumbered ms) into.new.items) }
-    ensures added { OnOk result (map declaration_view into.new.items ≡ map declaration_view into.old.items ++ declared.assigned_declarations (module_view tree.now) first (map assignment_view tree.now.assignments.items)) }
+    requires exports { (name : List ℕ) →
+        has_name exports.now name ≡ declared.lists_name (perhaps_exports_view tree.now.exports) name }
+    ensures numbered { OnOk result ((ms : List WrittenModule) → HasNumber ms (Some home.entry) →
+        All (IsNumbered ms) into.old.items → All (IsNumbered ms) into.new.items) }
+    ensures added { OnOk result (map declaration_view into.new.items
+        ≡ map declaration_view into.old.items ++ declared.assigned_declarations (module_view tree.now) first
+        (map assignment_view tree.now.assignments.items)) }
     ensures next { IfOk result (λ next. next ≡ first + length (module_view tree.now).assignments) }
     ensures few { IfOk result (λ next. next ≤ vec_len into.new) }
 {

@@ -19,7 +19,8 @@ pub enum Exports<'a> {
 
 impl<'a> Exports<'a> {
     pub fn of(alloc: Global, tree: &Option<ExportsTree<'a>>) -> Result<Exports<'a>, AllocError>
-        ensures { IfOk result (λ e. (name : List ℕ) → has_name e name ≡ lists_name (perhaps_exports_view tree.now) name) }
+        ensures { IfOk result (λ e. (name : List ℕ) →
+            has_name e name ≡ lists_name (perhaps_exports_view tree.now) name) }
     {
         match tree {
             None => Ok(Exports::All),
@@ -39,7 +40,8 @@ impl<'a> Exports<'a> {
 }
 
 fn listed<'a>(alloc: Global, symbols: &[SymbolTree<'a>]) -> Result<IndexSet<&'a [u8]>, AllocError>
-    ensures { IfOk result (λ s. (name : List ℕ) → list_any (λ k. bytes_eq name k.now) s.keys ≡ list_any (λ s. bytes_eq name s.name) (map symbol_view symbols.now)) }
+    ensures { IfOk result (λ s. (name : List ℕ) → list_any (λ k. bytes_eq name k.now) s.keys
+        ≡ list_any (λ s. bytes_eq name s.name) (map symbol_view symbols.now)) }
 {
     let mut names = IndexSet::new(alloc);
     for symbol in symbols {

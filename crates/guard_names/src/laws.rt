@@ -16,7 +16,8 @@ pub fn law_modules_behind(modules: &[Module], more: &[Module], home: &[u8], name
     requires first { fault_of_names (map module_view modules.now) ≡ None }
     requires whole { fault_of_names (map module_view modules.now ++ map module_view more.now) ≡ None }
     requires home { (m : WrittenModule) × Contains (map module_view modules.now) m × (m.name ≡ home.now) }
-    ensures { (number : ℕ) → Means (map module_view modules.now) home.now name.now number ↔ Means (map module_view modules.now ++ map module_view more.now) home.now name.now number }
+    ensures { (number : ℕ) → Means (map module_view modules.now) home.now name.now number
+        ↔ Means (map module_view modules.now ++ map module_view more.now) home.now name.now number }
 {}
 
 /// Where no name is declared twice, a look-up answers the one definition that a name means.
@@ -44,6 +45,8 @@ pub fn law_one_order(modules: &[Module])
 /// Modules have one first fault, or none.
 #[tactic(auto, using(crate::proofs::Faults::OneFault::one_fault, crate::proofs::Faults::OneFault::never_both))]
 pub fn law_one_fault(modules: &[Module])
-    ensures one { (f g : NameFault) → IsFirstFault (map module_view modules.now) f → IsFirstFault (map module_view modules.now) g → f ≡ g }
-    ensures never_both { (f : NameFault) → AreFaultless (map module_view modules.now) → IsFirstFault (map module_view modules.now) f → ⊥ }
+    ensures one { (f g : NameFault) → IsFirstFault (map module_view modules.now) f →
+        IsFirstFault (map module_view modules.now) g → f ≡ g }
+    ensures never_both { (f : NameFault) → AreFaultless (map module_view modules.now) →
+        IsFirstFault (map module_view modules.now) f → ⊥ }
 {}

@@ -40,11 +40,13 @@ impl<'m, 'a> Meanings<'m, 'a> {
         table: &Table<'m, 'a>,
     ) -> Result<Meanings<'m, 'a>, AllocError>
         requires modules { table.now.modules.now ≡ modules.now }
-        requires origins { (scope : Option (List ℕ)) (name : List ℕ) → origin_in table.now scope name ≡ origin_there (map declaration_view declarations.now) scope name }
+        requires origins { (scope : Option (List ℕ)) (name : List ℕ) →
+            origin_in table.now scope name ≡ origin_there (map declaration_view declarations.now) scope name }
         requires once { duplicate_after [] (map declaration_view declarations.now) ≡ None }
         requires numbered { All (IsNumbered (map module_view modules.now)) declarations.now }
         ensures modules { IfOk result (λ t. t.modules.now ≡ modules.now) }
-        ensures found { IfOk result (λ t. (home name : List ℕ) → meaning_in t home name ≡ definition_of (origin_in table.now) home name) }
+        ensures found { IfOk result (λ t. (home name : List ℕ) →
+            meaning_in t home name ≡ definition_of (origin_in table.now) home name) }
     {
         let mut numbers = IndexMap::new(alloc);
         for declaration in declarations {
@@ -70,7 +72,8 @@ impl<'m, 'a> Meanings<'m, 'a> {
 
     /// The definition that the name means in the module of this number, if it is there.
     pub fn find<'s>(&'s self, number: Option<usize>, name: &'s [u8]) -> Option<Id>
-        ensures { (home : List ℕ) → number ≡ module_number (map module_view self.now.modules.now) home → result ≡ meaning_in self.now home name.now }
+        ensures { (home : List ℕ) → number ≡ module_number (map module_view self.now.modules.now) home →
+            result ≡ meaning_in self.now home name.now }
     {
         let scope = Some(number?);
         self.numbers.get(&Key { scope, name }).copied()
@@ -91,7 +94,8 @@ impl<'s, 'm, 'a> Within<'s, 'm, 'a> {
 /// The definition that a declared name means in its module.
 fn meant_by(declaration: &Declaration, table: &Table) -> Option<Id>
     requires { IsNumbered (map module_view table.now.modules.now) declaration.now }
-    ensures { result ≡ number_of_origin (origin_in table.now) declaration.now.name.now (Some (origin_view declaration.now.origin)) }
+    ensures { result
+        ≡ number_of_origin (origin_in table.now) declaration.now.name.now (Some (origin_view declaration.now.origin)) }
 {
     match declaration.origin {
         Origin::Module => None,

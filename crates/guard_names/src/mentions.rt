@@ -6,8 +6,11 @@ ghost use Rattle.guard_names.specs.Mentions.{in_component, in_perhaps_constraint
 ghost use Rattle.guard_names.specs.inside.Views.{mention_view};
 ghost use Rattle.guard_syntax.specs.Trees.{entries_of, united_of, met_of, parts_of, components_of, alternatives_of};
 ghost use Rattle.guard_syntax.specs.Views.{value_view, entry_view};
-ghost use Rattle.guard_syntax.specs.SetViews.{constraint_view, set_view, intersection_view, joined_intersection_view, difference_view, joined_difference_view, element_view, element_form_view, part_view, range_view, end_or_view, perhaps_constraint_view};
-ghost use Rattle.guard_syntax.specs.TypeViews.{type_view, base_view, component_view, component_form_view, alternative_view, of_constraint_view, presence_view};
+ghost use Rattle.guard_syntax.specs.SetViews.{constraint_view, set_view, intersection_view, joined_intersection_view};
+ghost use Rattle.guard_syntax.specs.SetViews.{difference_view, joined_difference_view, element_view, element_form_view};
+ghost use Rattle.guard_syntax.specs.SetViews.{part_view, range_view, end_or_view, perhaps_constraint_view};
+ghost use Rattle.guard_syntax.specs.TypeViews.{type_view, base_view, component_view, component_form_view};
+ghost use Rattle.guard_syntax.specs.TypeViews.{alternative_view, of_constraint_view, presence_view};
 ghost use Rattle.guard_syntax.specs.ModuleViews.{assignment_view};
 
 use guard_model::Site;
@@ -44,7 +47,8 @@ pub fn mentions<'a>(
 
 #[cycle(types)]
 fn add_type<'a>(ty: &TypeTree<'a>, into: &mut Vec<Mention<'a>>) -> Result<(), AllocError>
-    ensures { OnOk result (map mention_view into.new.items ≡ map mention_view into.old.items ++ mentions.in_type (type_view ty.now)) }
+    ensures { OnOk result (map mention_view into.new.items ≡ map mention_view into.old.items
+        ++ mentions.in_type (type_view ty.now)) }
 {
     add_base(&ty.base, into)?;
     add_constraints(&ty.cons, into)
@@ -52,7 +56,8 @@ fn add_type<'a>(ty: &TypeTree<'a>, into: &mut Vec<Mention<'a>>) -> Result<(), Al
 
 #[cycle(types)]
 fn add_base<'a>(base: &BaseTree<'a>, into: &mut Vec<Mention<'a>>) -> Result<(), AllocError>
-    ensures { OnOk result (map mention_view into.new.items ≡ map mention_view into.old.items ++ mentions.in_base (base_view base.now)) }
+    ensures { OnOk result (map mention_view into.new.items ≡ map mention_view into.old.items
+        ++ mentions.in_base (base_view base.now)) }
 {
     match base {
         BaseTree::Plain(_) => Ok(()),
@@ -71,7 +76,8 @@ fn add_base<'a>(base: &BaseTree<'a>, into: &mut Vec<Mention<'a>>) -> Result<(), 
 
 #[cycle(types)]
 fn add_components<'a>(comps: &[CompTree<'a>], into: &mut Vec<Mention<'a>>) -> Result<(), AllocError>
-    ensures { OnOk result (map mention_view into.new.items ≡ map mention_view into.old.items ++ mentions.in_components (components_of (map component_view comps.now))) }
+    ensures { OnOk result (map mention_view into.new.items ≡ map mention_view into.old.items
+        ++ mentions.in_components (components_of (map component_view comps.now))) }
 {
     for comp in comps {
         add_component(comp, into)?;
@@ -81,7 +87,8 @@ fn add_components<'a>(comps: &[CompTree<'a>], into: &mut Vec<Mention<'a>>) -> Re
 
 #[cycle(types)]
 fn add_component<'a>(comp: &CompTree<'a>, into: &mut Vec<Mention<'a>>) -> Result<(), AllocError>
-    ensures { OnOk result (map mention_view into.new.items ≡ map mention_view into.old.items ++ mentions.in_components (components_of (component_view comp.now ∷ []))) }
+    ensures { OnOk result (map mention_view into.new.items ≡ map mention_view into.old.items
+        ++ mentions.in_components (components_of (component_view comp.now ∷ []))) }
 {
     match &comp.form {
         CompForm::Named(_, ty, presence) => {
@@ -97,7 +104,8 @@ fn add_alternatives<'a>(
     alternatives: &[AlternativeTree<'a>],
     into: &mut Vec<Mention<'a>>,
 ) -> Result<(), AllocError>
-    ensures { OnOk result (map mention_view into.new.items ≡ map mention_view into.old.items ++ mentions.in_alternatives (alternatives_of (map alternative_view alternatives.now))) }
+    ensures { OnOk result (map mention_view into.new.items ≡ map mention_view into.old.items
+        ++ mentions.in_alternatives (alternatives_of (map alternative_view alternatives.now))) }
 {
     for alternative in alternatives {
         add_type(&alternative.ty, into)?;
@@ -109,7 +117,8 @@ fn add_presence<'a>(
     presence: &PresenceTree<'a>,
     into: &mut Vec<Mention<'a>>,
 ) -> Result<(), AllocError>
-    ensures { OnOk result (map mention_view into.new.items ≡ map mention_view into.old.items ++ mentions.in_presence (presence_view presence.now)) }
+    ensures { OnOk result (map mention_view into.new.items ≡ map mention_view into.old.items
+        ++ mentions.in_presence (presence_view presence.now)) }
 {
     match presence {
         PresenceTree::Mandatory => Ok(()),
@@ -122,7 +131,8 @@ fn add_before_of<'a>(
     before: &Option<OfConsTree<'a>>,
     into: &mut Vec<Mention<'a>>,
 ) -> Result<(), AllocError>
-    ensures { OnOk result (map mention_view into.new.items ≡ map mention_view into.old.items ++ mentions.in_of_constraint (of_constraint_view before.now)) }
+    ensures { OnOk result (map mention_view into.new.items ≡ map mention_view into.old.items
+        ++ mentions.in_of_constraint (of_constraint_view before.now)) }
 {
     match before {
         None => Ok(()),
@@ -131,7 +141,8 @@ fn add_before_of<'a>(
 }
 
 fn add_constraints<'a>(cons: &[ConsTree<'a>], into: &mut Vec<Mention<'a>>) -> Result<(), AllocError>
-    ensures { OnOk result (map mention_view into.new.items ≡ map mention_view into.old.items ++ flat_map mentions.in_constraint (map constraint_view cons.now)) }
+    ensures { OnOk result (map mention_view into.new.items ≡ map mention_view into.old.items
+        ++ flat_map mentions.in_constraint (map constraint_view cons.now)) }
 {
     for constraint in cons {
         add_constraint(constraint, into)?;
@@ -144,14 +155,16 @@ fn add_constraint<'a>(
     constraint: &ConsTree<'a>,
     into: &mut Vec<Mention<'a>>,
 ) -> Result<(), AllocError>
-    ensures { OnOk result (map mention_view into.new.items ≡ map mention_view into.old.items ++ mentions.in_constraint (constraint_view constraint.now)) }
+    ensures { OnOk result (map mention_view into.new.items ≡ map mention_view into.old.items
+        ++ mentions.in_constraint (constraint_view constraint.now)) }
 {
     add_set(&constraint.set, into)
 }
 
 #[cycle(sets)]
 fn add_set<'a>(set: &SetTree<'a>, into: &mut Vec<Mention<'a>>) -> Result<(), AllocError>
-    ensures { OnOk result (map mention_view into.new.items ≡ map mention_view into.old.items ++ mentions.in_set (set_view set.now)) }
+    ensures { OnOk result (map mention_view into.new.items ≡ map mention_view into.old.items
+        ++ mentions.in_set (set_view set.now)) }
 {
     match &set.form {
         SetForm::AllExcept(element) => add_element(element, into),
@@ -167,7 +180,8 @@ fn add_united<'a>(
     others: &[JoinedIntersection<'a>],
     into: &mut Vec<Mention<'a>>,
 ) -> Result<(), AllocError>
-    ensures { OnOk result (map mention_view into.new.items ≡ map mention_view into.old.items ++ mentions.in_united (united_of (map joined_intersection_view others.now))) }
+    ensures { OnOk result (map mention_view into.new.items ≡ map mention_view into.old.items
+        ++ mentions.in_united (united_of (map joined_intersection_view others.now))) }
 {
     for joined in others {
         add_intersection(&joined.part, into)?;
@@ -180,7 +194,8 @@ fn add_intersection<'a>(
     intersection: &IntersectionTree<'a>,
     into: &mut Vec<Mention<'a>>,
 ) -> Result<(), AllocError>
-    ensures { OnOk result (map mention_view into.new.items ≡ map mention_view into.old.items ++ mentions.in_intersection (intersection_view intersection.now)) }
+    ensures { OnOk result (map mention_view into.new.items ≡ map mention_view into.old.items
+        ++ mentions.in_intersection (intersection_view intersection.now)) }
 {
     add_difference(&intersection.first, into)?;
     add_met(&intersection.others, into)
@@ -191,7 +206,8 @@ fn add_met<'a>(
     others: &[JoinedDifference<'a>],
     into: &mut Vec<Mention<'a>>,
 ) -> Result<(), AllocError>
-    ensures { OnOk result (map mention_view into.new.items ≡ map mention_view into.old.items ++ mentions.in_met (met_of (map joined_difference_view others.now))) }
+    ensures { OnOk result (map mention_view into.new.items ≡ map mention_view into.old.items
+        ++ mentions.in_met (met_of (map joined_difference_view others.now))) }
 {
     for joined in others {
         add_difference(&joined.part, into)?;
@@ -204,7 +220,8 @@ fn add_difference<'a>(
     difference: &DifferenceTree<'a>,
     into: &mut Vec<Mention<'a>>,
 ) -> Result<(), AllocError>
-    ensures { OnOk result (map mention_view into.new.items ≡ map mention_view into.old.items ++ mentions.in_difference (difference_view difference.now)) }
+    ensures { OnOk result (map mention_view into.new.items ≡ map mention_view into.old.items
+        ++ mentions.in_difference (difference_view difference.now)) }
 {
     add_element(&difference.element, into)?;
     match &difference.except {
@@ -215,7 +232,8 @@ fn add_difference<'a>(
 
 #[cycle(sets)]
 fn add_element<'a>(element: &ElementTree<'a>, into: &mut Vec<Mention<'a>>) -> Result<(), AllocError>
-    ensures { OnOk result (map mention_view into.new.items ≡ map mention_view into.old.items ++ mentions.in_element (element_view element.now)) }
+    ensures { OnOk result (map mention_view into.new.items ≡ map mention_view into.old.items
+        ++ mentions.in_element (element_view element.now)) }
 {
     match &element.form {
         ElementForm::Parentheses(set) => add_set(set, into),
@@ -237,7 +255,8 @@ fn add_parts<'a>(
     parts: &[ComponentConsTree<'a>],
     into: &mut Vec<Mention<'a>>,
 ) -> Result<(), AllocError>
-    ensures { OnOk result (map mention_view into.new.items ≡ map mention_view into.old.items ++ mentions.in_parts (parts_of (map part_view parts.now))) }
+    ensures { OnOk result (map mention_view into.new.items ≡ map mention_view into.old.items
+        ++ mentions.in_parts (parts_of (map part_view parts.now))) }
 {
     for part in parts {
         add_perhaps(&part.cons, into)?;
@@ -250,7 +269,8 @@ fn add_perhaps<'a>(
     constraint: &Option<ConsTree<'a>>,
     into: &mut Vec<Mention<'a>>,
 ) -> Result<(), AllocError>
-    ensures { OnOk result (map mention_view into.new.items ≡ map mention_view into.old.items ++ in_perhaps_constraint (perhaps_constraint_view constraint.now)) }
+    ensures { OnOk result (map mention_view into.new.items ≡ map mention_view into.old.items
+        ++ in_perhaps_constraint (perhaps_constraint_view constraint.now)) }
 {
     match constraint {
         None => Ok(()),
@@ -259,14 +279,16 @@ fn add_perhaps<'a>(
 }
 
 fn add_range<'a>(range: &RangeTree<'a>, into: &mut Vec<Mention<'a>>) -> Result<(), AllocError>
-    ensures { OnOk result (map mention_view into.new.items ≡ map mention_view into.old.items ++ (mentions.in_end (range_view range.now).low ++ mentions.in_end (range_view range.now).high)) }
+    ensures { OnOk result (map mention_view into.new.items ≡ map mention_view into.old.items
+        ++ (mentions.in_end (range_view range.now).low ++ mentions.in_end (range_view range.now).high)) }
 {
     add_end(&range.low, into)?;
     add_end(&range.high, into)
 }
 
 fn add_end<'a>(end: &Option<EndTree<'a>>, into: &mut Vec<Mention<'a>>) -> Result<(), AllocError>
-    ensures { OnOk result (map mention_view into.new.items ≡ map mention_view into.old.items ++ mentions.in_end (end_or_view end.now)) }
+    ensures { OnOk result (map mention_view into.new.items ≡ map mention_view into.old.items
+        ++ mentions.in_end (end_or_view end.now)) }
 {
     let Some(end) = end else {
         return Ok(());
@@ -280,7 +302,8 @@ fn add_end<'a>(end: &Option<EndTree<'a>>, into: &mut Vec<Mention<'a>>) -> Result
 
 #[cycle(values)]
 fn add_value<'a>(value: &ValueTree<'a>, into: &mut Vec<Mention<'a>>) -> Result<(), AllocError>
-    ensures { OnOk result (map mention_view into.new.items ≡ map mention_view into.old.items ++ mentions.in_value (value_view value.now)) }
+    ensures { OnOk result (map mention_view into.new.items ≡ map mention_view into.old.items
+        ++ mentions.in_value (value_view value.now)) }
 {
     match &value.form {
         ValueForm::Boolean(_) => Ok(()),
@@ -296,7 +319,8 @@ fn add_value<'a>(value: &ValueTree<'a>, into: &mut Vec<Mention<'a>>) -> Result<(
 
 #[cycle(values)]
 fn add_entries<'a>(entries: &[EntryTree<'a>], into: &mut Vec<Mention<'a>>) -> Result<(), AllocError>
-    ensures { OnOk result (map mention_view into.new.items ≡ map mention_view into.old.items ++ mentions.in_entries (entries_of (map entry_view entries.now))) }
+    ensures { OnOk result (map mention_view into.new.items ≡ map mention_view into.old.items
+        ++ mentions.in_entries (entries_of (map entry_view entries.now))) }
 {
     for entry in entries {
         add_value(&entry.value, into)?;
@@ -310,7 +334,8 @@ fn add_name<'a>(
     name: &'a [u8],
     into: &mut Vec<Mention<'a>>,
 ) -> Result<(), AllocError>
-    ensures { OnOk result (map mention_view into.new.items ≡ map mention_view into.old.items ++ record { site = site; kind = kind; name = name.now } ∷ []) }
+    ensures { OnOk result (map mention_view into.new.items ≡ map mention_view into.old.items
+        ++ record { site = site; kind = kind; name = name.now } ∷ []) }
 {
     into.push(Mention { site, kind, name })?;
     Ok(())

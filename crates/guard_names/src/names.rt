@@ -1,5 +1,6 @@
 //! What the names in a list of modules mean.
-ghost use Rattle.std.specs.Prelude.{◌≡◌, ◌↔◌, ℕ, ◌<◌, List, map, length, option_map, slice_get, slice_index_or, is_some, false, IsTrue, IfOk, IfErr, IfSome, Option, Some, None};
+ghost use Rattle.std.specs.Prelude.{◌≡◌, ◌↔◌, ℕ, ◌<◌, List, map, length, option_map, slice_get, slice_index_or};
+ghost use Rattle.std.specs.Prelude.{is_some, false, IsTrue, IfOk, IfErr, IfSome, Option, Some, None};
 ghost use Rattle.std.proofs.Props.{props};
 ghost use Rattle.guard_names.specs.Declarations.{Definition, definitions};
 ghost use Rattle.guard_names.specs.Faults.{fault_of_names};
@@ -28,12 +29,17 @@ pub struct Names<'m, 'a> {
     /// The place of each definition in the order, by definitions.
     places: Vec<usize>,
     pub ghost looked_up: { meanings.modules.now ≡ modules.now },
-    pub ghost numbered: { numbers.items ≡ map (λ m. module_number (map module_view modules.now) m.name.now) modules.now },
+    pub ghost numbered: { numbers.items
+        ≡ map (λ m. module_number (map module_view modules.now) m.name.now) modules.now },
     pub ghost faultless: { is_some (fault_of_names (map module_view modules.now)) ≡ false },
-    pub ghost meant: { (home name : List ℕ) → meaning_in meanings home name ≡ number_meant (map module_view modules.now) home name } by { Prim.hlevel props },
-    pub ghost ordered: { IsOrder (length (definitions (map module_view modules.now))) (Uses (map module_view modules.now)) order.items } by { IsOrder-prop (length (definitions (map module_view modules.now))) (Uses (map module_view modules.now)) order.items },
+    pub ghost meant: { (home name : List ℕ) →
+        meaning_in meanings home name ≡ number_meant (map module_view modules.now) home name } by { Prim.hlevel props },
+    pub ghost ordered: { IsOrder (length (definitions (map module_view modules.now)))
+        (Uses (map module_view modules.now)) order.items } by { IsOrder-prop (length (definitions (map module_view modules.now)))
+            (Uses (map module_view modules.now)) order.items },
     pub ghost whole: { length places.items ≡ length (definitions (map module_view modules.now)) },
-    pub ghost placed: { (number : ℕ) → number < length places.items → slice_get order.items (slice_index_or places.items number 0) ≡ Some number } by { Prim.hlevel props },
+    pub ghost placed: { (number : ℕ) → number < length places.items →
+        slice_get order.items (slice_index_or places.items number 0) ≡ Some number } by { Prim.hlevel props },
 }
 
 impl<'m, 'a> Names<'m, 'a> {
@@ -50,7 +56,8 @@ impl<'m, 'a> Names<'m, 'a> {
         requires named { fault_of_names (map module_view modules.now) ≡ None }
         requires modules { meanings.modules.now ≡ modules.now }
         requires acyclic { (number : ℕ) → IsRecursive (Uses (map module_view modules.now)) number → ⊥ }
-        requires meant { (home name : List ℕ) → meaning_in meanings home name ≡ number_meant (map module_view modules.now) home name }
+        requires meant { (home name : List ℕ) →
+            meaning_in meanings home name ≡ number_meant (map module_view modules.now) home name }
         requires used { map (λ v. v.items) uses.now ≡ uses_of_all (map module_view modules.now) }
         ensures { IfOk result (λ names. modules_of names ≡ map module_view modules.now) }
     {
@@ -69,8 +76,10 @@ impl<'m, 'a> Names<'m, 'a> {
     /// The definition that a name means in the module of a name (X.680 13.1): one that is assigned there, or in a
     /// module from which the name is imported and that exports it.
     pub fn find(&self, module_name: &str, name: &str) -> Option<Id>
-        ensures meant { (number : ℕ) → (result ≡ Some number) ↔ Means (modules_of self.now) module_name.now name.now number }
-        ensures home { IfSome result (λ id. (d : Definition) × (slice_get (definitions (modules_of self.now)) id ≡ Some d) × (d.assignment.name ≡ name.now)) }
+        ensures meant { (number : ℕ) →
+            (result ≡ Some number) ↔ Means (modules_of self.now) module_name.now name.now number }
+        ensures home { IfSome result (λ id. (d : Definition)
+            × (slice_get (definitions (modules_of self.now)) id ≡ Some d) × (d.assignment.name ≡ name.now)) }
     {
         self.meanings
             .within(module_name.as_bytes())
@@ -105,7 +114,8 @@ impl<'m, 'a> Names<'m, 'a> {
 
     /// The module and the assignment of a definition.
     pub fn home(&self, id: Id) -> Option<(&Module<'a>, &Assignment<'a>)>
-        ensures { option_map (λ p. record { home = module_view p.0.now; assignment = assignment_view p.1.now }) result ≡ slice_get (definitions (modules_of self.now)) id }
+        ensures { option_map (λ p. record { home = module_view p.0.now; assignment = assignment_view p.1.now }) result
+            ≡ slice_get (definitions (modules_of self.now)) id }
     {
         let (_, home, assignment) = home_of(self.modules, id)?;
         Some((home, assignment))
@@ -117,7 +127,8 @@ pub fn home_of<'m, 'a>(
     modules: &'m [Module<'a>],
     id: Id,
 ) -> Option<(usize, &'m Module<'a>, &'m Assignment<'a>)>
-    ensures home { option_map (λ p. record { home = module_view p.1.now; assignment = assignment_view p.2.now }) result ≡ slice_get (definitions (map module_view modules.now)) id }
+    ensures home { option_map (λ p. record { home = module_view p.1.now; assignment = assignment_view p.2.now }) result
+        ≡ slice_get (definitions (map module_view modules.now)) id }
     ensures place { IfSome result (λ p. slice_get modules.now p.0 ≡ Some p.1.now) }
 {
     let mut left = id;
@@ -133,7 +144,8 @@ pub fn home_of<'m, 'a>(
 
 /// The number of each module, by its name.
 fn numbers(alloc: Global, modules: &[Module]) -> Result<Vec<Option<usize>>, AllocError>
-    ensures { IfOk result (λ v. v.items ≡ map (λ m. module_number (map module_view modules.now) m.name.now) modules.now) }
+    ensures { IfOk result
+        (λ v. v.items ≡ map (λ m. module_number (map module_view modules.now) m.name.now) modules.now) }
 {
     let mut numbers = Vec::with_capacity(alloc, modules.len())?;
     for module in modules {
@@ -146,7 +158,8 @@ fn numbers(alloc: Global, modules: &[Module]) -> Result<Vec<Option<usize>>, Allo
 fn places(alloc: Global, order: &[Id], count: usize) -> Result<Vec<usize>, AllocError>
     requires { (number : ℕ) → IsTrue (is_listed order.now number) → number < count }
     ensures size { IfOk result (λ v. length v.items ≡ count) }
-    ensures placed { IfOk result (λ v. (number : ℕ) → IsTrue (is_listed order.now number) → slice_get order.now (slice_index_or v.items number 0) ≡ Some number) }
+    ensures placed { IfOk result (λ v. (number : ℕ) → IsTrue (is_listed order.now number) →
+        slice_get order.now (slice_index_or v.items number 0) ≡ Some number) }
 {
     let mut places = vec![in alloc; 0; count]?;
     for place in 0..order.len() {

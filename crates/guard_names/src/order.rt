@@ -1,5 +1,6 @@
 //! The order in which each definition comes after all that it uses.
-ghost use Rattle.std.specs.Prelude.{◌≡◌, ℕ, ◌+◌, ◌<◌, ◌≤◌, ◌++◌, ◌∷◌, [], false, true, length, map, slice_index_or, replicate, IfOk, OnOk, IfSome, IfNone, IsTrue};
+ghost use Rattle.std.specs.Prelude.{◌≡◌, ℕ, ◌+◌, ◌<◌, ◌≤◌, ◌++◌, ◌∷◌, [], false, true, length, map, slice_index_or};
+ghost use Rattle.std.specs.Prelude.{replicate, IfOk, OnOk, IfSome, IfNone, IsTrue};
 ghost use Rattle.std.specs.Bool.{OnTrue, OnFalse};
 ghost use Rattle.std.specs.List.{All};
 ghost use Rattle.std.specs.BinaryHeap.{IsHeap, heap_items};
@@ -123,7 +124,9 @@ impl Queue {
         requires sized { IsSized (map (λ v. v.items) uses.now) self.old }
         ensures order { OnOk result (self.new.order.items ≡ self.old.order.items) }
         ensures sized { OnOk result (IsSized (map (λ v. v.items) uses.now) self.new) }
-        ensures placed { OnOk result ((underway : ℕ → ℕ) → IsReleased (map (λ v. v.items) uses.now) self.old.order.items waiting → ArePlacedIn (map (λ v. v.items) uses.now) self.old (λ k. once_at waiting.number k + underway k) → ArePlacedIn (map (λ v. v.items) uses.now) self.new underway) }
+        ensures placed { OnOk result ((underway : ℕ → ℕ) → IsReleased (map (λ v. v.items) uses.now) self.old.order.items
+            waiting → ArePlacedIn (map (λ v. v.items) uses.now) self.old (λ k. once_at waiting.number k + underway k) →
+            ArePlacedIn (map (λ v. v.items) uses.now) self.new underway) }
         ensures left { OnOk result (left_in self.new ≡ left_in self.old + 1) }
     {
         let used = &uses[waiting.number];
@@ -143,8 +146,10 @@ fn first_unlisted(used: &[Id], from: usize, listed: &[bool]) -> Option<usize>
     requires { (u : ℕ) → IsTrue (is_listed used.now u) → u < length listed.now }
     ensures inside { IfSome result (λ place. place < length used.now) }
     ensures found { IfSome result (λ place. slice_index_or listed.now (slice_index_or used.now place 0) false ≡ false) }
-    ensures before { IfSome result (λ place. (i : ℕ) → from ≤ i → i < place → slice_index_or listed.now (slice_index_or used.now i 0) false ≡ true) }
-    ensures none { IfNone result ((i : ℕ) → from ≤ i → i < length used.now → slice_index_or listed.now (slice_index_or used.now i 0) false ≡ true) }
+    ensures before { IfSome result (λ place. (i : ℕ) → from ≤ i → i < place →
+        slice_index_or listed.now (slice_index_or used.now i 0) false ≡ true) }
+    ensures none { IfNone result ((i : ℕ) → from ≤ i → i < length used.now →
+        slice_index_or listed.now (slice_index_or used.now i 0) false ≡ true) }
 {
     for place in from..used.len() {
         if !listed[used[place]] {

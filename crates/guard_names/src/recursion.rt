@@ -1,5 +1,7 @@
 //! Definitions that use themselves, directly or through others.
-ghost use Rattle.std.specs.Prelude.{◌≡◌, ◌⊎◌, ℕ, ◌+◌, ◌<◌, ◌≤◌, ◌++◌, ◌∷◌, [], IsTrue, map, length, take, drop, slice_index_or, vec_len, IfOk, OnOk, IfSome, IfNone, MatchOption, Option, None, Contains, replicate, fold, false, List, if◌then◌else◌};
+ghost use Rattle.std.specs.Prelude.{◌≡◌, ◌⊎◌, ℕ, ◌+◌, ◌<◌, ◌≤◌, ◌++◌, ◌∷◌, [], IsTrue, map, length, take, drop};
+ghost use Rattle.std.specs.Prelude.{slice_index_or, vec_len, IfOk, OnOk, IfSome, IfNone, MatchOption, Option};
+ghost use Rattle.std.specs.Prelude.{None, Contains, replicate, fold, false, List, if◌then◌else◌};
 ghost use Rattle.std.specs.Bool.{OnTrue, OnFalse};
 ghost use Rattle.std.specs.List.{All, AllPairs};
 ghost use Rattle.guard_names.specs.Order.{IsRecursive, IsFirstRecursive, is_listed, Leads};
@@ -54,7 +56,8 @@ pub struct Search {
 /// The first definition that uses itself, directly or through others.
 pub fn first_recursive(alloc: Global, uses: &[Vec<Id>]) -> Result<Option<Id>, AllocError>
     requires { AreInside (map (λ v. v.items) uses.now) }
-    ensures { IfOk result (λ first. MatchOption first ((number : ℕ) → IsRecursive (UsesIn (map (λ v. v.items) uses.now)) number → ⊥) (IsFirstRecursive (UsesIn (map (λ v. v.items) uses.now)))) }
+    ensures { IfOk result (λ first. MatchOption first ((number : ℕ) → IsRecursive (UsesIn (map (λ v. v.items) uses.now))
+        number → ⊥) (IsFirstRecursive (UsesIn (map (λ v. v.items) uses.now)))) }
 {
     let mut search = Search::new(alloc, uses.len())?;
     for number in 0..uses.len() {
@@ -107,7 +110,8 @@ impl Search {
         requires search { IsSearch (map (λ v. v.items) uses.now) self.old }
         ensures search { OnOk result (IsSearch (map (λ v. v.items) uses.now) self.new) }
         ensures kept { OnOk result (KeepsMet self.old self.new) }
-        ensures left { IfOk result (λ more. OnTrue more (steps_left (map (λ v. v.items) uses.now) self.new < steps_left (map (λ v. v.items) uses.now) self.old)) }
+        ensures left { IfOk result (λ more. OnTrue more
+            (steps_left (map (λ v. v.items) uses.now) self.new < steps_left (map (λ v. v.items) uses.now) self.old)) }
         ensures ends { IfOk result (λ more. OnFalse more (self.new.path.items ≡ [])) }
     {
         let Some(part) = self.parts.last().copied() else {
@@ -126,7 +130,8 @@ impl Search {
         requires from { IsUsedFrom (map (λ v. v.items) uses.now) self.old.path.items self.old.parts.items used }
         ensures search { OnOk result (IsSearch (map (λ v. v.items) uses.now) self.new) }
         ensures kept { OnOk result (KeepsMet self.old self.new) }
-        ensures left { OnOk result (steps_left (map (λ v. v.items) uses.now) self.new ≤ steps_left (map (λ v. v.items) uses.now) self.old) }
+        ensures left { OnOk result
+            (steps_left (map (λ v. v.items) uses.now) self.new ≤ steps_left (map (λ v. v.items) uses.now) self.old) }
     {
         match self.marks[used] {
             Mark::New => self.enter(uses, used)?,
@@ -141,11 +146,13 @@ impl Search {
         requires inside { number < length uses.now }
         requires new { mark_of self.old number ≡ mark.New }
         requires search { IsSearchBut (map (λ v. v.items) uses.now) self.old (λ used. used ≡ number) }
-        requires comes { (q : ℕ) → q < length self.old.path.items → Leads (UsesIn (map (λ v. v.items) uses.now)) (slice_index_or self.old.path.items q 0) number }
+        requires comes { (q : ℕ) → q < length self.old.path.items →
+            Leads (UsesIn (map (λ v. v.items) uses.now)) (slice_index_or self.old.path.items q 0) number }
         ensures search { OnOk result (IsSearch (map (λ v. v.items) uses.now) self.new) }
         ensures met { OnOk result (¬ (mark_of self.new number ≡ mark.New)) }
         ensures kept { OnOk result (KeepsMet self.old self.new) }
-        ensures left { OnOk result (steps_left (map (λ v. v.items) uses.now) self.new ≡ steps_left (map (λ v. v.items) uses.now) self.old) }
+        ensures left { OnOk result (steps_left (map (λ v. v.items) uses.now) self.new
+            ≡ steps_left (map (λ v. v.items) uses.now) self.old) }
     {
         let place = self.path.len();
         self.marks[number] = Mark::OnPath(place);
@@ -163,7 +170,8 @@ impl Search {
         requires last { (rest : List Part) × (self.old.parts.items ≡ rest ++ part ∷ []) }
         requires start { part.start ≤ length self.old.path.items }
         requires inside { All (λ number. number < length self.old.marks.items) self.old.path.items }
-        ensures search { (us : List (List ℕ)) → IsSearch us self.old → ((e : Pending) → Contains self.old.pending.items e → e.place < part.start) → IsSearch us self.new }
+        ensures search { (us : List (List ℕ)) → IsSearch us self.old →
+            ((e : Pending) → Contains self.old.pending.items e → e.place < part.start) → IsSearch us self.new }
         ensures kept { KeepsMet self.old self.new }
         ensures left { (us : List (List ℕ)) → steps_left us self.new < steps_left us self.old }
     {
@@ -177,9 +185,11 @@ impl Search {
 
 /// Takes the last use that isn't followed, if it is one of a definition from this place on.
 fn next_use(pending: &mut Vec<Pending>, start: usize) -> Option<Id>
-    ensures taken { IfSome result (λ used. (place : ℕ) × (start ≤ place) × (pending.old.items ≡ pending.new.items ++ record { place = place; used = used } ∷ [])) }
+    ensures taken { IfSome result (λ used. (place : ℕ) × (start ≤ place)
+        × (pending.old.items ≡ pending.new.items ++ record { place = place; used = used } ∷ [])) }
     ensures kept { IfNone result (pending.new.items ≡ pending.old.items) }
-    ensures none { IfNone result (AllPairs (λ a b. a.place ≤ b.place) pending.old.items → (e : Pending) → Contains pending.old.items e → e.place < start) }
+    ensures none { IfNone result (AllPairs (λ a b. a.place ≤ b.place) pending.old.items → (e : Pending) →
+        Contains pending.old.items e → e.place < start) }
 {
     let last = pending.last().copied()?;
     if last.place < start {
@@ -190,7 +200,8 @@ fn next_use(pending: &mut Vec<Pending>, start: usize) -> Option<Id>
 }
 
 fn add_pending(place: usize, uses: &[Id], into: &mut Vec<Pending>) -> Result<(), AllocError>
-    ensures { OnOk result (into.new.items ≡ into.old.items ++ map (λ used. record { place = place; used = used }) uses.now) }
+    ensures { OnOk result (into.new.items ≡ into.old.items
+        ++ map (λ used. record { place = place; used = used }) uses.now) }
 {
     for used in uses {
         into.push(Pending { place, used: *used })?;
@@ -213,8 +224,10 @@ fn join(parts: &mut Vec<Part>, place: usize)
 
 fn mark_done(marks: &mut [Mark], numbers: &[Id])
     requires { All (λ number. number < length marks.old) numbers.now }
-    ensures listed { (number : ℕ) → IsTrue (is_listed numbers.now number) → slice_index_or marks.new number mark.New ≡ mark.Done }
-    ensures others { (number : ℕ) → is_listed numbers.now number ≡ false → slice_index_or marks.new number mark.New ≡ slice_index_or marks.old number mark.New }
+    ensures listed { (number : ℕ) → IsTrue (is_listed numbers.now number) →
+        slice_index_or marks.new number mark.New ≡ mark.Done }
+    ensures others { (number : ℕ) → is_listed numbers.now number ≡ false →
+        slice_index_or marks.new number mark.New ≡ slice_index_or marks.old number mark.New }
     ensures left { (us : List (List ℕ)) → new_left marks.new us ≤ new_left marks.old us }
 {
     for number in numbers {

@@ -1,11 +1,13 @@
 //! Whether the names in a list of modules have a fault, and what they mean where they have none.
-ghost use Rattle.std.specs.Prelude.{◌≡◌, ℕ, ◌<◌, [], All, List, map, length, option_map, slice_get, IfOk, IfErr, IfSome, Option, Some, None};
+ghost use Rattle.std.specs.Prelude.{◌≡◌, ℕ, ◌<◌, [], All, List, map, length, option_map, slice_get};
+ghost use Rattle.std.specs.Prelude.{IfOk, IfErr, IfSome, Option, Some, None};
 ghost use Rattle.std.specs.List.{flat_map};
 ghost use Rattle.guard_model.specs.Answer.{Gives};
 ghost use Rattle.guard_names.specs.declared.fault.NameFault.TheVariants as fault;
 ghost use Rattle.guard_names.specs.Declarations.{definitions, definition_of, origin_there};
 ghost use Rattle.guard_names.specs.inside.DeclarationViews.{declaration_view};
-ghost use Rattle.guard_names.specs.Faults.{AreFaultless, IsFirstFault, IsRecursiveAt, named, duplicate_after, first_found, undefined_in, fault_of_names};
+ghost use Rattle.guard_names.specs.Faults.{AreFaultless, IsFirstFault, IsRecursiveAt, named, duplicate_after};
+ghost use Rattle.guard_names.specs.Faults.{first_found, undefined_in, fault_of_names};
 ghost use Rattle.guard_names.specs.Meanings.{Uses, number_meant};
 ghost use Rattle.guard_names.specs.NamesView.{modules_of};
 ghost use Rattle.guard_names.specs.Order.{IsRecursive};
@@ -45,8 +47,8 @@ pub fn resolve<'m, 'a>(alloc: Global, modules: &'m [Module<'a>]) -> Result<Names
     by_uses(alloc, modules, meanings, &uses)
 }
 
-/// The answer of `resolve`, from what the names mean and what each definition uses. A definition that uses itself is the
-/// one fault that may be left.
+/// The answer of `resolve`, from what the names mean and what each definition uses. A definition that uses itself is
+/// the one fault that may be left.
 fn by_uses<'m, 'a>(
     alloc: Global,
     modules: &'m [Module<'a>],
@@ -55,7 +57,8 @@ fn by_uses<'m, 'a>(
 ) -> Result<Names<'m, 'a>, NameFault>
     requires modules { meanings.modules.now ≡ modules.now }
     requires named { fault_of_names (map module_view modules.now) ≡ None }
-    requires meant { (home name : List ℕ) → meaning_in meanings home name ≡ number_meant (map module_view modules.now) home name }
+    requires meant { (home name : List ℕ) →
+        meaning_in meanings home name ≡ number_meant (map module_view modules.now) home name }
     requires used { map (λ v. v.items) uses.now ≡ reading.uses_of_all (map module_view modules.now) }
     ensures faultless { IfOk result (λ _. AreFaultless (map module_view modules.now)) }
     ensures modules { IfOk result (λ names. modules_of names ≡ map module_view modules.now) }
@@ -71,7 +74,8 @@ fn meanings_and_uses<'m, 'a>(
     modules: &'m [Module<'a>],
 ) -> Result<(Meanings<'m, 'a>, Vec<Vec<Id>>), NameFault>
     ensures modules { IfOk result (λ p. p.0.modules.now ≡ modules.now) }
-    ensures meant { IfOk result (λ p. (home name : List ℕ) → meaning_in p.0 home name ≡ number_meant (map module_view modules.now) home name) }
+    ensures meant { IfOk result (λ p. (home name : List ℕ) →
+        meaning_in p.0 home name ≡ number_meant (map module_view modules.now) home name) }
     ensures used { IfOk result (λ p. reading.listed_uses p.1 ≡ reading.uses_of_all (map module_view modules.now)) }
     ensures refused { Gives reading.nothing named result (reading.check_names (map module_view modules.now)) }
 {
@@ -92,11 +96,15 @@ fn by_table<'m, 'a>(
     requires modules { table.now.modules.now ≡ modules.now }
     requires once { duplicate_after [] (map declaration_view declared.items) ≡ None }
     requires numbered { All (IsNumbered (map module_view modules.now)) declared.items }
-    requires origins { (scope : Option (List ℕ)) (name : List ℕ) → origin_in table.now scope name ≡ origin_there (map declaration_view declared.items) scope name }
+    requires origins { (scope : Option (List ℕ)) (name : List ℕ) →
+        origin_in table.now scope name ≡ origin_there (map declaration_view declared.items) scope name }
     ensures modules { IfOk result (λ p. p.0.modules.now ≡ modules.now) }
-    ensures meant { IfOk result (λ p. (home name : List ℕ) → meaning_in p.0 home name ≡ definition_of (origin_in table.now) home name) }
-    ensures used { IfOk result (λ p. reading.listed_uses p.1 ≡ flat_map (reading.used_in_module (definition_of (origin_in table.now))) (map module_view modules.now)) }
-    ensures refused { Gives reading.nothing named result (reading.refused_at fault.Undefined (first_found (undefined_in (origin_in table.now) (definition_of (origin_in table.now))) (map module_view modules.now))) }
+    ensures meant { IfOk result (λ p. (home name : List ℕ) →
+        meaning_in p.0 home name ≡ definition_of (origin_in table.now) home name) }
+    ensures used { IfOk result (λ p. reading.listed_uses p.1
+        ≡ flat_map (reading.used_in_module (definition_of (origin_in table.now))) (map module_view modules.now)) }
+    ensures refused { Gives reading.nothing named result (reading.refused_at fault.Undefined (first_found
+        (undefined_in (origin_in table.now) (definition_of (origin_in table.now))) (map module_view modules.now))) }
 {
     let meanings = meanings_of(alloc, modules, declared, table)?;
     let uses = uses(alloc, modules, table, &meanings)?;
@@ -113,9 +121,11 @@ fn meanings_of<'m, 'a>(
     requires modules { table.now.modules.now ≡ modules.now }
     requires once { duplicate_after [] (map declaration_view declared.items) ≡ None }
     requires numbered { All (IsNumbered (map module_view modules.now)) declared.items }
-    requires origins { (scope : Option (List ℕ)) (name : List ℕ) → origin_in table.now scope name ≡ origin_there (map declaration_view declared.items) scope name }
+    requires origins { (scope : Option (List ℕ)) (name : List ℕ) →
+        origin_in table.now scope name ≡ origin_there (map declaration_view declared.items) scope name }
     ensures modules { IfOk result (λ t. t.modules.now ≡ modules.now) }
-    ensures found { IfOk result (λ t. (home name : List ℕ) → meaning_in t home name ≡ definition_of (origin_in table.now) home name) }
+    ensures found { IfOk result (λ t. (home name : List ℕ) →
+        meaning_in t home name ≡ definition_of (origin_in table.now) home name) }
 {
     Meanings::of(alloc, modules, &declared, table)
 }
@@ -136,7 +146,8 @@ fn check_recursion(alloc: Global, modules: &[Module], uses: &[Vec<Id>]) -> Resul
 /// The fault of a definition that uses itself.
 fn recursive(modules: &[Module], number: Id) -> NameFault
     requires { number < length (definitions (map module_view modules.now)) }
-    ensures { option_map (λ d. fault.Recursive d.assignment.site) (slice_get (definitions (map module_view modules.now)) number) ≡ Some result }
+    ensures { option_map (λ d. fault.Recursive d.assignment.site)
+        (slice_get (definitions (map module_view modules.now)) number) ≡ Some result }
 {
     match home_of(modules, number) {
         Some((_, _, assignment)) => NameFault::Recursive(assignment.site),

@@ -61,8 +61,10 @@ impl<'m, 'a> Table<'m, 'a> {
     ) -> Result<Table<'m, 'a>, NameFault>
         requires numbered { All (IsNumbered (map module_view modules.now)) declarations.now }
         ensures modules { IfOk result (λ t. t.modules.now ≡ modules.now) }
-        ensures found { IfOk result (λ t. (scope : Option (List ℕ)) (name : List ℕ) → origin_in t scope name ≡ origin_there (map declaration_view declarations.now) scope name) }
-        ensures refused { Gives nothing named result (refused_at fault.Duplicate (duplicate_after [] (map declaration_view declarations.now))) }
+        ensures found { IfOk result (λ t. (scope : Option (List ℕ)) (name : List ℕ) →
+            origin_in t scope name ≡ origin_there (map declaration_view declarations.now) scope name) }
+        ensures refused { Gives nothing named result
+            (refused_at fault.Duplicate (duplicate_after [] (map declaration_view declarations.now))) }
     {
         let mut origins = IndexMap::new(alloc);
         for declaration in declarations {
@@ -92,7 +94,8 @@ impl<'m, 'a> Table<'m, 'a> {
 
     /// Where the name comes from that is declared in the module of this number.
     fn origin<'s>(&'s self, number: usize, name: &'s [u8]) -> Option<Origin<'s>>
-        ensures { (home : List ℕ) → module_number (map module_view self.now.modules.now) home ≡ Some number → option_map origin_view result ≡ origin_in self.now (Some home) name.now }
+        ensures { (home : List ℕ) → module_number (map module_view self.now.modules.now) home ≡ Some number →
+            option_map origin_view result ≡ origin_in self.now (Some home) name.now }
     {
         let scope = Some(number);
         self.origins.get(&Key { scope, name }).copied()
@@ -100,7 +103,8 @@ impl<'m, 'a> Table<'m, 'a> {
 
     /// The definition in which a name is assigned in the module of this number, if it is there.
     pub fn assigned(&self, number: Option<usize>, name: &[u8]) -> Option<Id>
-        ensures { (home : List ℕ) → number ≡ module_number (map module_view self.now.modules.now) home → result ≡ assigned_number (origin_in self.now (Some home) name.now) }
+        ensures { (home : List ℕ) → number ≡ module_number (map module_view self.now.modules.now) home →
+            result ≡ assigned_number (origin_in self.now (Some home) name.now) }
     {
         match self.origin(number?, name) {
             None => None,
@@ -112,7 +116,8 @@ impl<'m, 'a> Table<'m, 'a> {
 
     /// The definition in which a name is assigned in the module of this number, if it is there and exports the name.
     pub fn exported(&self, number: Option<usize>, name: &[u8]) -> Option<Id>
-        ensures { (home : List ℕ) → number ≡ module_number (map module_view self.now.modules.now) home → result ≡ exported_number (origin_in self.now (Some home) name.now) }
+        ensures { (home : List ℕ) → number ≡ module_number (map module_view self.now.modules.now) home →
+            result ≡ exported_number (origin_in self.now (Some home) name.now) }
     {
         match self.origin(number?, name) {
             None => None,

@@ -26,8 +26,10 @@ pub fn uses<'a>(
     table: &Table,
     meanings: &Meanings,
 ) -> Result<Vec<Vec<Id>>, NameFault>
-    ensures found { IfOk result (λ v. listed_uses v ≡ flat_map (used_in_module (meaning_in meanings.now)) (map module_view modules.now)) }
-    ensures refused { Gives nothing faults.named result (refused_at fault.Undefined (faults.first_found (faults.undefined_in (origin_in table.now) (meaning_in meanings.now)) (map module_view modules.now))) }
+    ensures found { IfOk result (λ v. listed_uses v
+        ≡ flat_map (used_in_module (meaning_in meanings.now)) (map module_view modules.now)) }
+    ensures refused { Gives nothing faults.named result (refused_at fault.Undefined (faults.first_found
+        (faults.undefined_in (origin_in table.now) (meaning_in meanings.now)) (map module_view modules.now))) }
 {
     let mut all = Vec::new(alloc);
     for module in modules {
@@ -43,7 +45,8 @@ fn check_exports<'a>(
     symbols: &[SymbolTree<'a>],
     table: &Table,
 ) -> Result<(), NameFault>
-    ensures { Gives nothing faults.named result (refused_at fault.Undefined (faults.first_where (faults.is_undefined_export (origin_in table.now) home.now) (λ s. s.site) (map symbol_view symbols.now))) }
+    ensures { Gives nothing faults.named result (refused_at fault.Undefined (faults.first_where
+        (faults.is_undefined_export (origin_in table.now) home.now) (λ s. s.site) (map symbol_view symbols.now))) }
 {
     let number = table.number_of(home);
     for symbol in symbols {
@@ -60,8 +63,11 @@ fn add_uses<'a>(
     meanings: &Meanings,
     into: &mut Vec<Vec<Id>>,
 ) -> Result<(), NameFault>
-    ensures found { OnOk result (listed_uses into.new ≡ listed_uses into.old ++ used_in_module (meaning_in meanings.now) (module_view tree.now)) }
-    ensures refused { Gives nothing faults.named result (refused_at fault.Undefined (faults.first_found (faults.undefined_mention_in (meaning_in meanings.now) tree.now.name.now) (map assignment_view tree.now.assignments.items))) }
+    ensures found { OnOk result (listed_uses into.new ≡ listed_uses into.old
+        ++ used_in_module (meaning_in meanings.now) (module_view tree.now)) }
+    ensures refused { Gives nothing faults.named result (refused_at
+        fault.Undefined (faults.first_found (faults.undefined_mention_in (meaning_in meanings.now) tree.now.name.now)
+        (map assignment_view tree.now.assignments.items))) }
 {
     let within = meanings.within(tree.name);
     for assignment in &tree.assignments {
@@ -73,8 +79,10 @@ fn add_uses<'a>(
 
 /// The definitions that an assignment in this module uses.
 fn uses_of(alloc: Global, within: &Within, assignment: &Assignment) -> Result<Vec<Id>, NameFault>
-    ensures found { IfOk result (λ v. v.items ≡ used_in (meaning_in within.now.meanings.now) within.now.home.now (assignment_view assignment.now)) }
-    ensures refused { Gives nothing faults.named result (refused_at fault.Undefined (faults.undefined_mention_in (meaning_in within.now.meanings.now) within.now.home.now (assignment_view assignment.now))) }
+    ensures found { IfOk result (λ v. v.items
+        ≡ used_in (meaning_in within.now.meanings.now) within.now.home.now (assignment_view assignment.now)) }
+    ensures refused { Gives nothing faults.named result (refused_at fault.Undefined (faults.undefined_mention_in
+        (meaning_in within.now.meanings.now) within.now.home.now (assignment_view assignment.now))) }
 {
     let mentioned = mentions(alloc, assignment)?;
     let mut used = Vec::new(alloc);
@@ -85,8 +93,11 @@ fn uses_of(alloc: Global, within: &Within, assignment: &Assignment) -> Result<Ve
 }
 
 fn add_use(within: &Within, mention: &Mention, into: &mut Vec<Id>) -> Result<(), NameFault>
-    ensures found { OnOk result (into.new.items ≡ into.old.items ++ filter_map (λ x. meaning_in within.now.meanings.now within.now.home.now x.name) (mention_view mention.now ∷ [])) }
-    ensures refused { Gives nothing faults.named result (refused_at fault.Undefined (faults.first_where (faults.is_undefined_mention (meaning_in within.now.meanings.now) within.now.home.now) (λ x. x.site) (mention_view mention.now ∷ []))) }
+    ensures found { OnOk result (into.new.items ≡ into.old.items ++ filter_map
+        (λ x. meaning_in within.now.meanings.now within.now.home.now x.name) (mention_view mention.now ∷ [])) }
+    ensures refused { Gives nothing faults.named result (refused_at fault.Undefined
+        (faults.first_where (faults.is_undefined_mention (meaning_in within.now.meanings.now) within.now.home.now)
+        (λ x. x.site) (mention_view mention.now ∷ []))) }
 {
     match within.find(mention.name) {
         Some(number) => {

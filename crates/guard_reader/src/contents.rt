@@ -2,7 +2,8 @@
 ghost use Rattle.std.specs.Prelude.{◌≡◌, ◌∷◌, map, pos, [], if◌then◌else◌};
 ghost use Rattle.std.specs.Option.{is_none};
 ghost use Rattle.guard_der.specs.Fits.{is_item};
-ghost use Rattle.guard_der.specs.Simple.{simple_fault, boolean_fault, integer_fault, null_fault, bits_fault, enumerated_fault, object_id_fault, is_text};
+ghost use Rattle.guard_der.specs.Simple.{simple_fault, boolean_fault, integer_fault, null_fault, bits_fault};
+ghost use Rattle.guard_der.specs.Simple.{enumerated_fault, object_id_fault, is_text};
 ghost use Rattle.guard_tables.specs.NodeViews.{kind_view, unnamed};
 
 use crate::kind_alphabets::are_characters;

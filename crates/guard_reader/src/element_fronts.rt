@@ -5,7 +5,8 @@ ghost use Rattle.guard_der.specs.Reading.{same_form};
 ghost use Rattle.guard_tables.specs.NodesView.{spots_in};
 ghost use Rattle.guard_tables.specs.Plan.{body_in, form_in, tags_in};
 ghost use Rattle.guard_tables.specs.TableNodes.{body_at, spot_at};
-ghost use Rattle.guard_reader.specs.Fronts.{all_inside, alone, begins, body_front, element_in, far_front, front, front_cut, front_of, head_front, innermost, parts_front, after_one};
+ghost use Rattle.guard_reader.specs.Fronts.{all_inside, alone, begins, body_front, element_in, far_front, front};
+ghost use Rattle.guard_reader.specs.Fronts.{front_cut, front_of, head_front, innermost, parts_front, after_one};
 ghost use Rattle.guard_reader.specs.Octets.{split};
 ghost use Rattle.guard_reader.specs.inside.FrontViews.{front_view};
 ghost use Rattle.guard_reader.specs.inside.NodeParts.{IsChoice};
@@ -78,7 +79,8 @@ pub fn cut_off(octets: &[u8]) -> Front<'_>
 #[inline(never)]
 fn far_front<'a>(table: &Nodes, at: usize, octets: &'a [u8]) -> Front<'a>
     requires { at < vec_len table.now.hots }
-    ensures { front_view result ≡ far_front (tags_in (spot_at (spots_in table.now) at).plan) (form_in (spot_at (spots_in table.now) at).plan)
+    ensures { front_view result
+        ≡ far_front (tags_in (spot_at (spots_in table.now) at).plan) (form_in (spot_at (spots_in table.now) at).plan)
         octets.now (body_front (body_at (spots_in table.now) at) octets.now) }
 {
     let outside = outermost(table, at);
@@ -103,7 +105,8 @@ fn head_front<'a>(tag: &Tag, constructed: bool, octets: &'a [u8]) -> Front<'a>
 #[tactic(auto, using(crate::proofs::HighTags::spelled_there))]
 fn after_spelled<'a>(tag: &Tag, constructed: bool, octets: &'a [u8]) -> Option<&'a [u8]>
     ensures high { IfSome result (λ r. 31 ≤ tag.now.number) }
-    ensures same { IfSome result (λ r. front_cut (split (after_one r.now)) ≡ head_front tag.now constructed octets.now) }
+    ensures same { IfSome result (λ r. front_cut (split (after_one r.now))
+        ≡ head_front tag.now constructed octets.now) }
 {
     match octets {
         [first, number, ..] if is_spelled(tag, constructed, *first, *number) => Some(&octets[1..]),
@@ -222,7 +225,8 @@ pub fn element(front: Front<'_>) -> Option<(&[u8], &[u8])>
 pub fn innermost<'a>(table: &Nodes, at: usize, octets: &'a [u8]) -> Option<&'a [u8]>
     requires { at < vec_len table.now.hots }
     ensures { option_map (λ inside. inside.now) result
-        ≡ innermost (tags_in (spot_at (spots_in table.now) at).plan) (form_in (spot_at (spots_in table.now) at).plan) octets.now }
+        ≡ innermost (tags_in (spot_at (spots_in table.now) at).plan) (form_in (spot_at (spots_in table.now) at).plan)
+        octets.now }
 {
     let node = &table.hots[at];
     if !has_layers(node.kind) {

@@ -113,7 +113,8 @@ fn narrow(low: u32, high: u32) -> (u8, u8)
 
 /// Whether each octet of a text is a character.
 pub fn has_one_octet(kind: CharKind) -> bool
-    ensures { (os : List ℕ) → result ≡ true → (is_text kind os ≡ all_characters kind os) × (characters_of kind os ≡ os) }
+    ensures { (os : List ℕ) → result ≡ true → (is_text kind os ≡ all_characters kind os)
+        × (characters_of kind os ≡ os) }
 {
     match kind {
         CharKind::Numeric => true,

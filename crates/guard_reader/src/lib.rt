@@ -42,4 +42,3 @@ mod whole;
 pub use alphabet::all_in;
 pub use marks::Marks;
 pub use table_walk::walk;
-pub use walking::failures;

@@ -1,5 +1,6 @@
 //! Components of a SET: which one is next, and which were read.
-ghost use Rattle.std.specs.Prelude.{◌≡◌, ◌+◌, ◌%◌, ◌<◌, ◌≤◌, ◌||◌, slice_index, ℕ, List, true, length, nat_eq, vec_len, IfSome, Some, option_map};
+ghost use Rattle.std.specs.Prelude.{◌≡◌, ◌+◌, ◌%◌, ◌<◌, ◌≤◌, ◌||◌, slice_index, ℕ, List, true};
+ghost use Rattle.std.specs.Prelude.{length, nat_eq, vec_len, IfSome, Some, option_map};
 ghost use Rattle.std.specs.Int.{bit_at};
 ghost use Rattle.guard_tables.specs.NodesView.{spots_in};
 ghost use Rattle.guard_tables.specs.TableNodes.{parts_between};
@@ -115,7 +116,8 @@ pub fn passed(table: &Nodes, first: usize, below: usize, floor: u8, octets: &[u8
     requires room { first + below ≤ vec_len table.now.hots }
     requires passed { AreBelow table.now first below floor }
     ensures few { result ≤ below }
-    ensures elsewhere { (k : ℕ) → first ≤ k → k < first + result → sight_at (spots_in table.now) k octets.now ≡ elsewhere }
+    ensures elsewhere { (k : ℕ) → first ≤ k → k < first + result →
+        sight_at (spots_in table.now) k octets.now ≡ elsewhere }
     ensures passed { AreBelow table.now first result (rank_of octets.now) }
 {
     let here = rank_of(octets);
@@ -177,7 +179,8 @@ pub fn member<'a>(
 ) -> Option<(usize, &'a [u8], &'a [u8])>
     requires room { first + count ≤ vec_len table.now.hots }
     requires few { passed ≤ count }
-    requires elsewhere { (k : ℕ) → first ≤ k → k < first + passed → sight_at (spots_in table.now) k octets.now ≡ elsewhere }
+    requires elsewhere { (k : ℕ) → first ≤ k → k < first + passed →
+        sight_at (spots_in table.now) k octets.now ≡ elsewhere }
     ensures found { option_map (λ m. (m.0, m.1.now, m.2.now)) result
         ≡ member_found (parts_between (spots_in table.now) first count) 0 octets.now }
     ensures place { IfSome result (λ m. m.0 < count) }

@@ -6,7 +6,8 @@ ghost use Rattle.std.specs.Str.{is_utf8, chars};
 ghost use Rattle.guard_der.specs.Simple.{simple_fault, simple_value, bits_fault, bits_of, is_text, characters_of};
 ghost use Rattle.guard_eval.specs.Elements.{size_of, is_in_some};
 ghost use Rattle.guard_integers.specs.Integers.{holds};
-ghost use Rattle.guard_tables.specs.Marking.{Facts, facts, number_in, characters_in, some_passes, test_passes, conditions_marked};
+ghost use Rattle.guard_tables.specs.Marking.{Facts, facts, number_in, characters_in, some_passes};
+ghost use Rattle.guard_tables.specs.Marking.{test_passes, conditions_marked};
 ghost use Rattle.guard_tables.specs.NodeViews.{kind_view, condition_view, test_view};
 ghost use Rattle.guard_model.specs.AbstractType.{characters};
 ghost use Rattle.guard_tables.specs.declared.slots.Slots.{Slots};
@@ -33,7 +34,8 @@ use guard_tables::{Cold, Condition, Conditions, SimpleKind, Slots, Test};
 #[tactic(auto, unfolding(crate::specs::Judging::contents_judged))]
 pub fn simple(cold: &Cold, kind: SimpleKind, inside: &[u8], failed: &mut Slots) -> bool
     ensures { Answers result failed.new
-        (contents_judged (simple (kind_view kind cold.now.items.items) (conditions_of cold.now)) inside.now failed.old) }
+        (contents_judged (simple (kind_view kind cold.now.items.items) (conditions_of cold.now)) inside.now
+        failed.old) }
 {
     if is_spelled_at_once(&cold.conditions.list, kind, inside) {
         return true;

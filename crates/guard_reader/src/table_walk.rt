@@ -14,9 +14,11 @@ use guard_tables::{Slots, Table};
 /// declared type.
 pub fn walk(table: &Table, octets: &[u8]) -> Option<Marks>
     // A value of the declared type has the octets as its encoding, and the marks are those of the types that have it.
-    ensures marks { IfSome result (λ m. (v : AbstractValue) × IsTrue (fits (declared_of table.now) v) × (der (declared_of table.now) v ≡ Some octets.now) × HasMarks m (table_types table.now) v) }
+    ensures marks { IfSome result (λ m. (v : AbstractValue) × IsTrue (fits (declared_of table.now) v)
+        × (der (declared_of table.now) v ≡ Some octets.now) × HasMarks m (table_types table.now) v) }
     // There are marks for the encoding of each value of the declared type.
-    ensures only { (v : AbstractValue) → IsTrue (fits (declared_of table.now) v) → der (declared_of table.now) v ≡ Some octets.now → IsSome result }
+    ensures only { (v : AbstractValue) → IsTrue (fits (declared_of table.now) v) →
+        der (declared_of table.now) v ≡ Some octets.now → IsSome result }
 {
     let failed = failures(&table.nodes, octets)?;
     let all = Slots::below(table.rules() as u16 + 1);

@@ -136,8 +136,8 @@ fn node_contents(table: &Nodes, at: usize, node: &Hot, inside: &[u8], failed: &m
     }
 }
 
-/// Contents octets of the node that is inside another one. Called from here alone, so that the call of `contents` above can
-/// be compiled into each caller.
+/// Contents octets of the node that is inside another one. Called from here alone, so that the call of `contents` above
+/// can be compiled into each caller.
 #[cycle(walking)]
 #[cold]
 #[inline(never)]

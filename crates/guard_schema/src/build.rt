@@ -86,7 +86,8 @@ fn index_of(
     values: &[Option<Arc<Value>>],
     modules: &[Module],
 ) -> Result<TypeIndex, AllocError>
-    ensures { IfOk result (λ index. (home name : List ℕ) → found_in index home name ≡ first_named home name (entries_from (type_place (order_of names.now) values.now) 0 (definitions (map module_view modules.now)))) }
+    ensures { IfOk result (λ index. (home name : List ℕ) → found_in index home name ≡ first_named home name
+        (entries_from (type_place (order_of names.now) values.now) 0 (definitions (map module_view modules.now)))) }
 {
     let mut index = TypeIndex::new(alloc);
     let mut all = Vec::new(alloc);
@@ -106,7 +107,8 @@ fn with_module<'a>(
     tree: &Module<'a>,
     before: Vec<NamedDefinition<'a>>,
 ) -> Result<Vec<NamedDefinition<'a>>, AllocError>
-    ensures { IfOk result (λ v. map entry_view v.items ≡ map entry_view before.entry.items ++ entries_from (type_place (order_of names.now) values.now) (length before.entry.items) (defined_in (module_view tree.now))) }
+    ensures { IfOk result (λ v. map entry_view v.items ≡ map entry_view before.entry.items ++ entries_from
+        (type_place (order_of names.now) values.now) (length before.entry.items) (defined_in (module_view tree.now))) }
 {
     let mut all = before;
     for assignment in &tree.assignments {

@@ -30,8 +30,8 @@ use guard_syntax::{Module, ValueTree};
 use guard_values::{Known, ValueFault, value};
 use std::alloc::Global;
 
-/// Modules whose definitions are built: what names mean in them, and the schema that they denote. Values that stand alone
-/// are read over it, with the names that they would have in one of the modules.
+/// Modules whose definitions are built: what names mean in them, and the schema that they denote. Values that stand
+/// alone are read over it, with the names that they would have in one of the modules.
 #[derive(Drop)]
 pub struct BuiltModules<'m, 'a> {
     names: Names<'m, 'a>,
@@ -41,8 +41,8 @@ pub struct BuiltModules<'m, 'a> {
 impl<'m, 'a> BuiltModules<'m, 'a> {
     /// What is known of the definitions of modules that texts are, with the schema.
     ///
-    /// Faults are looked for in the order of `Schema::build`: names over all modules (N1 to N6), and then one definition
-    /// after the other. OutOfMemory may come in place of any answer.
+    /// Faults are looked for in the order of `Schema::build`: names over all modules (N1 to N6), and then one
+    /// definition after the other. OutOfMemory may come in place of any answer.
     pub fn of(alloc: Global, modules: &'m [Module<'a>]) -> Result<BuiltModules<'m, 'a>, SchemaFault>
         requires { AreOfTexts (map module_view modules.now) }
         // What is answered is what is known of them, or a refusal names their first fault.
@@ -56,8 +56,8 @@ impl<'m, 'a> BuiltModules<'m, 'a> {
         Ok(BuiltModules { names, schema })
     }
 
-    /// The value of a type that a tree denotes, as if it were written in the module of this name; or its first fault, as
-    /// `guard_values::value` says it. In a module without definitions no name means a value. The type is sound.
+    /// The value of a type that a tree denotes, as if it were written in the module of this name; or its first fault,
+    /// as `guard_values::value` says it. In a module without definitions no name means a value. The type is sound.
     pub fn value(
         &self,
         alloc: Global,
@@ -67,11 +67,14 @@ impl<'m, 'a> BuiltModules<'m, 'a> {
     ) -> Result<Value, ValueFault>
         requires { IsTrue (is_sound (type_view ty.now)) }
         // The value is the one denoted.
-        ensures denoted { IfOk result (λ v. Denotes (values_in (known_of self.now) home.now) (type_view ty.now) (trees.value_view tree.now) (value_view v)) }
+        ensures denoted { IfOk result (λ v. Denotes (values_in (known_of self.now) home.now) (type_view ty.now)
+            (trees.value_view tree.now) (value_view v)) }
         ensures fits { IfOk result (λ v. IsTrue (fits (type_view ty.now) (value_view v))) }
         // A refusal names the tree's first fault, and then nothing is denoted.
-        ensures first { IfErr result (λ e. IfSome (values.named e) (IsFirstFault (values_in (known_of self.now) home.now) (type_view ty.now) (trees.value_view tree.now))) }
-        ensures none { IfErr result (λ e. IfSome (values.named e) (λ f. (v : AbstractValue) → Denotes (values_in (known_of self.now) home.now) (type_view ty.now) (trees.value_view tree.now) v → ⊥)) }
+        ensures first { IfErr result (λ e. IfSome (values.named e)
+            (IsFirstFault (values_in (known_of self.now) home.now) (type_view ty.now) (trees.value_view tree.now))) }
+        ensures none { IfErr result (λ e. IfSome (values.named e) (λ f. (v : AbstractValue) →
+            Denotes (values_in (known_of self.now) home.now) (type_view ty.now) (trees.value_view tree.now) v → ⊥)) }
     {
         match definition_in(&self.names, home.as_bytes()) {
             Some(id) => value(alloc, &self.names, &self.schema.known, id, ty, tree),
@@ -88,10 +91,13 @@ fn value_without_names(
     tree: &ValueTree,
 ) -> Result<Value, ValueFault>
     requires { IsTrue (is_sound (type_view ty.now)) }
-    ensures denoted { IfOk result (λ v. Denotes no_values (type_view ty.now) (trees.value_view tree.now) (value_view v)) }
+    ensures denoted { IfOk result
+        (λ v. Denotes no_values (type_view ty.now) (trees.value_view tree.now) (value_view v)) }
     ensures fits { IfOk result (λ v. IsTrue (fits (type_view ty.now) (value_view v))) }
-    ensures first { IfErr result (λ e. IfSome (values.named e) (IsFirstFault no_values (type_view ty.now) (trees.value_view tree.now))) }
-    ensures none { IfErr result (λ e. IfSome (values.named e) (λ f. (v : AbstractValue) → Denotes no_values (type_view ty.now) (trees.value_view tree.now) v → ⊥)) }
+    ensures first { IfErr result
+        (λ e. IfSome (values.named e) (IsFirstFault no_values (type_view ty.now) (trees.value_view tree.now))) }
+    ensures none { IfErr result (λ e. IfSome (values.named e) (λ f. (v : AbstractValue) →
+        Denotes no_values (type_view ty.now) (trees.value_view tree.now) v → ⊥)) }
 {
     let known = Known {
         types: Vec::new(alloc),

@@ -10,7 +10,8 @@ ghost use Rattle.guard_syntax.specs.SetViews as sets;
 ghost use Rattle.guard_syntax.specs.TypeViews as written;
 ghost use Rattle.guard_constraints.specs.Views.{visible_in};
 ghost use Rattle.guard_schema.specs.Faults.{named};
-ghost use Rattle.guard_schema.specs.Finishing.{with_constraint, AddsOne, Adds, Sizes, ConstrainsBefore, ConstrainsByOne};
+ghost use Rattle.guard_schema.specs.Finishing.{with_constraint, AddsOne, Adds, Sizes};
+ghost use Rattle.guard_schema.specs.Finishing.{ConstrainsBefore, ConstrainsByOne};
 ghost use Rattle.guard_schema.specs.LongValues.{first_long};
 ghost use Rattle.guard_schema.specs.Readings.{HasShortValues};
 ghost use Rattle.guard_schema.specs.inside.InTurn.{ConstrainsWritten};
@@ -27,12 +28,13 @@ use guard_syntax::{BaseTree, ConsTree, OfConsTree, TypeTree};
 use guard_values::Scope;
 use std::alloc::{AllocError, Global};
 
-/// The type that is written so, whose parts are finished, with its constraints: those that it has before those after it,
-/// and these.
+/// The type that is written so, whose parts are finished, with its constraints: those that it has before those after
+/// it, and these.
 pub fn with_written(alloc: Global, scope: Scope, tree: &TypeTree, ty: Ty) -> Result<Ty, SchemaFault>
     requires part { IsWrittenPart (written.type_view tree.now) (type_view ty) }
     requires known { AreBuilt scope.known.now }
-    ensures constrained { Answers type_view named result (ConstrainsWritten (visible_in scope.entry) (written.type_view tree.now) (type_view ty)) }
+    ensures constrained { Answers type_view named result
+        (ConstrainsWritten (visible_in scope.entry) (written.type_view tree.now) (type_view ty)) }
     ensures sound { IfOk result (λ t. IsTrue (is_sound (type_view t))) }
 {
     let before = constrained_before(alloc, scope, &tree.base, ty)?;
@@ -48,7 +50,8 @@ fn with_constraints(
 ) -> Result<Ty, SchemaFault>
     requires sound { IsTrue (is_sound (type_view ty)) }
     requires known { AreBuilt scope.known.now }
-    ensures added { Answers type_view named result (Adds (visible_in scope.entry) (map sets.constraint_view trees.now) (type_view ty)) }
+    ensures added { Answers type_view named result
+        (Adds (visible_in scope.entry) (map sets.constraint_view trees.now) (type_view ty)) }
     ensures sound { IfOk result (λ t. IsTrue (is_sound (type_view t))) }
 {
     let mut constrained = ty;
@@ -62,7 +65,8 @@ fn with_constraints(
 fn with_constraint(alloc: Global, scope: Scope, tree: &ConsTree, ty: Ty) -> Result<Ty, SchemaFault>
     requires sound { IsTrue (is_sound (type_view ty)) }
     requires known { AreBuilt scope.known.now }
-    ensures added { Answers type_view named result (AddsOne (visible_in scope.entry) (sets.constraint_view tree.now) (type_view ty)) }
+    ensures added { Answers type_view named result
+        (AddsOne (visible_in scope.entry) (sets.constraint_view tree.now) (type_view ty)) }
     ensures sound { IfOk result (λ t. IsTrue (is_sound (type_view t))) }
 {
     let cons = read_constraint(alloc, scope, &ty, tree)?;
@@ -100,7 +104,8 @@ fn constrained_before(
 ) -> Result<Ty, SchemaFault>
     requires part { IsPart (written.base_view base.now) (type_view ty) }
     requires known { AreBuilt scope.known.now }
-    ensures constrained { Answers type_view named result (ConstrainsBefore (visible_in scope.entry) (written.base_view base.now) (type_view ty)) }
+    ensures constrained { Answers type_view named result
+        (ConstrainsBefore (visible_in scope.entry) (written.base_view base.now) (type_view ty)) }
     ensures sound { IfOk result (λ t. IsTrue (is_sound (type_view t))) }
 {
     match base {
@@ -123,7 +128,8 @@ fn by_one(alloc: Global, scope: Scope, before: &OfConsTree, ty: Ty) -> Result<Ty
     requires sound { IsTrue (is_sound (type_view ty)) }
     requires sizes { IsTrue (takes_size (kind_of (type_view ty))) }
     requires known { AreBuilt scope.known.now }
-    ensures constrained { Answers type_view named result (ConstrainsByOne (visible_in scope.entry) (before_view before.now) before.now.size (type_view ty)) }
+    ensures constrained { Answers type_view named result
+        (ConstrainsByOne (visible_in scope.entry) (before_view before.now) before.now.size (type_view ty)) }
     ensures sound { IfOk result (λ t. IsTrue (is_sound (type_view t))) }
 {
     if before.size {
@@ -138,7 +144,8 @@ fn sized(alloc: Global, scope: Scope, before: &OfConsTree, ty: Ty) -> Result<Ty,
     requires sound { IsTrue (is_sound (type_view ty)) }
     requires sizes { IsTrue (takes_size (kind_of (type_view ty))) }
     requires known { AreBuilt scope.known.now }
-    ensures constrained { Answers type_view named result (Sizes (visible_in scope.entry) (before_view before.now) (type_view ty)) }
+    ensures constrained { Answers type_view named result
+        (Sizes (visible_in scope.entry) (before_view before.now) (type_view ty)) }
     ensures sound { IfOk result (λ t. IsTrue (is_sound (type_view t))) }
 {
     let number = Ty::integer(alloc)?;

@@ -57,7 +57,8 @@ fn held_in_kind(so_far: usize, kind: &Kind) -> usize
 
 #[cycle(held)]
 fn held_in_components(before: usize, comps: &[Comp]) -> usize
-    ensures { result ≡ min (before + counting.held_in_components (model.components_of (map model.component_view comps.now))) 100001 }
+    ensures { result
+        ≡ min (before + counting.held_in_components (model.components_of (map model.component_view comps.now))) 100001 }
 {
     let mut so_far = before.min(TOO_MUCH);
     for comp in comps {
@@ -78,7 +79,8 @@ fn nodes_of_presence(so_far: usize, presence: &Presence) -> usize
 
 #[cycle(held)]
 fn constraint_nodes(before: usize, all: &[Cons]) -> usize
-    ensures { result ≡ min (before + counting.constraint_nodes (model.constraints_of (map model.constraint_view all.now))) 100001 }
+    ensures { result
+        ≡ min (before + counting.constraint_nodes (model.constraints_of (map model.constraint_view all.now))) 100001 }
 {
     let mut so_far = before.min(TOO_MUCH);
     for cons in all {

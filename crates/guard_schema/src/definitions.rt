@@ -1,5 +1,6 @@
 //! What definitions denote, each in turn.
-ghost use Rattle.std.specs.Prelude.{All, true, ◌≡◌, ◌↔◌, ◌+◌, ◌≤◌, length, map, nat_le, option_map, slice_get, Some, IsTrue, IfOk, IfSome};
+ghost use Rattle.std.specs.Prelude.{All, true, ◌≡◌, ◌↔◌, ◌+◌, ◌≤◌, length, map, nat_le, option_map};
+ghost use Rattle.std.specs.Prelude.{slice_get, Some, IsTrue, IfOk, IfSome};
 ghost use Rattle.guard_der.specs.Fits.{fits};
 ghost use Rattle.guard_der.specs.Sound.{is_sound};
 ghost use Rattle.guard_model.specs.TypeView.{type_view};
@@ -46,7 +47,8 @@ pub fn all_built<'m, 'a>(
     names: &'m Names<'m, 'a>,
 ) -> Result<Progress<'m, 'a>, SchemaFault>
     requires spelled { All IsSpelledModule (modules_of names.now) }
-    ensures built { Answers built_in named result (BuildsAll (none_known (modules_of names.now) (order_of names.now)) (order_of names.now)) }
+    ensures built { Answers built_in named result
+        (BuildsAll (none_known (modules_of names.now) (order_of names.now)) (order_of names.now)) }
     ensures names { IfOk result (λ p. p.names.now ≡ names.now) }
 {
     let order = names.order();
@@ -63,12 +65,16 @@ pub fn all_built<'m, 'a>(
 fn built(alloc: Global, progress: &Progress, id: Id) -> Result<Definition, SchemaFault>
     requires next { slice_get (order_of progress.now.names.now) (length progress.now.known.types.items) ≡ Some id }
     requires spelled { All IsSpelledModule (modules_of progress.now.names.now) }
-    requires flags { AreMeanings (modules_of progress.now.names.now) (order_of progress.now.names.now) (map type_view progress.now.known.types.items) (known_list (map type_view progress.now.known.types.items) progress.now.automatic.items) }
+    requires flags { AreMeanings (modules_of progress.now.names.now)
+        (order_of progress.now.names.now) (map type_view progress.now.known.types.items)
+        (known_list (map type_view progress.now.known.types.items) progress.now.automatic.items) }
     ensures built { Answers definition_view named result (BuildsNumber (known_view progress.now) id) }
     ensures sound { IfOk result (λ d. IsTrue (is_sound (definition_view d).ty)) }
     ensures fits { IfOk result (λ d. IfSome (definition_view d).value (λ v. IsTrue (fits (definition_view d).ty v))) }
-    ensures nodes { IfOk result (λ d. (d.nodes ≡ progress.now.nodes + tagging.nodes (definition_view d).ty) × (d.nodes ≤ tagging.most_nodes)) }
-    ensures held { IfOk result (λ d. (d.held ≡ progress.now.held + held_by (definition_view d)) × (d.held ≤ most_held)) }
+    ensures nodes { IfOk result (λ d. (d.nodes ≡ progress.now.nodes + tagging.nodes (definition_view d).ty)
+        × (d.nodes ≤ tagging.most_nodes)) }
+    ensures held { IfOk result (λ d. (d.held ≡ progress.now.held + held_by (definition_view d))
+        × (d.held ≤ most_held)) }
     ensures automatic { IfOk result (λ d. (d.is_automatic ≡ true) ↔ Automatic (modules_of progress.now.names.now) id) }
 {
     let Some((_, assignment)) = progress.names.home(id) else {
@@ -87,9 +93,12 @@ fn tagged_apart(
 ) -> Result<TaggedType, SchemaFault>
     requires next { slice_get (order_of progress.now.names.now) (length progress.now.known.types.items) ≡ Some id }
     requires spelled { All IsSpelledModule (modules_of progress.now.names.now) }
-    requires flags { AreMeanings (modules_of progress.now.names.now) (order_of progress.now.names.now) (map type_view progress.now.known.types.items) (known_list (map type_view progress.now.known.types.items) progress.now.automatic.items) }
+    requires flags { AreMeanings (modules_of progress.now.names.now)
+        (order_of progress.now.names.now) (map type_view progress.now.known.types.items)
+        (known_list (map type_view progress.now.known.types.items) progress.now.automatic.items) }
     ensures tagged { Answers (λ s. type_view s.ty) named result (TagsApart (known_view progress.now) id site) }
-    ensures nodes { IfOk result (λ s. (s.nodes ≡ progress.now.nodes + tagging.nodes (type_view s.ty)) × (s.nodes ≤ tagging.most_nodes)) }
+    ensures nodes { IfOk result (λ s. (s.nodes ≡ progress.now.nodes + tagging.nodes (type_view s.ty))
+        × (s.nodes ≤ tagging.most_nodes)) }
     ensures automatic { IfOk result (λ s. (s.is_automatic ≡ true) ↔ Automatic (modules_of progress.now.names.now) id) }
 {
     let tagged = skeleton_after(alloc, progress.names, &progress.done(), id)?;
@@ -105,14 +114,18 @@ fn completed(
     assignment: &Assignment,
     tagged: TaggedType,
 ) -> Result<Definition, SchemaFault>
-    requires ready { IsReady (visible_at progress.now.names.now progress.now.known id) (assignment_view assignment.now).ty (type_view tagged.ty) }
+    requires ready { IsReady (visible_at progress.now.names.now progress.now.known id)
+        (assignment_view assignment.now).ty (type_view tagged.ty) }
     requires nodes { tagged.nodes ≡ progress.now.nodes + tagging.nodes (type_view tagged.ty) }
     requires few { tagged.nodes ≤ tagging.most_nodes }
-    ensures built { Answers definition_view named result (CompletesInTurn (known_view progress.now) (visible_at progress.now.names.now progress.now.known id) (assignment_view assignment.now) (type_view tagged.ty)) }
+    ensures built { Answers definition_view named result (CompletesInTurn (known_view progress.now) (visible_at
+        progress.now.names.now progress.now.known id) (assignment_view assignment.now) (type_view tagged.ty)) }
     ensures sound { IfOk result (λ d. IsTrue (is_sound (definition_view d).ty)) }
     ensures fits { IfOk result (λ d. IfSome (definition_view d).value (λ v. IsTrue (fits (definition_view d).ty v))) }
-    ensures nodes { IfOk result (λ d. (d.nodes ≡ progress.now.nodes + tagging.nodes (definition_view d).ty) × (d.nodes ≤ tagging.most_nodes)) }
-    ensures held { IfOk result (λ d. (d.held ≡ progress.now.held + held_by (definition_view d)) × (d.held ≤ most_held)) }
+    ensures nodes { IfOk result (λ d. (d.nodes ≡ progress.now.nodes + tagging.nodes (definition_view d).ty)
+        × (d.nodes ≤ tagging.most_nodes)) }
+    ensures held { IfOk result (λ d. (d.held ≡ progress.now.held + held_by (definition_view d))
+        × (d.held ≤ most_held)) }
     ensures automatic { IfOk result (λ d. d.is_automatic ≡ tagged.is_automatic) }
 {
     let TaggedType {
@@ -161,7 +174,8 @@ fn valued(
 ) -> Result<(Option<Arc<Value>>, usize), SchemaFault>
     requires sound { IsTrue (is_sound (type_view ty.now)) }
     requires known { AreBuilt scope.known.now }
-    ensures built { Answers (λ r. built_view ty.now r.0) named result (HasValue (known_view progress.now) (visible_in scope.entry) (assignment_view assignment.now) (type_view ty.now)) }
+    ensures built { Answers (λ r. built_view ty.now r.0) named result (HasValue (known_view progress.now)
+        (visible_in scope.entry) (assignment_view assignment.now) (type_view ty.now)) }
     ensures fits { IfOk result (λ r. IfSome r.0 (λ v. IsTrue (fits (type_view ty.now) (shared_view v)))) }
     ensures held { IfOk result (λ r. (r.1 ≡ progress.now.held + held_by (built_view ty.now r.0)) × (r.1 ≤ most_held)) }
 {
@@ -179,7 +193,8 @@ fn assigned(
 ) -> Result<Option<Arc<Value>>, SchemaFault>
     requires sound { IsTrue (is_sound (type_view ty.now)) }
     requires known { AreBuilt scope.known.now }
-    ensures read { Answers (option_map shared_view) named result (Assigns (visible_in scope.entry) (type_view ty.now) (perhaps_value_view value.now)) }
+    ensures read { Answers (option_map shared_view) named result
+        (Assigns (visible_in scope.entry) (type_view ty.now) (perhaps_value_view value.now)) }
     ensures fits { IfOk result (λ o. IfSome o (λ v. IsTrue (fits (type_view ty.now) (shared_view v)))) }
 {
     match value {

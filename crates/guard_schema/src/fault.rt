@@ -43,8 +43,8 @@ pub enum SchemaFault {
     OutOfMemory,
 }
 
-// What a conversion gives is said by what the fault names, not case by case: where a layer ran out of memory, so did the
-// schema.
+// What a conversion gives is said by what the fault names, not case by case: where a layer ran out of memory, so did
+// the schema.
 impl From<LexFault> for SchemaFault {
     ghost use Rattle.guard_lexer.specs.Lexing.{fault_named};
 

@@ -42,7 +42,8 @@ pub struct Filling {
 pub fn finished(alloc: Global, scope: Scope, tree: &TypeTree, bare: Ty) -> Result<Ty, SchemaFault>
     requires known { AreBuilt scope.known.now }
     requires ready { ready.IsReady (visible_in scope) (written.type_view tree.now) (type_view bare) }
-    ensures finished { Answers type_view named result (in_turn.FinishesInTurn (visible_in scope.entry) (written.type_view tree.now) (type_view bare)) }
+    ensures finished { Answers type_view named result
+        (in_turn.FinishesInTurn (visible_in scope.entry) (written.type_view tree.now) (type_view bare)) }
     ensures sound { IfOk result (λ t. IsTrue (is_sound (type_view t))) }
 {
     let filled = with_parts(alloc, scope, &tree.base, bare)?;
@@ -55,7 +56,8 @@ fn with_parts(alloc: Global, scope: Scope, base: &BaseTree, bare: Ty) -> Result<
     requires known { AreBuilt scope.known.now }
     requires ready { ready.IsReadyBase (visible_in scope) (written.base_view base.now) (type_view bare) }
     ensures part { IfOk result (λ t. ready.IsPart (written.base_view base.now) (type_view t)) }
-    ensures filled { Answers type_view named result (in_turn.PartsInTurn (visible_in scope.entry) (written.base_view base.now) (type_view bare)) }
+    ensures filled { Answers type_view named result
+        (in_turn.PartsInTurn (visible_in scope.entry) (written.base_view base.now) (type_view bare)) }
 {
     let Ty { tags, kind, cons } = bare;
     let inside = finished_kind(alloc, scope, base, kind)?;
@@ -71,7 +73,8 @@ fn finished_kind(
 ) -> Result<Kind, SchemaFault>
     requires known { AreBuilt scope.known.now }
     requires ready { ready.IsReadyKind (visible_in scope) (written.base_view base.now) (kind_view kind) }
-    ensures { Answers kind_view named result (in_turn.KindInTurn (visible_in scope.entry) (written.base_view base.now) (kind_view kind)) }
+    ensures { Answers kind_view named result
+        (in_turn.KindInTurn (visible_in scope.entry) (written.base_view base.now) (kind_view kind)) }
 {
     match base {
         BaseTree::Structure(_, trees) => list(alloc, scope, trees, kind),
@@ -85,8 +88,10 @@ fn finished_kind(
 #[cycle(finishing)]
 fn list(alloc: Global, scope: Scope, trees: &[CompTree], kind: Kind) -> Result<Kind, SchemaFault>
     requires known { AreBuilt scope.known.now }
-    requires ready { ready.IsReadyStructure (visible_in scope) (components_of (map written.component_view trees.now)) (kind_view kind) }
-    ensures { Answers kind_view named result (in_turn.ListInTurn (in_turn.FillsInTurn (visible_in scope.entry) (components_of (map written.component_view trees.now))) (kind_view kind)) }
+    requires ready { ready.IsReadyStructure (visible_in scope) (components_of (map written.component_view trees.now))
+        (kind_view kind) }
+    ensures { Answers kind_view named result (in_turn.ListInTurn (in_turn.FillsInTurn (visible_in scope.entry)
+        (components_of (map written.component_view trees.now))) (kind_view kind)) }
 {
     match kind {
         Kind::Sequence(bare) => Ok(Kind::Sequence(components(alloc, scope, trees, bare)?)),
@@ -103,8 +108,10 @@ fn choice(
     kind: Kind,
 ) -> Result<Kind, SchemaFault>
     requires known { AreBuilt scope.known.now }
-    requires ready { ready.IsReadyChoice (visible_in scope) (alternatives_of (map written.alternative_view trees.now)) (kind_view kind) }
-    ensures { Answers kind_view named result (in_turn.ChoiceInTurn (in_turn.OthersInTurn (visible_in scope.entry) (alternatives_of (map written.alternative_view trees.now))) (kind_view kind)) }
+    requires ready { ready.IsReadyChoice (visible_in scope) (alternatives_of (map written.alternative_view trees.now))
+        (kind_view kind) }
+    ensures { Answers kind_view named result (in_turn.ChoiceInTurn (in_turn.OthersInTurn (visible_in scope.entry)
+        (alternatives_of (map written.alternative_view trees.now))) (kind_view kind)) }
 {
     match kind {
         Kind::Choice(bare) => Ok(Kind::Choice(alternatives(alloc, scope, trees, bare)?)),
@@ -117,7 +124,8 @@ fn choice(
 fn elements(alloc: Global, scope: Scope, tree: &TypeTree, kind: Kind) -> Result<Kind, SchemaFault>
     requires known { AreBuilt scope.known.now }
     requires ready { ready.IsReadyOf (visible_in scope) (written.type_view tree.now) (kind_view kind) }
-    ensures { Answers kind_view named result (in_turn.ElementInTurn (in_turn.FinishesInTurn (visible_in scope.entry) (written.type_view tree.now)) (kind_view kind)) }
+    ensures { Answers kind_view named result (in_turn.ElementInTurn
+        (in_turn.FinishesInTurn (visible_in scope.entry) (written.type_view tree.now)) (kind_view kind)) }
 {
     match kind {
         Kind::SequenceOf(bare) => Ok(Kind::SequenceOf(boxed(alloc, scope, tree, bare)?)),
@@ -135,7 +143,8 @@ fn boxed(
 ) -> Result<Box<Ty>, SchemaFault>
     requires known { AreBuilt scope.known.now }
     requires ready { ready.IsReady (visible_in scope) (written.type_view tree.now) (type_view bare.value) }
-    ensures { Answers (λ b. type_view b.value) named result (in_turn.FinishesInTurn (visible_in scope.entry) (written.type_view tree.now) (type_view bare.value)) }
+    ensures { Answers (λ b. type_view b.value) named result
+        (in_turn.FinishesInTurn (visible_in scope.entry) (written.type_view tree.now) (type_view bare.value)) }
 {
     let element = finished(alloc, scope, tree, Box::into_inner(bare))?;
     Ok(Box::new(alloc, element)?)
@@ -151,8 +160,11 @@ fn components(
     bare: Vec<Comp>,
 ) -> Result<Vec<Comp>, SchemaFault>
     requires known { AreBuilt scope.known.now }
-    requires ready { ready.AreReady (visible_in scope) (components_of (map written.component_view trees.now)) (model.components_of (map component_view bare.items)) }
-    ensures { Answers (λ v. map component_view v.items) named result (in_turn.FillsAll (in_turn.FillsInTurn (visible_in scope.entry) (components_of (map written.component_view trees.now))) (ready.listed (model.components_of (map component_view bare.items)))) }
+    requires ready { ready.AreReady (visible_in scope) (components_of (map written.component_view trees.now))
+        (model.components_of (map component_view bare.items)) }
+    ensures { Answers (λ v. map component_view v.items) named result (in_turn.FillsAll
+        (in_turn.FillsInTurn (visible_in scope.entry) (components_of (map written.component_view trees.now)))
+        (ready.listed (model.components_of (map component_view bare.items)))) }
 {
     let start = unfilled(alloc, bare)?;
     let filling = fill(alloc, scope, trees, start)?;
@@ -167,8 +179,11 @@ fn alternatives(
     bare: Vec<Comp>,
 ) -> Result<Vec<Comp>, SchemaFault>
     requires known { AreBuilt scope.known.now }
-    requires ready { ready.OthersAreReady (visible_in scope) (alternatives_of (map written.alternative_view trees.now)) (model.components_of (map component_view bare.items)) }
-    ensures { Answers (λ v. map component_view v.items) named result (in_turn.FillsAll (in_turn.OthersInTurn (visible_in scope.entry) (alternatives_of (map written.alternative_view trees.now))) (ready.listed (model.components_of (map component_view bare.items)))) }
+    requires ready { ready.OthersAreReady (visible_in scope) (alternatives_of (map written.alternative_view trees.now))
+        (model.components_of (map component_view bare.items)) }
+    ensures { Answers (λ v. map component_view v.items) named result (in_turn.FillsAll
+        (in_turn.OthersInTurn (visible_in scope.entry) (alternatives_of (map written.alternative_view trees.now)))
+        (ready.listed (model.components_of (map component_view bare.items)))) }
 {
     let start = unfilled(alloc, bare)?;
     let filling = fill_alternatives(alloc, scope, trees, start)?;
@@ -194,8 +209,10 @@ fn fill(
     filling: Filling,
 ) -> Result<Filling, SchemaFault>
     requires known { AreBuilt scope.known.now }
-    requires next { ready.AreNext (visible_in scope) (components_of (map written.component_view trees.now)) (filling_view filling).left }
-    ensures { Answers filling_view named result (in_turn.FillsInTurn (visible_in scope.entry) (components_of (map written.component_view trees.now)) (filling_view filling)) }
+    requires next { ready.AreNext (visible_in scope) (components_of (map written.component_view trees.now))
+        (filling_view filling).left }
+    ensures { Answers filling_view named result (in_turn.FillsInTurn (visible_in scope.entry)
+        (components_of (map written.component_view trees.now)) (filling_view filling)) }
 {
     let mut so_far = filling;
     for tree in trees {
@@ -212,8 +229,10 @@ fn fill_entry(
     filling: Filling,
 ) -> Result<Filling, SchemaFault>
     requires known { AreBuilt scope.known.now }
-    requires next { ready.IsEntryNext (visible_in scope) (written.component_view tree.now).form (filling_view filling).left }
-    ensures { Answers filling_view named result (in_turn.EntryInTurn (visible_in scope.entry) (written.component_view tree.now).form (filling_view filling)) }
+    requires next { ready.IsEntryNext (visible_in scope) (written.component_view tree.now).form
+        (filling_view filling).left }
+    ensures { Answers filling_view named result
+        (in_turn.EntryInTurn (visible_in scope.entry) (written.component_view tree.now).form (filling_view filling)) }
 {
     match &tree.form {
         CompForm::Named(_, ty, presence) => fill_next(alloc, scope, ty, presence, filling),
@@ -230,8 +249,10 @@ fn fill_alternatives(
     filling: Filling,
 ) -> Result<Filling, SchemaFault>
     requires known { AreBuilt scope.known.now }
-    requires next { ready.OthersAreNext (visible_in scope) (alternatives_of (map written.alternative_view trees.now)) (filling_view filling).left }
-    ensures { Answers filling_view named result (in_turn.OthersInTurn (visible_in scope.entry) (alternatives_of (map written.alternative_view trees.now)) (filling_view filling)) }
+    requires next { ready.OthersAreNext (visible_in scope) (alternatives_of (map written.alternative_view trees.now))
+        (filling_view filling).left }
+    ensures { Answers filling_view named result (in_turn.OthersInTurn (visible_in scope.entry)
+        (alternatives_of (map written.alternative_view trees.now)) (filling_view filling)) }
 {
     let mut so_far = filling;
     for tree in trees {
@@ -249,7 +270,8 @@ fn fill_alternative(
 ) -> Result<Filling, SchemaFault>
     requires known { AreBuilt scope.known.now }
     requires next { ready.IsNext (visible_in scope) (written.alternative_view tree.now).ty (filling_view filling).left }
-    ensures { Answers filling_view named result (in_turn.AlternativeInTurn (visible_in scope.entry) (written.alternative_view tree.now) (filling_view filling)) }
+    ensures { Answers filling_view named result (in_turn.AlternativeInTurn (visible_in scope.entry)
+        (written.alternative_view tree.now) (filling_view filling)) }
 {
     fill_next(alloc, scope, &tree.ty, &PresenceTree::Mandatory, filling)
 }
@@ -265,7 +287,9 @@ fn fill_next(
 ) -> Result<Filling, SchemaFault>
     requires known { AreBuilt scope.known.now }
     requires next { ready.IsNext (visible_in scope) (written.type_view tree.now) (filling_view filling).left }
-    ensures { Answers filling_view named result (in_turn.FillsNext (visible_in scope.entry) (in_turn.FinishesInTurn (visible_in scope.entry) (written.type_view tree.now)) (written.presence_view presence.now) (filling_view filling).done (filling_view filling).left) }
+    ensures { Answers filling_view named result (in_turn.FillsNext (visible_in scope.entry)
+        (in_turn.FinishesInTurn (visible_in scope.entry) (written.type_view tree.now))
+        (written.presence_view presence.now) (filling_view filling).done (filling_view filling).left) }
 {
     let mut filling = filling;
     match filling.left.pop_front() {
@@ -286,7 +310,9 @@ fn fill_one(
 ) -> Result<Filling, SchemaFault>
     requires known { AreBuilt scope.known.now }
     requires ready { ready.IsReady (visible_in scope) (written.type_view tree.now) (component_view bare).ty }
-    ensures { Answers filling_view named result (in_turn.FillsOne (visible_in scope.entry) (in_turn.FinishesInTurn (visible_in scope.entry) (written.type_view tree.now)) (written.presence_view presence.now) (component_view bare) (filling_view filling)) }
+    ensures { Answers filling_view named result (in_turn.FillsOne
+        (visible_in scope.entry) (in_turn.FinishesInTurn (visible_in scope.entry) (written.type_view tree.now))
+        (written.presence_view presence.now) (component_view bare) (filling_view filling)) }
 {
     let comp = finished_component(alloc, scope, tree, presence, bare)?;
     Ok(with_done(comp, filling)?)
@@ -312,7 +338,9 @@ fn finished_component(
 ) -> Result<Comp, SchemaFault>
     requires known { AreBuilt scope.known.now }
     requires ready { ready.IsReady (visible_in scope) (written.type_view tree.now) (component_view bare).ty }
-    ensures { Answers component_view named result (in_turn.OneInTurn (visible_in scope.entry) (in_turn.FinishesInTurn (visible_in scope.entry) (written.type_view tree.now)) (written.presence_view presence.now) (component_view bare)) }
+    ensures { Answers component_view named result (in_turn.OneInTurn
+        (visible_in scope.entry) (in_turn.FinishesInTurn (visible_in scope.entry) (written.type_view tree.now))
+        (written.presence_view presence.now) (component_view bare)) }
 {
     let Comp { name, ty, .. } = bare;
     let filled = finished(alloc, scope, tree, ty)?;
@@ -329,7 +357,8 @@ fn with_presence(
 ) -> Result<Comp, SchemaFault>
     requires sound { IsTrue (is_sound (type_view ty)) }
     requires known { AreBuilt scope.known.now }
-    ensures { Answers component_view named result (in_turn.WithPresence (visible_in scope.entry) (written.presence_view presence.now) (arc_str_bytes name) (type_view ty)) }
+    ensures { Answers component_view named result (in_turn.WithPresence (visible_in scope.entry)
+        (written.presence_view presence.now) (arc_str_bytes name) (type_view ty)) }
 {
     let presence = presence_of(alloc, scope, &ty, presence)?;
     Ok(Comp { name, ty, presence })
@@ -344,7 +373,8 @@ fn presence_of(
 ) -> Result<Presence, SchemaFault>
     requires sound { IsTrue (is_sound (type_view ty.now)) }
     requires known { AreBuilt scope.known.now }
-    ensures { Answers presence_view named result (finishing.FillsPresence (visible_in scope.entry) (type_view ty.now) (written.presence_view presence.now)) }
+    ensures { Answers presence_view named result
+        (finishing.FillsPresence (visible_in scope.entry) (type_view ty.now) (written.presence_view presence.now)) }
 {
     match presence {
         PresenceTree::Mandatory => Ok(Presence::Mandatory),
@@ -365,7 +395,8 @@ fn fill_from(
 ) -> Result<Filling, SchemaFault>
     requires known { AreBuilt scope.known.now }
     requires next { ready.ArePutInNext (visible_in scope) (written.base_view base.now) (filling_view filling).left }
-    ensures { Answers filling_view named result (in_turn.FromBaseInTurn (visible_in scope.entry) (written.base_view base.now) (filling_view filling)) }
+    ensures { Answers filling_view named result
+        (in_turn.FromBaseInTurn (visible_in scope.entry) (written.base_view base.now) (filling_view filling)) }
 {
     match base {
         BaseTree::Structure(_, trees) => fill(alloc, scope, trees, filling),
@@ -377,7 +408,8 @@ fn fill_from(
 /// Those of the type of this name are taken over as they are.
 fn reference_taken_over(scope: Scope, name: &[u8], filling: Filling) -> Result<Filling, SchemaFault>
     requires enough { finishing.count_of_meant ((visible_in scope).types name.now) ≤ length filling.left.items }
-    ensures { Answers filling_view named result (Is (in_turn.taken_over (finishing.count_of_meant ((visible_in scope.entry).types name.now)) (filling_view filling))) }
+    ensures { Answers filling_view named result (Is (in_turn.taken_over
+        (finishing.count_of_meant ((visible_in scope.entry).types name.now)) (filling_view filling))) }
 {
     let count = put_in(scope.type_named(name));
     Ok(taken_over(filling, count)?)

@@ -24,7 +24,8 @@ impl TypeIndex {
         }
     }
 
-    /// With these definitions of the module of this name, whose name is copied once. The first one with two names stays.
+    /// With these definitions of the module of this name, whose name is copied once. The first one with two names
+    /// stays.
     pub fn with(
         self,
         alloc: Global,
@@ -32,7 +33,8 @@ impl TypeIndex {
         definitions: &[NamedDefinition],
     ) -> Result<TypeIndex, AllocError>
         requires { All (λ d. d.home.now ≡ home.now) definitions.now }
-        ensures { IfOk result (λ after. (q name : List ℕ) → found_in after q name ≡ option_or (found_in self q name) (first_named q name (map entry_view definitions.now))) }
+        ensures { IfOk result (λ after. (q name : List ℕ) → found_in after q name
+            ≡ option_or (found_in self q name) (first_named q name (map entry_view definitions.now))) }
     {
         let mut homes = self.homes;
         let places = match homes.shift_remove(home) {
@@ -59,7 +61,8 @@ fn with_places(
     before: IndexMap<Vec<u8>, Option<usize>>,
     definitions: &[NamedDefinition],
 ) -> Result<IndexMap<Vec<u8>, Option<usize>>, AllocError>
-    ensures { IfOk result (λ after. (q : List ℕ) → looked_up (λ key. key.items) q after.entries ≡ option_or (looked_up (λ key. key.items) q before.entries) (first_place q (map entry_view definitions.now))) }
+    ensures { IfOk result (λ after. (q : List ℕ) → looked_up (λ key. key.items) q after.entries
+        ≡ option_or (looked_up (λ key. key.items) q before.entries) (first_place q (map entry_view definitions.now))) }
 {
     let mut places = before;
     for definition in definitions {
@@ -75,7 +78,8 @@ fn with_place(
     name: &[u8],
     place: Option<usize>,
 ) -> Result<IndexMap<Vec<u8>, Option<usize>>, AllocError>
-    ensures { IfOk result (λ after. (q : List ℕ) → looked_up (λ key. key.items) q after.entries ≡ option_or (looked_up (λ key. key.items) q before.entries) (place_if q name.now place)) }
+    ensures { IfOk result (λ after. (q : List ℕ) → looked_up (λ key. key.items) q after.entries
+        ≡ option_or (looked_up (λ key. key.items) q before.entries) (place_if q name.now place)) }
 {
     let mut places = before;
     if !places.contains_key(name) {

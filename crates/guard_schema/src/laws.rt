@@ -20,8 +20,8 @@ pub fn law_one_schema(texts: &[&[u8]])
     law_one_fault();
 }
 
-/// Of the definitions in texts one thing is known at most, and where it is the texts have no fault; of their first fault
-/// there is one, as `law_one_schema` says. So a name has one meaning in a value that stands alone.
+/// Of the definitions in texts one thing is known at most, and where it is the texts have no fault; of their first
+/// fault there is one, as `law_one_schema` says. So a name has one meaning in a value that stands alone.
 pub fn law_one_known(texts: &[&[u8]])
     ensures { IsDecided (Knows (map (λ t. t.now) texts.now)) }
 {
@@ -47,8 +47,8 @@ pub fn law_unfinished()
 {}
 
 /// A type that is finished from what its tree denotes by its tags is sound. That the constraints of a type that is
-/// referred to are lawful under other tags too is looked for where it is referred to: a value that gets too long there is
-/// the only fault (V8) that they can have.
+/// referred to are lawful under other tags too is looked for where it is referred to: a value that gets too long there
+/// is the only fault (V8) that they can have.
 pub fn law_finished_sound()
     ensures { AreSound }
 {}

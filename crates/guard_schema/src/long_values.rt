@@ -30,7 +30,8 @@ pub fn check_values(alloc: Global, ty: &Ty) -> Result<(), SchemaFault>
 /// Where the first one is in constraints on the type.
 #[cycle(long_in)]
 fn long_in_all(alloc: Global, all: &[Cons], ty: &Ty) -> Result<Option<Site>, OutOfMemory>
-    ensures { IfOk result (λ site. site ≡ long_values.long_in_all (type_view ty.now) (constraints_of (map constraint_view all.now))) }
+    ensures { IfOk result
+        (λ site. site ≡ long_values.long_in_all (type_view ty.now) (constraints_of (map constraint_view all.now))) }
 {
     for cons in all {
         if let Some(site) = long_in(alloc, cons, ty)? {
@@ -64,7 +65,8 @@ fn long_value(
     ty: &Ty,
     value: &Value,
 ) -> Result<Option<Site>, OutOfMemory>
-    ensures { IfOk result (λ found. found ≡ long_values.site_where (long_values.is_long (type_view ty.now) (value_view value.now)) site) }
+    ensures { IfOk result
+        (λ found. found ≡ long_values.site_where (long_values.is_long (type_view ty.now) (value_view value.now)) site) }
 {
     if !fits(alloc, ty, value)? {
         return Ok(None);

@@ -45,7 +45,8 @@ pub struct Progress<'m, 'a> {
     pub ghost holding: { held ≡ all_held (paired known.types.items known.values.items) },
     pub ghost little: { held ≤ most_held },
     pub ghost sound: { All (λ t. IsTrue (is_sound (type_view t))) known.types.items } by { Prim.hlevel props },
-    pub ghost fitting: { All (λ b. IfSome b.value (λ v. IsTrue (fits b.ty v))) (paired known.types.items known.values.items) } by { Prim.hlevel props },
+    pub ghost fitting: { All (λ b. IfSome b.value (λ v. IsTrue (fits b.ty v)))
+        (paired known.types.items known.values.items) } by { Prim.hlevel props },
 }
 
 impl<'m, 'a> Progress<'m, 'a> {
@@ -89,14 +90,16 @@ impl<'m, 'a> Progress<'m, 'a> {
     /// others would break what holds of it.
     pub fn with(self, definition: Definition) -> Result<Progress<'m, 'a>, AllocError>
         requires sound { IsTrue (is_sound (definition_view definition).ty) }
-        requires fits { IfSome (definition_view definition).value (λ v. IsTrue (fits (definition_view definition).ty v)) }
+        requires fits { IfSome (definition_view definition).value
+            (λ v. IsTrue (fits (definition_view definition).ty v)) }
         requires nodes { definition.nodes ≡ self.nodes + tagging.nodes (definition_view definition).ty }
         requires few { definition.nodes ≤ tagging.most_nodes }
         requires held { definition.held ≡ self.held + held_by (definition_view definition) }
         requires little { definition.held ≤ most_held }
         ensures names { IfOk result (λ p. p.names.now ≡ self.entry.names.now) }
         ensures types { IfOk result (λ p. p.known.types.items ≡ self.entry.known.types.items ++ definition.ty ∷ []) }
-        ensures flags { IfOk result (λ p. p.automatic.items ≡ self.entry.automatic.items ++ definition.is_automatic ∷ []) }
+        ensures flags { IfOk result (λ p. p.automatic.items ≡ self.entry.automatic.items
+            ++ definition.is_automatic ∷ []) }
         ensures more { IfOk result (λ p. built_in p ≡ built_in self.entry ++ definition_view definition ∷ []) }
     {
         let Progress {

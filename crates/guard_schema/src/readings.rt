@@ -30,7 +30,8 @@ pub fn read_member(
 ) -> Result<Arc<Value>, SchemaFault>
     requires sound { IsTrue (is_sound (type_view ty.now)) }
     requires known { AreBuilt scope.known.now }
-    ensures read { Answers shared_view named result (ReadsMember (visible_in scope.entry) (type_view ty.now) (values.value_view tree.now)) }
+    ensures read { Answers shared_view named result
+        (ReadsMember (visible_in scope.entry) (type_view ty.now) (values.value_view tree.now)) }
     ensures fits { IfOk result (λ v. IsTrue (fits (type_view ty.now) (shared_view v))) }
 {
     let value = read_value(alloc, scope, ty, tree)?;
@@ -50,7 +51,8 @@ pub fn read_value(
 ) -> Result<Arc<Value>, SchemaFault>
     requires sound { IsTrue (is_sound (type_view ty.now)) }
     requires known { AreBuilt scope.known.now }
-    ensures read { Answers shared_view named result (ReadsValue (visible_in scope.entry) (type_view ty.now) (values.value_view tree.now)) }
+    ensures read { Answers shared_view named result
+        (ReadsValue (visible_in scope.entry) (type_view ty.now) (values.value_view tree.now)) }
     ensures fits { IfOk result (λ v. IsTrue (fits (type_view ty.now) (shared_view v))) }
 {
     let Scope { names, known, id } = scope;
@@ -66,7 +68,8 @@ pub fn read_constraint(
 ) -> Result<Cons, SchemaFault>
     requires sound { IsTrue (is_sound (type_view ty.now)) }
     requires known { AreBuilt scope.known.now }
-    ensures read { Answers constraint_view named result (ReadsConstraint (visible_in scope.entry) (type_view ty.now) (sets.constraint_view tree.now)) }
+    ensures read { Answers constraint_view named result
+        (ReadsConstraint (visible_in scope.entry) (type_view ty.now) (sets.constraint_view tree.now)) }
     ensures proper { IfOk result (λ c. IsTrue (is_proper_constraint (constraint_view c) (type_view ty.now))) }
 {
     let Scope { names, known, id } = scope;

@@ -15,8 +15,8 @@ use guard_model::Ty;
 use guard_values::Known;
 use std::alloc::Global;
 
-/// What the texts of modules denote: the names of the modules, in the order of the texts, of which there are 64 at most,
-/// and the types by the names to which modules assign them. Each type is sound. Policies are loaded over it.
+/// What the texts of modules denote: the names of the modules, in the order of the texts, of which there are 64 at
+/// most, and the types by the names to which modules assign them. Each type is sound. Policies are loaded over it.
 #[derive(Drop)]
 pub struct Schema {
     pub(crate) modules: Vec<String>,
@@ -24,7 +24,8 @@ pub struct Schema {
     /// What each definition is built to, by the order of definitions.
     pub(crate) known: Known,
     pub ghost sound: { All (λ t. IsTrue (is_sound (model.type_view t))) known.types.items } by { Prim.hlevel props },
-    pub ghost fitting: { All (λ b. IfSome b.value (λ v. IsTrue (fits b.ty v))) (paired known.types.items known.values.items) } by { Prim.hlevel props },
+    pub ghost fitting: { All (λ b. IfSome b.value (λ v. IsTrue (fits b.ty v)))
+        (paired known.types.items known.values.items) } by { Prim.hlevel props },
     pub ghost few: { length (map string_bytes modules.items) ≤ 64 },
 }
 
@@ -51,12 +52,14 @@ impl Schema {
         // A refusal names the texts' first fault, unless memory ran out. Then they denote no schema (`law_one_schema`).
         ensures refused { IfErr result (λ f. IfSome (named f) (IsRefused (map (λ t. t.now) texts.now))) }
         // The schema that the texts denote is answered, unless memory runs out.
-        ensures only { (s : AbstractSchema) → Accepts (map (λ t. t.now) texts.now) s → Gives schema_view named result (Ok s) }
+        ensures only { (s : AbstractSchema) → Accepts (map (λ t. t.now) texts.now) s →
+            Gives schema_view named result (Ok s) }
         // It has a type for each definition in the texts that assigns one, the finished type of what its tree denotes,
         // and no others.
         ensures types { IfOk result (λ schema. HasTypesOf (map (λ t. t.now) texts.now) (schema_view schema)) }
         // Each of its types is sound.
-        ensures sound { IfOk result (λ schema. (home name : List ℕ) → IfSome ((schema_view schema).types home name) (λ t. IsTrue (is_sound t))) }
+        ensures sound { IfOk result (λ schema. (home name : List ℕ) →
+            IfSome ((schema_view schema).types home name) (λ t. IsTrue (is_sound t))) }
     {
         law_one_schema(texts);
         schema_of(alloc, texts)
@@ -64,7 +67,8 @@ impl Schema {
 
     /// The type to which the module of this name assigns a name. It is sound.
     pub fn ty(&self, module_name: &str, name: &str) -> Option<&Ty>
-        ensures named { option_map (λ ty. model.type_view ty.now) result ≡ (schema_view self.now).types module_name.now name.now }
+        ensures named { option_map (λ ty. model.type_view ty.now) result
+            ≡ (schema_view self.now).types module_name.now name.now }
         ensures sound { IfSome result (λ ty. IsTrue (is_sound (model.type_view ty.now))) }
     {
         let place = self.index.find(module_name.as_bytes(), name.as_bytes())?;

@@ -4,7 +4,8 @@ ghost use Rattle.guard_model.specs.Answer.{Gives};
 ghost use Rattle.guard_syntax.specs.inside.ReadTokens as tokens_reading;
 ghost use Rattle.guard_syntax.specs.inside.Cursors.{ahead, Reads, each_view, boxed_view};
 ghost use Rattle.guard_syntax.specs.inside.ReadModule as reading;
-ghost use Rattle.guard_syntax.specs.ModuleViews.{symbol_view, exports_view, perhaps_exports_view, import_view, imports_view};
+ghost use Rattle.guard_syntax.specs.ModuleViews.{symbol_view, exports_view, perhaps_exports_view};
+ghost use Rattle.guard_syntax.specs.ModuleViews.{import_view, imports_view};
 
 use crate::cursor::{Cursor, Read};
 use crate::module_identifiers::identifier;
@@ -45,7 +46,8 @@ fn exported<'a, 't>(alloc: Global, at: Cursor<'a, 't>) -> Read<'a, 't, ExportsTr
 /// One or more names, separated by commas. Each takes a token, so there are no more than tokens.
 #[tactic(auto, using(crate::proofs::Loops::parted_loop))]
 fn symbols<'a, 't>(alloc: Global, at: Cursor<'a, 't>) -> Read<'a, 't, Vec<SymbolTree<'a>>>
-    ensures { Reads (each_view symbol_view) result (tokens_reading.read_parted reading.read_symbol (length (ahead at.entry)) (ahead at.entry)) }
+    ensures { Reads (each_view symbol_view) result
+        (tokens_reading.read_parted reading.read_symbol (length (ahead at.entry)) (ahead at.entry)) }
 {
     let mut all = Vec::new(alloc);
     let mut rest = at;
@@ -95,7 +97,8 @@ pub fn imports<'a, 't>(
 /// Imports up to the semicolon. Each takes a token, so there are no more than tokens.
 #[tactic(auto, using(crate::proofs::Loops::each_loop))]
 fn all_imports<'a, 't>(alloc: Global, at: Cursor<'a, 't>) -> Read<'a, 't, Vec<ImportTree<'a>>>
-    ensures { Reads (each_view import_view) result (tokens_reading.read_each reading.goes_on_importing reading.read_import (length (ahead at.entry)) (ahead at.entry)) }
+    ensures { Reads (each_view import_view) result (tokens_reading.read_each reading.goes_on_importing
+        reading.read_import (length (ahead at.entry)) (ahead at.entry)) }
 {
     let mut all = Vec::new(alloc);
     let mut rest = at;

@@ -102,7 +102,8 @@ fn tag_default_at(at: Cursor) -> Option<TagDefault>
 /// The assignments up to the word END. Each takes a token, so there are no more than tokens.
 #[tactic(auto, using(crate::proofs::Loops::each_loop))]
 fn assignments<'a, 't>(alloc: Global, at: Cursor<'a, 't>) -> Read<'a, 't, Vec<Assignment<'a>>>
-    ensures { Reads (each_view assignment_view) result (tokens_reading.read_each reading.goes_on_assigning reading.read_assignment (length (ahead at.entry)) (ahead at.entry)) }
+    ensures { Reads (each_view assignment_view) result (tokens_reading.read_each reading.goes_on_assigning
+        reading.read_assignment (length (ahead at.entry)) (ahead at.entry)) }
 {
     let mut all = Vec::new(alloc);
     let mut rest = at;

@@ -40,7 +40,8 @@ fn some_parts<'a, 't>(alloc: Global, at: Cursor<'a, 't>) -> Read<'a, 't, Vec<Par
 /// Parts up to the closing brace. Each takes a token, so there are no more than tokens.
 #[tactic(auto, using(crate::proofs::Loops::each_loop))]
 fn parts<'a, 't>(alloc: Global, at: Cursor<'a, 't>) -> Read<'a, 't, Vec<PartTree<'a>>>
-    ensures { Reads (each_view identifier_part_view) result (tokens_reading.read_each does_not_close reading.read_identifier_part (length (ahead at.entry)) (ahead at.entry)) }
+    ensures { Reads (each_view identifier_part_view) result (tokens_reading.read_each does_not_close
+        reading.read_identifier_part (length (ahead at.entry)) (ahead at.entry)) }
 {
     let mut all = Vec::new(alloc);
     let mut rest = at;

@@ -39,7 +39,8 @@ fn some_named<'a, 't>(
     signed: bool,
     at: Cursor<'a, 't>,
 ) -> Read<'a, 't, Vec<NamedTree<'a>>>
-    ensures { Reads (each_view named_view) result (tokens_reading.read_parted (reading.read_named (read_perhaps_signed signed)) (length (ahead at.entry)) (ahead at.entry)) }
+    ensures { Reads (each_view named_view) result (tokens_reading.read_parted
+        (reading.read_named (read_perhaps_signed signed)) (length (ahead at.entry)) (ahead at.entry)) }
 {
     let mut all = Vec::new(alloc);
     let mut rest = at;
@@ -89,7 +90,8 @@ pub fn items<'a, 't>(alloc: Global, at: Cursor<'a, 't>) -> Read<'a, 't, Vec<Item
 /// One or more items, separated by commas. Each takes a token, so there are no more than tokens.
 #[tactic(auto, using(crate::proofs::Loops::parted_loop))]
 fn some_items<'a, 't>(alloc: Global, at: Cursor<'a, 't>) -> Read<'a, 't, Vec<ItemTree<'a>>>
-    ensures { Reads (each_view item_view) result (tokens_reading.read_parted reading.read_item (length (ahead at.entry)) (ahead at.entry)) }
+    ensures { Reads (each_view item_view) result
+        (tokens_reading.read_parted reading.read_item (length (ahead at.entry)) (ahead at.entry)) }
 {
     let mut all = Vec::new(alloc);
     let mut rest = at;

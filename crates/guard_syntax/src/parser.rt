@@ -32,7 +32,8 @@ pub fn parse<'a>(
     ensures sites { IfOk result (λ m. HasSites (module_view m) (sites_of tokens.now)) }
     // A tree that is written with these tokens is answered, unless memory runs out. So a fault comes only where there
     // is none.
-    ensures only { (m : WrittenModule) → IsWritten m (lexemes_of text.now tokens.now) → Gives module_view fault_of result (Ok (sited m (sites_of tokens.now))) }
+    ensures only { (m : WrittenModule) → IsWritten m (lexemes_of text.now tokens.now) →
+        Gives module_view fault_of result (Ok (sited m (sites_of tokens.now))) }
     // P1 is at a token or where the text ends, P2 names a token of a form that is left out, P3 is at a token.
     ensures named { IfErr result (NamesToken place text.now tokens.now) }
 {

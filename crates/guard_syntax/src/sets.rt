@@ -5,7 +5,10 @@ ghost use Rattle.guard_syntax.specs.inside.ReadTokens as tokens_reading;
 ghost use Rattle.guard_syntax.specs.inside.Cursors.{ahead, Reads, each_view, boxed_view};
 ghost use Rattle.guard_syntax.specs.inside.ReadValues.{read_value};
 ghost use Rattle.guard_syntax.specs.inside.ReadSets as reading;
-ghost use Rattle.guard_syntax.specs.SetViews.{site_of_element, site_of_difference, element_form_view, element_view, perhaps_element_view, difference_view, joined_difference_view, intersection_view, joined_intersection_view, set_form_view, set_view, constraint_view, perhaps_constraint_view, part_view};
+ghost use Rattle.guard_syntax.specs.SetViews.{site_of_element, site_of_difference, element_form_view, element_view};
+ghost use Rattle.guard_syntax.specs.SetViews.{perhaps_element_view, difference_view, joined_difference_view};
+ghost use Rattle.guard_syntax.specs.SetViews.{intersection_view, joined_intersection_view, set_form_view, set_view};
+ghost use Rattle.guard_syntax.specs.SetViews.{constraint_view, perhaps_constraint_view, part_view};
 
 use crate::cursor::{Cursor, Read};
 use crate::join_marks::{
@@ -75,7 +78,8 @@ fn inner_set<'a, 't>(
     levels: u8,
     at: Cursor<'a, 't>,
 ) -> Read<'a, 't, Box<SetTree<'a>>>
-    ensures { Reads (boxed_view set_view) result (reading.read_inner_set (read_value levels) (reading.read_set levels) (ahead at.entry)) }
+    ensures { Reads (boxed_view set_view) result
+        (reading.read_inner_set (read_value levels) (reading.read_set levels) (ahead at.entry)) }
 {
     let (form, rest) = set_form(alloc, levels, at)?;
     let site = at.site();
@@ -85,7 +89,8 @@ fn inner_set<'a, 't>(
 #[cycle(sets)]
 #[tactic(auto, unfolding(crate::specs::inside::ReadSets::read_set_form, crate::specs::inside::ReadSets::read_all_except, crate::specs::inside::ReadSets::read_union))]
 fn set_form<'a, 't>(alloc: Global, levels: u8, at: Cursor<'a, 't>) -> Read<'a, 't, SetForm<'a>>
-    ensures { Reads set_form_view result (reading.read_set_form (read_value levels) (reading.read_set levels) (ahead at.entry)) }
+    ensures { Reads set_form_view result
+        (reading.read_set_form (read_value levels) (reading.read_set levels) (ahead at.entry)) }
 {
     if at.begins_with(TokenKind::Reserved(Reserved::All)) {
         let rest = at.after(TokenKind::Reserved(Reserved::All))?;
@@ -106,7 +111,9 @@ fn joined_intersections<'a, 't>(
     levels: u8,
     at: Cursor<'a, 't>,
 ) -> Read<'a, 't, Vec<JoinedIntersection<'a>>>
-    ensures { Reads (each_view joined_intersection_view) result (tokens_reading.read_each reading.begins_union_mark (reading.read_joined_intersection (read_value levels) (reading.read_set levels)) (length (ahead at.entry)) (ahead at.entry)) }
+    ensures { Reads (each_view joined_intersection_view) result (tokens_reading.read_each reading.begins_union_mark
+        (reading.read_joined_intersection (read_value levels) (reading.read_set levels)) (length (ahead at.entry))
+        (ahead at.entry)) }
 {
     let mut all = Vec::new(alloc);
     let mut rest = at;
@@ -128,7 +135,8 @@ fn joined_intersection<'a, 't>(
     levels: u8,
     at: Cursor<'a, 't>,
 ) -> Read<'a, 't, JoinedIntersection<'a>>
-    ensures { Reads joined_intersection_view result (reading.read_joined_intersection (read_value levels) (reading.read_set levels) (ahead at.entry)) }
+    ensures { Reads joined_intersection_view result
+        (reading.read_joined_intersection (read_value levels) (reading.read_set levels) (ahead at.entry)) }
 {
     let (mark, rest) = union_mark(at)?;
     let (part, rest) = intersection(alloc, levels, rest)?;
@@ -142,7 +150,8 @@ fn intersection<'a, 't>(
     levels: u8,
     at: Cursor<'a, 't>,
 ) -> Read<'a, 't, IntersectionTree<'a>>
-    ensures { Reads intersection_view result (reading.read_intersection (read_value levels) (reading.read_set levels) (ahead at.entry)) }
+    ensures { Reads intersection_view result
+        (reading.read_intersection (read_value levels) (reading.read_set levels) (ahead at.entry)) }
 {
     let (first, rest) = difference(alloc, levels, at)?;
     let (others, rest) = joined_differences(alloc, levels, rest)?;
@@ -157,7 +166,9 @@ fn joined_differences<'a, 't>(
     levels: u8,
     at: Cursor<'a, 't>,
 ) -> Read<'a, 't, Vec<JoinedDifference<'a>>>
-    ensures { Reads (each_view joined_difference_view) result (tokens_reading.read_each reading.begins_intersection_mark (reading.read_joined_difference (read_value levels) (reading.read_set levels)) (length (ahead at.entry)) (ahead at.entry)) }
+    ensures { Reads (each_view joined_difference_view) result (tokens_reading.read_each reading.begins_intersection_mark
+        (reading.read_joined_difference (read_value levels) (reading.read_set levels)) (length (ahead at.entry))
+        (ahead at.entry)) }
 {
     let mut all = Vec::new(alloc);
     let mut rest = at;
@@ -179,7 +190,8 @@ fn joined_difference<'a, 't>(
     levels: u8,
     at: Cursor<'a, 't>,
 ) -> Read<'a, 't, JoinedDifference<'a>>
-    ensures { Reads joined_difference_view result (reading.read_joined_difference (read_value levels) (reading.read_set levels) (ahead at.entry)) }
+    ensures { Reads joined_difference_view result
+        (reading.read_joined_difference (read_value levels) (reading.read_set levels) (ahead at.entry)) }
 {
     let (mark, rest) = intersection_mark(at)?;
     let (part, rest) = difference(alloc, levels, rest)?;
@@ -193,8 +205,10 @@ fn difference<'a, 't>(
     levels: u8,
     at: Cursor<'a, 't>,
 ) -> Read<'a, 't, DifferenceTree<'a>>
-    ensures tree { Reads difference_view result (reading.read_difference (read_value levels) (reading.read_set levels) (ahead at.entry)) }
-    ensures site { IfOk result (λ d. site_of_difference (difference_view d.0) ≡ tokens_reading.site_at (ahead at.entry)) }
+    ensures tree { Reads difference_view result
+        (reading.read_difference (read_value levels) (reading.read_set levels) (ahead at.entry)) }
+    ensures site { IfOk result (λ d. site_of_difference (difference_view d.0)
+        ≡ tokens_reading.site_at (ahead at.entry)) }
 {
     let (element, rest) = element(alloc, levels, at)?;
     let (except, rest) = except(alloc, levels, rest)?;
@@ -208,7 +222,8 @@ fn except<'a, 't>(
     levels: u8,
     at: Cursor<'a, 't>,
 ) -> Read<'a, 't, Option<Box<ElementTree<'a>>>>
-    ensures { Reads perhaps_element_view result (reading.read_except (read_value levels) (reading.read_set levels) (ahead at.entry)) }
+    ensures { Reads perhaps_element_view result
+        (reading.read_except (read_value levels) (reading.read_set levels) (ahead at.entry)) }
 {
     if !at.begins_with(TokenKind::Reserved(Reserved::Except)) {
         return Ok((None, at));
@@ -221,7 +236,8 @@ fn except<'a, 't>(
 #[tactic(auto, unfolding(crate::specs::inside::ReadSets::read_element))]
 fn element<'a, 't>(alloc: Global, levels: u8, at: Cursor<'a, 't>) -> Read<'a, 't, ElementTree<'a>>
     ensures site { IfOk result (λ e. site_of_element (element_view e.0) ≡ tokens_reading.site_at (ahead at.entry)) }
-    ensures tree { Reads element_view result (reading.read_element (read_value levels) (reading.read_set levels) (ahead at.entry)) }
+    ensures tree { Reads element_view result
+        (reading.read_element (read_value levels) (reading.read_set levels) (ahead at.entry)) }
 {
     let (form, rest) = element_form(alloc, levels, at)?;
     let site = at.site();
@@ -236,7 +252,8 @@ fn element_form<'a, 't>(
     levels: u8,
     at: Cursor<'a, 't>,
 ) -> Read<'a, 't, ElementForm<'a>>
-    ensures { Reads element_form_view result (reading.read_element_form (read_value levels) (reading.read_set levels) (ahead at.entry)) }
+    ensures { Reads element_form_view result
+        (reading.read_element_form (read_value levels) (reading.read_set levels) (ahead at.entry)) }
 {
     if at.begins_with(TokenKind::Mark(Mark::LeftParenthesis)) {
         parentheses(alloc, levels, at)
@@ -311,7 +328,8 @@ fn inner_type_constraints<'a, 't>(
     levels: u8,
     at: Cursor<'a, 't>,
 ) -> Read<'a, 't, ElementForm<'a>>
-    ensures { Reads element_form_view result (reading.read_inner_type_constraints (reading.read_set levels) (ahead at.entry)) }
+    ensures { Reads element_form_view result
+        (reading.read_inner_type_constraints (reading.read_set levels) (ahead at.entry)) }
 {
     let rest = at.after(TokenKind::Reserved(Reserved::With))?;
     if rest.begins_with(TokenKind::Reserved(Reserved::Component)) {
@@ -358,7 +376,8 @@ fn parts<'a, 't>(
     levels: u8,
     at: Cursor<'a, 't>,
 ) -> Read<'a, 't, Vec<ComponentConsTree<'a>>>
-    ensures { Reads (each_view part_view) result (tokens_reading.read_parted (reading.read_part (reading.read_set levels)) (length (ahead at.entry)) (ahead at.entry)) }
+    ensures { Reads (each_view part_view) result (tokens_reading.read_parted
+        (reading.read_part (reading.read_set levels)) (length (ahead at.entry)) (ahead at.entry)) }
 {
     let mut all = Vec::new(alloc);
     let mut rest = at;
@@ -404,7 +423,8 @@ fn perhaps_constraint<'a, 't>(
     levels: u8,
     at: Cursor<'a, 't>,
 ) -> Read<'a, 't, Option<ConsTree<'a>>>
-    ensures { Reads perhaps_constraint_view result (reading.read_perhaps_constraint (reading.read_set levels) (ahead at.entry)) }
+    ensures { Reads perhaps_constraint_view result
+        (reading.read_perhaps_constraint (reading.read_set levels) (ahead at.entry)) }
 {
     if !at.begins_with(TokenKind::Mark(Mark::LeftParenthesis)) {
         return Ok((None, at));

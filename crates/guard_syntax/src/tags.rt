@@ -21,7 +21,8 @@ pub fn begins_tag(at: Cursor) -> bool
 /// The tags before a type. Each takes a token, so there are no more than tokens.
 #[tactic(auto, using(crate::proofs::Loops::each_loop))]
 pub fn tags<'a, 't>(alloc: Global, at: Cursor<'a, 't>) -> Read<'a, 't, Vec<TagTree<'a>>>
-    ensures { Reads (each_view tag_view) result (tokens_reading.read_each reading.begins_tag reading.read_tag (length (ahead at.entry)) (ahead at.entry)) }
+    ensures { Reads (each_view tag_view) result
+        (tokens_reading.read_each reading.begins_tag reading.read_tag (length (ahead at.entry)) (ahead at.entry)) }
 {
     let mut all = Vec::new(alloc);
     let mut rest = at;

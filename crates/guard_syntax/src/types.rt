@@ -8,7 +8,8 @@ ghost use Rattle.guard_syntax.specs.inside.ReadValues.{read_value};
 ghost use Rattle.guard_syntax.specs.inside.ReadSets.{read_set, read_constraint};
 ghost use Rattle.guard_syntax.specs.inside.ReadTypes as reading;
 ghost use Rattle.guard_syntax.specs.SetViews.{constraint_view};
-ghost use Rattle.guard_syntax.specs.TypeViews.{of_constraint_view, presence_view, base_view, component_form_view, component_view, alternative_view, type_view};
+ghost use Rattle.guard_syntax.specs.TypeViews.{of_constraint_view, presence_view, base_view, component_form_view};
+ghost use Rattle.guard_syntax.specs.TypeViews.{component_view, alternative_view, type_view};
 
 use crate::cursor::{Cursor, Read};
 use crate::named_numbers::{items, numbers};
@@ -115,7 +116,8 @@ fn inner_type<'a, 't>(
     levels: u8,
     at: Cursor<'a, 't>,
 ) -> Read<'a, 't, Box<TypeTree<'a>>>
-    ensures { Reads (boxed_view type_view) result (reading.read_inner_type (read_value levels) (read_set levels) (reading.read_type levels) (ahead at.entry)) }
+    ensures { Reads (boxed_view type_view) result
+        (reading.read_inner_type (read_value levels) (read_set levels) (reading.read_type levels) (ahead at.entry)) }
 {
     let (tags, rest) = tags(alloc, at)?;
     let (base, rest) = base(alloc, levels, rest)?;
@@ -154,7 +156,8 @@ fn constraints<'a, 't>(
     of: bool,
     at: Cursor<'a, 't>,
 ) -> Read<'a, 't, Vec<ConsTree<'a>>>
-    ensures { Reads (each_view constraint_view) result (reading.read_constraints (read_set levels) of (ahead at.entry)) }
+    ensures { Reads (each_view constraint_view) result
+        (reading.read_constraints (read_set levels) of (ahead at.entry)) }
 {
     if of {
         return Ok((Vec::new(alloc), at));
@@ -169,7 +172,8 @@ fn each_constraint<'a, 't>(
     levels: u8,
     at: Cursor<'a, 't>,
 ) -> Read<'a, 't, Vec<ConsTree<'a>>>
-    ensures { Reads (each_view constraint_view) result (tokens_reading.read_each reading.begins_constraint (read_constraint (read_set levels)) (length (ahead at.entry)) (ahead at.entry)) }
+    ensures { Reads (each_view constraint_view) result (tokens_reading.read_each reading.begins_constraint
+        (read_constraint (read_set levels)) (length (ahead at.entry)) (ahead at.entry)) }
 {
     let mut all = Vec::new(alloc);
     let mut rest = at;
@@ -194,7 +198,8 @@ fn begins_constraint(at: Cursor) -> bool
 #[cycle(types)]
 #[tactic(auto, unfolding(crate::specs::inside::ReadTypes::read_base))]
 fn base<'a, 't>(alloc: Global, levels: u8, at: Cursor<'a, 't>) -> Read<'a, 't, BaseTree<'a>>
-    ensures { Reads base_view result (reading.read_base (read_value levels) (read_set levels) (reading.read_type levels) (ahead at.entry)) }
+    ensures { Reads base_view result
+        (reading.read_base (read_value levels) (read_set levels) (reading.read_type levels) (ahead at.entry)) }
 {
     if at.begins_with(TokenKind::Reserved(Reserved::Sequence)) {
         collection(alloc, Collection::Sequence, levels, at.behind())
@@ -262,7 +267,8 @@ fn collection<'a, 't>(
     levels: u8,
     at: Cursor<'a, 't>,
 ) -> Read<'a, 't, BaseTree<'a>>
-    ensures { Reads base_view result (reading.read_collection kind (read_value levels) (read_set levels) (reading.read_type levels) (ahead at.entry)) }
+    ensures { Reads base_view result (reading.read_collection kind (read_value levels) (read_set levels)
+        (reading.read_type levels) (ahead at.entry)) }
 {
     if at.begins_with(TokenKind::Mark(Mark::LeftBrace)) {
         structure(alloc, kind, levels, at)
@@ -279,7 +285,8 @@ fn of_type<'a, 't>(
     levels: u8,
     at: Cursor<'a, 't>,
 ) -> Read<'a, 't, BaseTree<'a>>
-    ensures { Reads base_view result (reading.read_of kind (read_set levels) (reading.read_type levels) (ahead at.entry)) }
+    ensures { Reads base_view result
+        (reading.read_of kind (read_set levels) (reading.read_type levels) (ahead at.entry)) }
 {
     let (before, rest) = of_constraint(alloc, levels, at)?;
     let rest = rest.after(TokenKind::Reserved(Reserved::Of))?;
@@ -314,7 +321,8 @@ fn structure<'a, 't>(
     levels: u8,
     at: Cursor<'a, 't>,
 ) -> Read<'a, 't, BaseTree<'a>>
-    ensures { Reads base_view result (reading.read_structure kind (read_value levels) (reading.read_type levels) (ahead at.entry)) }
+    ensures { Reads base_view result
+        (reading.read_structure kind (read_value levels) (reading.read_type levels) (ahead at.entry)) }
 {
     let rest = at.after(TokenKind::Mark(Mark::LeftBrace))?;
     let (all, rest) = components(alloc, levels, rest)?;
@@ -330,7 +338,8 @@ fn components<'a, 't>(
     levels: u8,
     at: Cursor<'a, 't>,
 ) -> Read<'a, 't, Vec<CompTree<'a>>>
-    ensures { Reads (each_view component_view) result (reading.read_components (read_value levels) (reading.read_type levels) (ahead at.entry)) }
+    ensures { Reads (each_view component_view) result
+        (reading.read_components (read_value levels) (reading.read_type levels) (ahead at.entry)) }
 {
     if at.begins_with(TokenKind::Mark(Mark::RightBrace)) {
         return Ok((Vec::new(alloc), at));
@@ -346,7 +355,8 @@ fn some_components<'a, 't>(
     levels: u8,
     at: Cursor<'a, 't>,
 ) -> Read<'a, 't, Vec<CompTree<'a>>>
-    ensures { Reads (each_view component_view) result (tokens_reading.read_parted (reading.read_component (read_value levels) (reading.read_type levels)) (length (ahead at.entry)) (ahead at.entry)) }
+    ensures { Reads (each_view component_view) result (tokens_reading.read_parted (reading.read_component
+        (read_value levels) (reading.read_type levels)) (length (ahead at.entry)) (ahead at.entry)) }
 {
     let mut all = Vec::new(alloc);
     let mut rest = at;
@@ -364,7 +374,8 @@ fn some_components<'a, 't>(
 #[cycle(types)]
 #[tactic(auto, unfolding(crate::specs::inside::ReadTypes::read_component))]
 fn component<'a, 't>(alloc: Global, levels: u8, at: Cursor<'a, 't>) -> Read<'a, 't, CompTree<'a>>
-    ensures { Reads component_view result (reading.read_component (read_value levels) (reading.read_type levels) (ahead at.entry)) }
+    ensures { Reads component_view result
+        (reading.read_component (read_value levels) (reading.read_type levels) (ahead at.entry)) }
 {
     let (form, rest) = component_form(alloc, levels, at)?;
     let site = at.site();
@@ -378,7 +389,8 @@ fn component_form<'a, 't>(
     levels: u8,
     at: Cursor<'a, 't>,
 ) -> Read<'a, 't, CompForm<'a>>
-    ensures { Reads component_form_view result (reading.read_component_form (read_value levels) (reading.read_type levels) (ahead at.entry)) }
+    ensures { Reads component_form_view result
+        (reading.read_component_form (read_value levels) (reading.read_type levels) (ahead at.entry)) }
 {
     if at.begins_with(TokenKind::Reserved(Reserved::Components)) {
         let rest = at.behind();
@@ -427,7 +439,8 @@ fn alternatives<'a, 't>(
     levels: u8,
     at: Cursor<'a, 't>,
 ) -> Read<'a, 't, Vec<AlternativeTree<'a>>>
-    ensures { Reads (each_view alternative_view) result (tokens_reading.read_parted (reading.read_alternative (reading.read_type levels)) (length (ahead at.entry)) (ahead at.entry)) }
+    ensures { Reads (each_view alternative_view) result (tokens_reading.read_parted
+        (reading.read_alternative (reading.read_type levels)) (length (ahead at.entry)) (ahead at.entry)) }
 {
     let mut all = Vec::new(alloc);
     let mut rest = at;

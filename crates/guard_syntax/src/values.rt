@@ -70,7 +70,8 @@ pub fn value<'a, 't>(alloc: Global, levels: u8, at: Cursor<'a, 't>) -> Read<'a, 
 #[cycle(values)]
 #[tactic(auto, unfolding(crate::specs::inside::ReadValues::read_value_form))]
 fn form<'a, 't>(alloc: Global, levels: u8, at: Cursor<'a, 't>) -> Read<'a, 't, ValueForm<'a>>
-    ensures { Reads value_form_view result (reading.read_value_form levels (reading.read_value levels) (ahead at.entry)) }
+    ensures { Reads value_form_view result
+        (reading.read_value_form levels (reading.read_value levels) (ahead at.entry)) }
 {
     if at.begins_with(TokenKind::Reserved(Reserved::True)) {
         Ok((ValueForm::Boolean(true), at.behind()))
@@ -163,7 +164,8 @@ fn entries<'a, 't>(
     levels: u8,
     at: Cursor<'a, 't>,
 ) -> Read<'a, 't, Vec<EntryTree<'a>>>
-    ensures { Reads (each_view entry_view) result (reading.read_entries levels (reading.read_value levels) (ahead at.entry)) }
+    ensures { Reads (each_view entry_view) result
+        (reading.read_entries levels (reading.read_value levels) (ahead at.entry)) }
 {
     if at.begins_with(TokenKind::Mark(Mark::RightBrace)) {
         return Ok((Vec::new(alloc), at));
@@ -182,7 +184,8 @@ fn some_entries<'a, 't>(
     levels: u8,
     at: Cursor<'a, 't>,
 ) -> Read<'a, 't, Vec<EntryTree<'a>>>
-    ensures { Reads (each_view entry_view) result (tokens_reading.read_parted (reading.read_entry (reading.read_value levels)) (length (ahead at.entry)) (ahead at.entry)) }
+    ensures { Reads (each_view entry_view) result (tokens_reading.read_parted
+        (reading.read_entry (reading.read_value levels)) (length (ahead at.entry)) (ahead at.entry)) }
 {
     let mut all = Vec::new(alloc);
     let mut rest = at;
@@ -255,7 +258,8 @@ fn are_arcs(all: &[ArcTree]) -> bool
 
 #[tactic(auto, using(crate::proofs::Loops::each_loop))]
 fn all_arcs<'a, 't>(alloc: Global, at: Cursor<'a, 't>) -> Read<'a, 't, Vec<ArcTree<'a>>>
-    ensures { Reads (each_view arc_view) result (tokens_reading.read_each reading.does_not_close tokens_reading.read_arc (length (ahead at.entry)) (ahead at.entry)) }
+    ensures { Reads (each_view arc_view) result (tokens_reading.read_each reading.does_not_close tokens_reading.read_arc
+        (length (ahead at.entry)) (ahead at.entry)) }
 {
     let mut all = Vec::new(alloc);
     let mut rest = at;

@@ -70,7 +70,8 @@ fn add(ranges: &mut Vec<(u32, u32)>, low: u32, high: u32) -> Result<(), OutOfMem
     requires order { IsTrue (begin_by low ranges.old.items) }
     ensures apart { OnOk result (IsTrue (are_apart ranges.new.items)) }
     ensures order { OnOk result (IsTrue (begin_by low ranges.new.items)) }
-    ensures same { OnOk result ((c : ℕ) → is_in_some ranges.new.items c ≡ (is_in_some ranges.old.items c || is_in_range low high c)) }
+    ensures same { OnOk result ((c : ℕ) →
+        is_in_some ranges.new.items c ≡ (is_in_some ranges.old.items c || is_in_range low high c)) }
 {
     if low > high {
         return Ok(());

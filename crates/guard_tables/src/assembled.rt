@@ -12,7 +12,8 @@ use crate::node_list::Builder;
 pub(crate) struct Assembled {
     pub builder: Builder,
     pub node: Node,
-    pub ghost stands: { IsNode node.hot node.cold (spots_of builder.hots.items builder.colds.items) (length builder.hots.items) } by { Prim.hlevel (props, integers_set) },
+    pub ghost stands: { IsNode node.hot node.cold (spots_of builder.hots.items builder.colds.items)
+        (length builder.hots.items) } by { Prim.hlevel (props, integers_set) },
 }
 
 /// Nodes, and the parts of a node, which aren't with them yet.

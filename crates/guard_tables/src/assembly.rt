@@ -7,7 +7,8 @@ ghost use Rattle.guard_tables.specs.Plan as plans;
 ghost use Rattle.guard_tables.specs.Plan.{body_in, tags_in, form_in, asked_of};
 ghost use Rattle.guard_tables.specs.TableNodes.{IsNode, ascend, spots_of, own_tags};
 ghost use Rattle.guard_tables.specs.inside.Aside.{AreNodes, spots_at};
-ghost use Rattle.guard_tables.specs.inside.Assembled.{Lays, Stacks, WithPart, MayCome, plan_in, parts_in, body_of_group, body_of_elements, spots_so_far};
+ghost use Rattle.guard_tables.specs.inside.Assembled.{Lays, Stacks, WithPart, MayCome, plan_in, parts_in};
+ghost use Rattle.guard_tables.specs.inside.Assembled.{body_of_group, body_of_elements, spots_so_far};
 ghost use Rattle.guard_tables.specs.inside.SideViews.{part_side_view};
 
 use crate::assembled::{Assembled, AssembledParts};
@@ -91,7 +92,8 @@ pub(crate) fn with_formulas(
 /// An explicit tag round it.
 fn wrapped(alloc: Global, laid: Assembled, tag: Tag) -> Result<Assembled, OutOfMemory>
     requires { 0 < length (tags_in (plan_in laid)) }
-    ensures { IfOk result (λ l. Lays laid.builder l (plans.plan (tag ∷ tags_in (plan_in laid)) (form_in (plan_in laid)) (body_in (plan_in laid)))) }
+    ensures { IfOk result (λ l. Lays laid.builder l
+        (plans.plan (tag ∷ tags_in (plan_in laid)) (form_in (plan_in laid)) (body_in (plan_in laid)))) }
 {
     let inner = with_last(laid)?;
     let identifiers = identifiers_of(Some(tag), true);
@@ -120,7 +122,8 @@ pub(crate) fn with_tags(
     tags: &[Tag],
 ) -> Result<Assembled, OutOfMemory>
     requires { tags_in (plan_in laid) ≡ drop (length tags.now - 1) tags.now }
-    ensures { IfOk result (λ l. Lays laid.builder l (plans.plan tags.now (form_in (plan_in laid)) (body_in (plan_in laid)))) }
+    ensures { IfOk result
+        (λ l. Lays laid.builder l (plans.plan tags.now (form_in (plan_in laid)) (body_in (plan_in laid)))) }
 {
     let mut whole = laid;
     let mut left = tags.len().saturating_sub(1);
@@ -140,7 +143,8 @@ pub(crate) fn as_elements(
     elements: Elements,
     tag: Option<Tag>,
 ) -> Result<Assembled, OutOfMemory>
-    ensures { IfOk result (λ l. Lays element.builder l (plans.plan (own_tags tag) true (body_of_elements elements (plan_in element)))) }
+    ensures { IfOk result
+        (λ l. Lays element.builder l (plans.plan (own_tags tag) true (body_of_elements elements (plan_in element)))) }
 {
     let inner = with_last(element)?;
     let identifiers = identifiers_of(tag, true);
@@ -163,7 +167,8 @@ pub(crate) fn as_parts(
     requires come { MayCome parts }
     requires few { length parts.nodes.items ≤ most_components }
     requires order { ascending ≡ true → ascend None (parts_in parts plans.no_parts) ≡ true }
-    ensures { IfOk result (λ l. Lays parts.builder l (plans.plan (own_tags tag) true (body_of_group group (parts_in parts plans.no_parts)))) }
+    ensures { IfOk result (λ l. Lays parts.builder l
+        (plans.plan (own_tags tag) true (body_of_group group (parts_in parts plans.no_parts)))) }
 {
     let first = parts.builder.hots.len();
     let count = parts.nodes.len() as u32;
@@ -192,7 +197,8 @@ pub(crate) fn with_part(
 /// The parts side by side.
 fn with_all(parts: AssembledParts) -> Result<Builder, OutOfMemory>
     requires { MayCome parts }
-    ensures { IfOk result (λ b. spots_so_far b ≡ spots_so_far parts.builder ++ spots_at (spots_so_far parts.builder) parts.nodes.items) }
+    ensures { IfOk result (λ b. spots_so_far b ≡ spots_so_far parts.builder
+        ++ spots_at (spots_so_far parts.builder) parts.nodes.items) }
 {
     let mut builder = parts.builder;
     for node in parts.nodes {

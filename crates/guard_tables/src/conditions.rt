@@ -1,8 +1,10 @@
 //! The conditions that types and constraints lay on the node at the end of a way. They are counted up to the greatest
 //! number of a usize, which is far more than a node may have.
 ghost use Rattle.std.specs.Prelude.{◌≡◌, ◌∷◌, map};
-ghost use Rattle.guard_model.specs.TypeView.{type_view, kind_view, component_view, constraint_view, element_view, part_view, components_of, constraints_of, parts_of};
-ghost use Rattle.guard_tables.specs.Conditions.{conditions, is_crowded, of_type, of_kind, of_component, of_constraints, of_constraint, of_element, of_parts};
+ghost use Rattle.guard_model.specs.TypeView.{type_view, kind_view, component_view, constraint_view, element_view};
+ghost use Rattle.guard_model.specs.TypeView.{part_view, components_of, constraints_of, parts_of};
+ghost use Rattle.guard_tables.specs.Conditions.{conditions, is_crowded, of_type, of_kind, of_component};
+ghost use Rattle.guard_tables.specs.Conditions.{of_constraints, of_constraint, of_element, of_parts};
 ghost use Rattle.guard_tables.specs.Tables.{types_view};
 ghost use Rattle.guard_tables.specs.inside.Counting.{counted, of_part, of_each, of_listed};
 

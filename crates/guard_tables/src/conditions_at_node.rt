@@ -1,5 +1,6 @@
 //! The conditions of a node: what is asked there of the value itself.
-ghost use Rattle.std.specs.Prelude.{◌≡◌, ◌++◌, ℤ, true, false, ◌&&◌, ◌||◌, map, option_map, option_to_list, IsTrue, IfOk, OnOk};
+ghost use Rattle.std.specs.Prelude.{◌≡◌, ◌++◌, ℤ, true, false, ◌&&◌, ◌||◌, map, option_map};
+ghost use Rattle.std.specs.Prelude.{option_to_list, IsTrue, IfOk, OnOk};
 ghost use Rattle.std.specs.Ordering.{int_eq};
 ghost use Rattle.guard_integers.specs.Integers.{some_holds};
 ghost use Rattle.guard_model.specs.AbstractType as type;
@@ -12,7 +13,8 @@ ghost use Rattle.guard_der.specs.Fits.{fits_kind, is_item};
 ghost use Rattle.guard_eval.specs.Member.{holds};
 ghost use Rattle.guard_tables.specs.Apt.{IsApt, Speaks, AllSpeak};
 ghost use Rattle.guard_tables.specs.Demands.{by_constraint};
-ghost use Rattle.guard_tables.specs.Lay.{truth_tests, scalar_tests, stored_test, tests_of, conditions_in, conditions_of};
+ghost use Rattle.guard_tables.specs.Lay.{truth_tests, scalar_tests, stored_test, tests_of};
+ghost use Rattle.guard_tables.specs.Lay.{conditions_in, conditions_of};
 ghost use Rattle.guard_tables.specs.NodeViews.{test_view, condition_view};
 ghost use Rattle.guard_tables.specs.Plan.{numbers};
 ghost use Rattle.guard_tables.specs.inside.DemandViews.{atom_view, terms_view};
@@ -41,7 +43,8 @@ pub(crate) fn conditions_of(
     terms: &[Term<'_>],
 ) -> Result<Conditions, OutOfMemory>
     requires { AllSpeak (kind_view kind.now) (terms_view terms.now) }
-    ensures { IfOk result (λ cs. map condition_view cs.list.items ≡ conditions_of (kind_view kind.now) (terms_view terms.now)) }
+    ensures { IfOk result (λ cs. map condition_view cs.list.items
+        ≡ conditions_of (kind_view kind.now) (terms_view terms.now)) }
 {
     let list = list_of(alloc, kind, terms)?;
     Conditions::new(alloc, list)
@@ -49,7 +52,8 @@ pub(crate) fn conditions_of(
 
 fn list_of(alloc: Global, kind: &Kind, terms: &[Term<'_>]) -> Result<Vec<Condition>, OutOfMemory>
     requires { AllSpeak (kind_view kind.now) (terms_view terms.now) }
-    ensures { IfOk result (λ cs. map condition_view cs.items ≡ conditions_of (kind_view kind.now) (terms_view terms.now)) }
+    ensures { IfOk result (λ cs. map condition_view cs.items
+        ≡ conditions_of (kind_view kind.now) (terms_view terms.now)) }
 {
     let mut conditions = Vec::new(alloc);
     for term in terms {
@@ -68,7 +72,8 @@ fn push_condition(
 ) -> Result<(), OutOfMemory>
     requires { Speaks (kind_view kind.now) (atom_view atom.now) }
     ensures { OnOk result (map condition_view conditions.new.items
-        ≡ map condition_view conditions.old.items ++ conditions_in slots (tests_of (kind_view kind.now) (atom_view atom.now))) }
+        ≡ map condition_view conditions.old.items
+        ++ conditions_in slots (tests_of (kind_view kind.now) (atom_view atom.now))) }
 {
     if let Some(test) = test_of(alloc, kind, atom)? {
         conditions.push(Condition { slots, test })?;
@@ -78,7 +83,8 @@ fn push_condition(
 
 fn test_of(alloc: Global, kind: &Kind, atom: &Atom<'_>) -> Result<Option<Test>, OutOfMemory>
     requires { Speaks (kind_view kind.now) (atom_view atom.now) }
-    ensures { IfOk result (λ t. option_to_list (option_map test_view t) ≡ tests_of (kind_view kind.now) (atom_view atom.now)) }
+    ensures { IfOk result (λ t. option_to_list (option_map test_view t)
+        ≡ tests_of (kind_view kind.now) (atom_view atom.now)) }
 {
     match atom {
         Atom::Scalar(own, constraint) => scalar_test(alloc, kind, own, constraint),
@@ -95,7 +101,8 @@ fn test_of(alloc: Global, kind: &Kind, atom: &Atom<'_>) -> Result<Option<Test>, 
 /// The value has the contents octets of this one.
 fn stored_test(alloc: Global, kind: &Kind, value: &Value) -> Result<Test, OutOfMemory>
     requires { IsTrue (fits_kind (kind_view kind.now) (value_view value.now)) }
-    ensures { IfOk result (λ t. test_view t ≡ stored_test (contents_octets (kind_view kind.now) (value_view value.now))) }
+    ensures { IfOk result
+        (λ t. test_view t ≡ stored_test (contents_octets (kind_view kind.now) (value_view value.now))) }
 {
     match if_short(encode_contents(alloc, kind, value))? {
         Some(octets) => Ok(Test::Stored(octets)),
@@ -180,7 +187,8 @@ fn push_item(
     requires apt { IsApt (kind_view kind.now) (by_constraint (kind_view own.now) (constraint_view constraint.now)) }
     requires item { IsTrue (fits_kind (kind_view kind.now) (abstract.enumerated number)) }
     ensures { OnOk result ((z : ℤ) → some_holds sets.new.items z ≡ (some_holds sets.old.items z
-        || ((fits_128_bits z && int_eq z number) && holds (constraint_view constraint.now) (kind_view own.now) (abstract.enumerated z)))) }
+        || ((fits_128_bits z && int_eq z number)
+        && holds (constraint_view constraint.now) (kind_view own.now) (abstract.enumerated z)))) }
 {
     if is_met(
         Demand::Constraint(own, constraint),

@@ -16,7 +16,8 @@ use std::alloc::Global;
 pub struct Conditions {
     pub list: Vec<Condition>,
     segments: Vec<Segment>,
-    pub ghost exact: { (k : ℕ) (s : Segment) → slice_get segments.items k ≡ Some s → IsSegment (map condition_view list.items) s },
+    pub ghost exact: { (k : ℕ) (s : Segment) → slice_get segments.items k ≡ Some s →
+        IsSegment (map condition_view list.items) s },
 }
 
 impl Conditions {

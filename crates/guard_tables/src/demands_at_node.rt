@@ -59,7 +59,8 @@ fn conjoined<'a>(
     tests: &mut Tests<'a>,
 ) -> Result<Vec<Form>, OutOfMemory>
     requires { (conjoined (slot_demands_view demands.now) (formula_of tests.now [])).next ≤ 256 }
-    ensures { IfOk result (λ ws. formula_of tests.new ws.items ≡ conjoined (slot_demands_view demands.now) (formula_of tests.old [])) }
+    ensures { IfOk result (λ ws. formula_of tests.new ws.items
+        ≡ conjoined (slot_demands_view demands.now) (formula_of tests.old [])) }
 {
     let mut forms = Vec::new(alloc);
     for slot_demand in demands {
@@ -105,8 +106,10 @@ fn form_with<'a>(
     tests: &mut Tests<'a>,
 ) -> Result<Form, OutOfMemory>
     requires { (form (only own) (demand_view demand) (formula_of tests.now [])).next ≤ 256 }
-    ensures tests { IfOk result (λ w. formula_of tests.new [] ≡ aside (form (only own) (demand_view demand.entry) (formula_of tests.old []))) }
-    ensures form { IfOk result (λ w. form_view w ≡ own_form own (form (only own) (demand_view demand.entry) (formula_of tests.old [])).forms) }
+    ensures tests { IfOk result (λ w. formula_of tests.new []
+        ≡ aside (form (only own) (demand_view demand.entry) (formula_of tests.old []))) }
+    ensures form { IfOk result (λ w. form_view w
+        ≡ own_form own (form (only own) (demand_view demand.entry) (formula_of tests.old [])).forms) }
 {
     let mut forms = Vec::new(alloc);
     form(alloc, demand, Slots::only(own), tests, &mut forms)?;

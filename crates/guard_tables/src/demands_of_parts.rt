@@ -3,7 +3,8 @@ ghost use Rattle.std.specs.Prelude.{◌≡◌, ◌++◌, replicate, OnOk, IfOk};
 ghost use Rattle.guard_tables.specs.OfParts.{each_in, each_of, within_in};
 ghost use Rattle.guard_tables.specs.Lay.{added_if, is_sent, is_unsent};
 ghost use Rattle.guard_tables.specs.inside.DemandViews.{slot_demands_view, atom_view, term_view, terms_view};
-ghost use Rattle.guard_tables.specs.inside.DemandsOfParts.{part_asked, parts_asked, nothing_asked, with_term, changed_at, added_to_all, add_term, add_terms};
+ghost use Rattle.guard_tables.specs.inside.DemandsOfParts.{part_asked, parts_asked, nothing_asked, with_term};
+ghost use Rattle.guard_tables.specs.inside.DemandsOfParts.{changed_at, added_to_all, add_term, add_terms};
 
 use crate::demands::{Atom, SlotDemand, Term};
 use crate::slots::Slots;
@@ -35,7 +36,8 @@ impl<'a> PartDemands<'a> {
     /// With what one term more asks of it, where it is the part at this place.
     fn receive(&mut self, exclusive: bool, place: usize, term: Term<'a>) -> Result<(), OutOfMemory>
         ensures demands { OnOk result (slot_demands_view self.new.demands.items
-            ≡ slot_demands_view self.old.demands.items ++ within_in place term.entry.slots (atom_view term.entry.atom)) }
+            ≡ slot_demands_view self.old.demands.items
+            ++ within_in place term.entry.slots (atom_view term.entry.atom)) }
         ensures absent { OnOk result (self.new.absent
             ≡ added_if (is_sent place (atom_view term.entry.atom)) term.entry.slots self.old.absent) }
         ensures present { OnOk result (self.new.present
@@ -101,7 +103,8 @@ fn add_term<'a>(
     term: Term<'a>,
     parts: &mut Vec<PartDemands<'a>>,
 ) -> Result<(), OutOfMemory>
-    ensures { OnOk result (parts_asked parts.new.items ≡ add_term exclusive (term_view term.entry) (parts_asked parts.old.items)) }
+    ensures { OnOk result (parts_asked parts.new.items
+        ≡ add_term exclusive (term_view term.entry) (parts_asked parts.old.items)) }
 {
     match term.atom {
         Atom::Within(place, _) => add_at(exclusive, place, term, parts),
@@ -129,7 +132,8 @@ fn add_at<'a>(
 }
 
 fn add_to_all<'a>(term: Term<'a>, parts: &mut Vec<PartDemands<'a>>) -> Result<(), OutOfMemory>
-    ensures { OnOk result (parts_asked parts.new.items ≡ added_to_all (term_view term.entry) (parts_asked parts.old.items)) }
+    ensures { OnOk result (parts_asked parts.new.items
+        ≡ added_to_all (term_view term.entry) (parts_asked parts.old.items)) }
 {
     let mut left = parts.len();
     while left > 0 {
@@ -158,7 +162,8 @@ fn push_each<'a>(
     slots: Slots,
     demands: &mut Vec<SlotDemand<'a>>,
 ) -> Result<(), OutOfMemory>
-    ensures { OnOk result (slot_demands_view demands.new.items ≡ slot_demands_view demands.old.items ++ each_in slots (atom_view atom.now)) }
+    ensures { OnOk result (slot_demands_view demands.new.items ≡ slot_demands_view demands.old.items
+        ++ each_in slots (atom_view atom.now)) }
 {
     match atom {
         Atom::Each(demand) => {

@@ -2,7 +2,8 @@
 //! fails in slots of the node's own.
 ghost use Rattle.std.specs.Prelude.{◌≡◌, ◌<◌, ◌≤◌, ◌++◌, ◌∷◌, [], map, OnOk};
 ghost use Rattle.guard_model.specs.TypeView.{type_view, kind_view, constraint_view, element_view, constraints_of};
-ghost use Rattle.guard_tables.specs.Forms.{form, form_one, form_element, form_all, form_each, form_own, form_type, turned};
+ghost use Rattle.guard_tables.specs.Forms.{form, form_one, form_element, form_all, form_each};
+ghost use Rattle.guard_tables.specs.Forms.{form_own, form_type, turned};
 ghost use Rattle.guard_tables.specs.NodeViews.{form_view};
 ghost use Rattle.guard_tables.specs.inside.DemandViews.{demand_view};
 ghost use Rattle.guard_tables.specs.inside.FormViews.{formula_of};
@@ -69,9 +70,11 @@ fn form_all<'a>(
     tests: &mut Tests<'a>,
     forms: &mut Vec<Form>,
 ) -> Result<(), OutOfMemory>
-    requires { (form_all slots (kind_view kind.now) (constraints_of (map constraint_view constraints.now)) (formula_of tests.now forms.now.items)).next ≤ 256 }
+    requires { (form_all slots (kind_view kind.now) (constraints_of (map constraint_view constraints.now))
+        (formula_of tests.now forms.now.items)).next ≤ 256 }
     ensures { OnOk result (formula_of tests.new forms.new.items
-        ≡ form_all slots (kind_view kind.now) (constraints_of (map constraint_view constraints.now)) (formula_of tests.old forms.old.items)) }
+        ≡ form_all slots (kind_view kind.now) (constraints_of (map constraint_view constraints.now))
+        (formula_of tests.old forms.old.items)) }
 {
     for constraint in constraints {
         form_one(alloc, constraint, kind, slots, tests, forms)?;
@@ -88,9 +91,11 @@ fn form_each<'a>(
     tests: &mut Tests<'a>,
     forms: &mut Vec<Form>,
 ) -> Result<(), OutOfMemory>
-    requires { (form_each (kind_view kind.now) (constraints_of (map constraint_view constraints.now)) (formula_of tests.now forms.now.items)).next ≤ 256 }
+    requires { (form_each (kind_view kind.now) (constraints_of (map constraint_view constraints.now))
+        (formula_of tests.now forms.now.items)).next ≤ 256 }
     ensures { OnOk result (formula_of tests.new forms.new.items
-        ≡ form_each (kind_view kind.now) (constraints_of (map constraint_view constraints.now)) (formula_of tests.old forms.old.items)) }
+        ≡ form_each (kind_view kind.now) (constraints_of (map constraint_view constraints.now))
+        (formula_of tests.old forms.old.items)) }
 {
     for constraint in constraints {
         form_own(alloc, constraint, kind, false, tests, forms)?;
@@ -109,7 +114,8 @@ fn form_own<'a>(
     tests: &mut Tests<'a>,
     forms: &mut Vec<Form>,
 ) -> Result<(), OutOfMemory>
-    requires { (form_own taken (kind_view kind.now) (constraint_view constraint.now) (formula_of tests.now forms.now.items)).next ≤ 256 }
+    requires { (form_own taken (kind_view kind.now) (constraint_view constraint.now)
+        (formula_of tests.now forms.now.items)).next ≤ 256 }
     ensures { OnOk result (formula_of tests.new forms.new.items
         ≡ form_own taken (kind_view kind.now) (constraint_view constraint.now) (formula_of tests.old forms.old.items)) }
 {
@@ -137,7 +143,8 @@ fn form_one<'a>(
     tests: &mut Tests<'a>,
     forms: &mut Vec<Form>,
 ) -> Result<(), OutOfMemory>
-    requires { (form_one slots (kind_view kind.now) (constraint_view constraint.now) (formula_of tests.now forms.now.items)).next ≤ 256 }
+    requires { (form_one slots (kind_view kind.now) (constraint_view constraint.now)
+        (formula_of tests.now forms.now.items)).next ≤ 256 }
     ensures { OnOk result (formula_of tests.new forms.new.items
         ≡ form_one slots (kind_view kind.now) (constraint_view constraint.now) (formula_of tests.old forms.old.items)) }
 {
@@ -157,7 +164,8 @@ fn form_rule<'a>(
     tests: &mut Tests<'a>,
     forms: &mut Vec<Form>,
 ) -> Result<(), OutOfMemory>
-    requires { (form_element slots (kind_view kind.now) (element_view rule.now) (formula_of tests.now forms.now.items)).next ≤ 256 }
+    requires { (form_element slots (kind_view kind.now) (element_view rule.now)
+        (formula_of tests.now forms.now.items)).next ≤ 256 }
     ensures { OnOk result (formula_of tests.new forms.new.items
         ≡ form_element slots (kind_view kind.now) (element_view rule.now) (formula_of tests.old forms.old.items)) }
 {
@@ -195,7 +203,8 @@ fn push_form(
     taken: bool,
     forms: &mut Vec<Form>,
 ) -> Result<(), OutOfMemory>
-    ensures { OnOk result (map form_view forms.new.items ≡ map form_view forms.old.items ++ turned taken (form_view form) ∷ []) }
+    ensures { OnOk result (map form_view forms.new.items ≡ map form_view forms.old.items
+        ++ turned taken (form_view form) ∷ []) }
 {
     if taken {
         forms.push(unless(alloc, form)?)?;

@@ -1,5 +1,7 @@
 //! Laws of the definitions alone. Each is carried by a function that does nothing when it runs.
-ghost use Rattle.guard_tables.specs.Laws.{NoneLaw, OnlyLaw, AddedLaw, BelowLaw, WithoutLaw, SoundLaw, FormLaw, ConjunctionLaw, SpeakLaw, CountLaw, EachPartLaw, WithinPartLaw, FewLaw, LayLaw, MemberLaw, TableMembersLaw, TableRoomLaw, StandsLaw};
+ghost use Rattle.guard_tables.specs.Laws.{NoneLaw, OnlyLaw, AddedLaw, BelowLaw, WithoutLaw, SoundLaw, FormLaw};
+ghost use Rattle.guard_tables.specs.Laws.{ConjunctionLaw, SpeakLaw, CountLaw, EachPartLaw, WithinPartLaw, FewLaw};
+ghost use Rattle.guard_tables.specs.Laws.{LayLaw, MemberLaw, TableMembersLaw, TableRoomLaw, StandsLaw};
 
 /// Which slots a set has.
 pub fn law_slots()
@@ -10,8 +12,8 @@ pub fn law_slots()
     ensures without { WithoutLaw }
 {}
 
-/// What a type or a constraint asks of the values at a node is what some terms of the node ask, with formulas over slots
-/// of the node's own where it isn't a conjunction.
+/// What a type or a constraint asks of the values at a node is what some terms of the node ask, with formulas over
+/// slots of the node's own where it isn't a conjunction.
 pub fn law_forms()
     ensures fails { FormLaw }
     ensures conjunctions { ConjunctionLaw }

@@ -18,7 +18,9 @@ ghost use Rattle.guard_tables.specs.Plan.{asked_of};
 ghost use Rattle.guard_tables.specs.TableNodes.{own_tags};
 ghost use Rattle.guard_tables.specs.inside.DemandViews.{slot_demands_view, terms_view};
 ghost use Rattle.guard_tables.specs.inside.DemandsOfParts.{part_asked};
-ghost use Rattle.guard_tables.specs.inside.Assembled.{Lays, LaysParts, Extends, MayCome, MayBeLaid, AskedMayBeLaid, KindMayBeLaid, PartsMayBeLaid, body_of_group, parts_of_group, body_of_elements, side_of_part};
+ghost use Rattle.guard_tables.specs.inside.Assembled.{Lays, LaysParts, Extends, MayCome, MayBeLaid, AskedMayBeLaid};
+ghost use Rattle.guard_tables.specs.inside.Assembled.{KindMayBeLaid, PartsMayBeLaid, body_of_group, parts_of_group};
+ghost use Rattle.guard_tables.specs.inside.Assembled.{body_of_elements, side_of_part};
 ghost use Rattle.guard_tables.specs.inside.SideViews.{part_side_view};
 
 use crate::ascending::ascend;
@@ -82,7 +84,8 @@ fn lay_asked(
 ) -> Result<Assembled, OutOfMemory>
     requires { AskedMayBeLaid (kind_view kind.now) (slot_demands_view demands.now) }
     ensures { IfOk result (λ l. Lays builder l (plans.plan (own_tags tag) (der.is_constructed (kind_view kind.now))
-        (plan.implied_of (forms_of (slot_demands_view demands.now)).implications (plan.lay_kind (kind_view kind.now) (terms_at (slot_demands_view demands.now)))))) }
+        (plan.implied_of (forms_of (slot_demands_view demands.now)).implications
+        (plan.lay_kind (kind_view kind.now) (terms_at (slot_demands_view demands.now)))))) }
 {
     let formulas = forms_of(alloc, demands)?;
     let laid = lay_kind(alloc, kind, &formulas.terms, tag, builder)?;
@@ -175,7 +178,8 @@ fn lay_elements(
     builder: Builder,
 ) -> Result<Assembled, OutOfMemory>
     requires { MayBeLaid (type_view element.now) (each_of (terms_view terms.now)) }
-    ensures { IfOk result (λ l. Lays builder l (plans.plan (own_tags tag) true (asked_of (map condition_view conditions.list.items)
+    ensures { IfOk result
+        (λ l. Lays builder l (plans.plan (own_tags tag) true (asked_of (map condition_view conditions.list.items)
         (body_of_elements elements (plan.lay (type_view element.now) (each_of (terms_view terms.now))))))) }
 {
     let demands = each_of(alloc, terms)?;
@@ -197,8 +201,10 @@ fn lay_group(
 ) -> Result<Assembled, OutOfMemory>
     requires few { component_count (components_of (map component_view comps.now)) ≤ most_components }
     requires parts { PartsMayBeLaid 0 (components_of (map component_view comps.now)) (terms_view terms.now) }
-    ensures { IfOk result (λ l. Lays builder l (plans.plan (own_tags tag) true (asked_of (map condition_view conditions.list.items)
-        (body_of_group group (parts_of_group group 0 (components_of (map component_view comps.now)) (terms_view terms.now)))))) }
+    ensures { IfOk result
+        (λ l. Lays builder l (plans.plan (own_tags tag) true (asked_of (map condition_view conditions.list.items)
+        (body_of_group group
+        (parts_of_group group 0 (components_of (map component_view comps.now)) (terms_view terms.now)))))) }
 {
     let parts = lay_each(alloc, comps, group, terms, builder)?;
     let whole = as_parts(alloc, parts, group, tag, ascend(comps))?;
@@ -215,7 +221,8 @@ fn lay_each(
     builder: Builder,
 ) -> Result<AssembledParts, OutOfMemory>
     requires { PartsMayBeLaid 0 (components_of (map component_view comps.now)) (terms_view terms.now) }
-    ensures { IfOk result (λ l. LaysParts builder l (parts_of_group group 0 (components_of (map component_view comps.now)) (terms_view terms.now))) }
+    ensures { IfOk result (λ l. LaysParts builder l
+        (parts_of_group group 0 (components_of (map component_view comps.now)) (terms_view terms.now))) }
 {
     let mut parts = AssembledParts {
         builder,
@@ -241,7 +248,8 @@ fn lay_part(
     requires laid { MayBeLaid (component_view comp.now).ty (part_asked asked.now).demands }
     requires proper { IsTrue (is_proper_presence (component_view comp.now).ty (component_view comp.now).presence) }
     ensures { IfOk result (λ l. Extends parts l
-        (side_of_part group (component_view comp.now) (part_asked asked.now) (plan.lay (component_view comp.now).ty (part_asked asked.now).demands))
+        (side_of_part group (component_view comp.now) (part_asked asked.now)
+        (plan.lay (component_view comp.now).ty (part_asked asked.now).demands))
         (plan.lay (component_view comp.now).ty (part_asked asked.now).demands)) }
 {
     let side = side_of(alloc, comp, group, asked)?;

@@ -7,7 +7,8 @@ ghost use Rattle.guard_tables.specs.NodeViews.{condition_view};
 ghost use Rattle.guard_tables.specs.Plan as plans;
 ghost use Rattle.guard_tables.specs.Slots.{none};
 ghost use Rattle.guard_tables.specs.TableNodes.{Spot, spot_of, own_tags, parts_between, ascend, IsNode};
-ghost use Rattle.guard_tables.specs.inside.Bare.{bare_hot, plain_hot, IsBare, kind_of_group, kind_of_elements, slots_of};
+ghost use Rattle.guard_tables.specs.inside.Bare.{bare_hot, plain_hot, IsBare, kind_of_group};
+ghost use Rattle.guard_tables.specs.inside.Bare.{kind_of_elements, slots_of};
 ghost use Rattle.guard_tables.specs.inside.Assembled.{body_of_group, is_exclusive};
 ghost use Rattle.guard_tables.specs.inside.SideViews.{part_side_view};
 
@@ -124,7 +125,8 @@ pub(crate) fn simple_node(
 ) -> Node
     ensures node { (spots : List Spot) (k : ℕ) → IsNode result.hot result.cold spots k }
     ensures plan { (spots : List Spot) → (spot_of result.hot result.cold spots).plan
-        ≡ plans.plan (own_tags tag) false (plans.simple (views.kind_view kind items.items) (map condition_view conditions.list.items)) }
+        ≡ plans.plan (own_tags tag) false
+        (plans.simple (views.kind_view kind items.items) (map condition_view conditions.list.items)) }
 {
     with_plain(asking_node(alloc, kind, items, conditions, tag))
 }
@@ -139,7 +141,8 @@ fn asking_node(
 ) -> Node
     ensures node { (spots : List Spot) (k : ℕ) → IsNode result.hot result.cold spots k }
     ensures plan { (spots : List Spot) → (spot_of result.hot result.cold spots).plan
-        ≡ plans.plan (own_tags tag) false (plans.simple (views.kind_view kind items.items) (map condition_view conditions.list.items)) }
+        ≡ plans.plan (own_tags tag) false
+        (plans.simple (views.kind_view kind items.items) (map condition_view conditions.list.items)) }
 {
     let asked = !conditions.list.is_empty();
     let mut node = bare(
@@ -158,7 +161,8 @@ fn asking_node(
 
 /// The node with the numbers that are plain there.
 fn with_plain(node: Node) -> Node
-    ensures node { (spots : List Spot) (k : ℕ) → IsNode node.hot node.cold spots k → IsNode result.hot result.cold spots k }
+    ensures node { (spots : List Spot) (k : ℕ) → IsNode node.hot node.cold spots k →
+        IsNode result.hot result.cold spots k }
     ensures spot { (spots : List Spot) → spot_of result.hot result.cold spots ≡ spot_of node.hot node.cold spots }
 {
     let plain = plain_interval(&node.hot, &node.cold);
@@ -178,7 +182,8 @@ pub(crate) fn group_node(
     ascending: bool,
 ) -> Node
     ensures node { (spots : List Spot) (k : ℕ) → first + count ≤ k → count ≤ most_components
-        → (ascending ≡ true → ascend None (parts_between spots first count) ≡ true) → IsNode result.hot result.cold spots k }
+        → (ascending ≡ true → ascend None (parts_between spots first count) ≡ true) →
+        IsNode result.hot result.cold spots k }
     ensures plan { (spots : List Spot) → (spot_of result.hot result.cold spots).plan
         ≡ plans.plan (own_tags tag) true (body_of_group group (parts_between spots first count)) }
 {
@@ -197,7 +202,8 @@ pub(crate) fn group_node(
 
 /// The node as a component of which this is said.
 pub(crate) fn with_side(node: Node, side: PartSide) -> Node
-    ensures node { (spots : List Spot) (k : ℕ) → IsNode node.hot node.cold spots k → IsNode result.hot result.cold spots k }
+    ensures node { (spots : List Spot) (k : ℕ) → IsNode node.hot node.cold spots k →
+        IsNode result.hot result.cold spots k }
     ensures spot { (spots : List Spot) → spot_of result.hot result.cold spots
         ≡ record { side = part_side_view side; plan = (spot_of node.hot node.cold spots).plan } }
 {

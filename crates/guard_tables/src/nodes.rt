@@ -70,7 +70,8 @@ fn is_crowded_among(
     way: &[usize],
 ) -> Result<bool, OutOfMemory>
     ensures { IfOk result (λ found. found
-        ≡ crowded_among (type_view declared.now ∷ types_view rules.now) way.now 0 (components_of (map component_view comps.now))) }
+        ≡ crowded_among (type_view declared.now ∷ types_view rules.now) way.now 0
+        (components_of (map component_view comps.now))) }
 {
     for (place, comp) in comps.iter().enumerate() {
         if is_crowded_at(alloc, &comp.ty, declared, rules, place, way)? {

@@ -17,14 +17,16 @@ use std::alloc::Global;
 /// The integers that the constraint allows. It fails only where memory runs out.
 #[cycle(number_sets)]
 pub fn numbers_of(alloc: Global, constraint: &Cons) -> Result<IntSet, OutOfMemory>
-    ensures { IfOk result (λ set. HasNumbers set (λ kind z. holds (constraint_view constraint.now) kind (abstract.integer z))) }
+    ensures { IfOk result
+        (λ set. HasNumbers set (λ kind z. holds (constraint_view constraint.now) kind (abstract.integer z))) }
 {
     numbers_of_rule(alloc, &constraint.rule)
 }
 
 #[cycle(number_sets)]
 fn numbers_of_rule(alloc: Global, rule: &Rule) -> Result<IntSet, OutOfMemory>
-    ensures { IfOk result (λ set. HasNumbers set (λ kind z. holds_element (element_view rule.now) kind (abstract.integer z))) }
+    ensures { IfOk result
+        (λ set. HasNumbers set (λ kind z. holds_element (element_view rule.now) kind (abstract.integer z))) }
 {
     match rule {
         Rule::One(value) => number_alone(alloc, value),

@@ -1,7 +1,8 @@
 //! What a type, and WITH COMPONENTS (X.680 51.8.5 to 51.8.9), ask of parts.
 ghost use Rattle.std.specs.Prelude.{◌≡◌, ◌++◌, map, option_map, OnOk};
 ghost use Rattle.guard_model.specs.Components.{components_in, component_at};
-ghost use Rattle.guard_model.specs.TypeView.{kind_view, type_view, component_view, components_of, part_view, parts_of, presence_view};
+ghost use Rattle.guard_model.specs.TypeView.{kind_view, type_view, component_view, components_of};
+ghost use Rattle.guard_model.specs.TypeView.{part_view, parts_of, presence_view};
 ghost use Rattle.guard_tables.specs.Terms.{is_scalar, parts_from, kind_terms, listed_terms, placed, unlisted};
 ghost use Rattle.guard_tables.specs.inside.OnePart.{inner_terms, part_terms, ruled_out_terms};
 ghost use Rattle.guard_tables.specs.inside.DemandViews.{terms_view};
@@ -32,7 +33,8 @@ pub(crate) fn push_kind<'a>(
     slots: Slots,
     terms: &mut Vec<Term<'a>>,
 ) -> Result<(), OutOfMemory>
-    ensures { OnOk result (terms_view terms.new.items ≡ terms_view terms.old.items ++ kind_terms slots (kind_view kind.now)) }
+    ensures { OnOk result (terms_view terms.new.items ≡ terms_view terms.old.items
+        ++ kind_terms slots (kind_view kind.now)) }
 {
     match kind {
         Kind::Sequence(comps) => push_comps(comps, slots, terms),
@@ -83,7 +85,8 @@ fn push_listed<'a>(
     terms: &mut Vec<Term<'a>>,
 ) -> Result<(), OutOfMemory>
     ensures { OnOk result (terms_view terms.new.items
-        ≡ terms_view terms.old.items ++ listed_terms slots (kind_view kind.now) partial (parts_of (map part_view parts.now))) }
+        ≡ terms_view terms.old.items
+        ++ listed_terms slots (kind_view kind.now) partial (parts_of (map part_view parts.now))) }
 {
     for part in parts {
         push_part(part, kind, partial, slots, terms)?;
@@ -113,7 +116,8 @@ fn push_inner<'a>(
     terms: &mut Vec<Term<'a>>,
 ) -> Result<(), OutOfMemory>
     ensures { OnOk result (terms_view terms.new.items
-        ≡ terms_view terms.old.items ++ inner_terms slots (kind_view kind.now) (part_view part.now).place (part_view part.now).within) }
+        ≡ terms_view terms.old.items
+        ++ inner_terms slots (kind_view kind.now) (part_view part.now).place (part_view part.now).within) }
 {
     match &part.cons {
         Some(constraint) => {
@@ -134,7 +138,8 @@ fn push_word<'a>(
     terms: &mut Vec<Term<'a>>,
 ) -> Result<(), OutOfMemory>
     ensures { OnOk result (terms_view terms.new.items
-        ≡ terms_view terms.old.items ++ placed partial (component_at at (components_in (kind_view kind.now))) word at slots) }
+        ≡ terms_view terms.old.items
+        ++ placed partial (component_at at (components_in (kind_view kind.now))) word at slots) }
 {
     push_said(
         kind.component(at),
@@ -156,7 +161,8 @@ fn push_said<'a>(
     terms: &mut Vec<Term<'a>>,
 ) -> Result<(), OutOfMemory>
     ensures { OnOk result (terms_view terms.new.items
-        ≡ terms_view terms.old.items ++ placed partial (option_map (λ c. component_view c.now) comp.entry) word place slots) }
+        ≡ terms_view terms.old.items
+        ++ placed partial (option_map (λ c. component_view c.now) comp.entry) word place slots) }
 {
     let Some(comp) = comp else {
         return Ok(());
@@ -202,7 +208,8 @@ fn push_ruled_out<'a>(
     terms: &mut Vec<Term<'a>>,
 ) -> Result<(), OutOfMemory>
     ensures { OnOk result (terms_view terms.new.items ≡ terms_view terms.old.items
-        ++ ruled_out_terms slots (kind_view kind.now) (parts_of (map part_view parts.now)) place (presence_view presence.now)) }
+        ++ ruled_out_terms slots (kind_view kind.now) (parts_of (map part_view parts.now)) place
+        (presence_view presence.now)) }
 {
     if is_ruled_out(parts, kind, place, presence) {
         return push(terms, slots, Atom::Unsent(place));

@@ -60,7 +60,8 @@ fn is_unwatched(cold: &Cold) -> bool
 
 /// Where the kind's contents octets spell numbers.
 fn numbers_passed(kind: SimpleKind, cold: &Cold) -> Interval
-    ensures { (os : List ℕ) → integer_fault os ≡ None → IsWithin result (twos_complement os) → IsPassed kind cold.now os }
+    ensures { (os : List ℕ) → integer_fault os ≡ None → IsWithin result (twos_complement os) →
+        IsPassed kind cold.now os }
 {
     match kind {
         SimpleKind::Integer => passed_by_all(&cold.conditions.list),

@@ -46,7 +46,8 @@ pub(crate) fn failed_by(conditions: &[Condition], number: i128) -> Option<Slots>
 /// Whether the number passes; None where the test isn't on a number.
 fn passes(test: &Test, number: i128) -> Option<bool>
     ensures numbers { is_some result ≡ is_on_number (test_view test.now) }
-    ensures passed { IfSome result (λ passed. (f : Facts) → f.number ≡ Some number → test_passes (test_view test.now) f ≡ passed) }
+    ensures passed { IfSome result (λ passed. (f : Facts) → f.number ≡ Some number →
+        test_passes (test_view test.now) f ≡ passed) }
 {
     match test {
         Test::Numbers(set) => Some(set.has(number)),
@@ -140,7 +141,8 @@ fn segment_of(conditions: &[Condition], first: i128, last: i128) -> Option<Segme
 
 /// Whether the same of these fail for all numbers from the first to the last.
 fn are_steady(conditions: &[Condition], first: i128, last: i128) -> bool
-    ensures { result ≡ true → (z : ℤ) → first ≤ℤ z → z ≤ℤ last → FailsAlike (map condition_view conditions.now) z first }
+    ensures { result ≡ true → (z : ℤ) → first ≤ℤ z → z ≤ℤ last →
+        FailsAlike (map condition_view conditions.now) z first }
 {
     for condition in conditions {
         if !is_steady(&condition.test, first, last) {
@@ -151,7 +153,8 @@ fn are_steady(conditions: &[Condition], first: i128, last: i128) -> bool
 }
 
 fn is_steady(test: &Test, first: i128, last: i128) -> bool
-    ensures { result ≡ true → (z : ℤ) → first ≤ℤ z → z ≤ℤ last → (f g : Facts) → f.number ≡ Some z → g.number ≡ Some first
+    ensures { result ≡ true → (z : ℤ) → first ≤ℤ z → z ≤ℤ last → (f g : Facts) → f.number ≡ Some z →
+        g.number ≡ Some first
         → test_passes (test_view test.now) f ≡ test_passes (test_view test.now) g }
 {
     match test {

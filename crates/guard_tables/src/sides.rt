@@ -87,7 +87,8 @@ fn failed_by(ty: &Ty, value: &Value, demands: &[SlotDemand<'_>], present: Slots)
     requires sound { IsTrue (is_sound (type_view ty.now)) }
     requires fits { IsTrue (fits (type_view ty.now) (value_view value.now)) }
     requires apt { AreApt (kind_of (type_view ty.now)) (slot_demands_view demands.now) }
-    ensures { result ≡ type_marked (type_view ty.now) (lay (type_view ty.now) (slot_demands_view demands.now)) (value_view value.now) present }
+    ensures { result ≡ type_marked (type_view ty.now) (lay (type_view ty.now) (slot_demands_view demands.now))
+        (value_view value.now) present }
 {
     present.law_words();
     let mut failed = present;
@@ -115,7 +116,8 @@ pub(crate) fn is_met(demand: Demand<'_>, kind: &Kind, value: &Value) -> bool
 /// None where a length in them would need more than four octets.
 fn default_octets(alloc: Global, ty: &Ty, value: &Value) -> Result<Option<Vec<u8>>, OutOfMemory>
     requires { IsTrue (fits (type_view ty.now) (value_view value.now)) }
-    ensures { IfOk result (λ o. option_map (λ v. v.items) o ≡ default_octets (type_view ty.now) (value_view value.now)) }
+    ensures { IfOk result (λ o. option_map (λ v. v.items) o
+        ≡ default_octets (type_view ty.now) (value_view value.now)) }
 {
     let Some(contents) = if_short(encode_contents(alloc, &ty.kind, value))? else {
         return Ok(None);

@@ -1,6 +1,7 @@
 //! Tables.
 ghost use Rattle.std.specs.Cmp.Lexicographic.{pointwise};
-ghost use Rattle.std.specs.Prelude.{◌≡◌, ◌≤◌, ◌&&◌, ◌∷◌, None, Some, All, length, map, slice_get, option_map, IsTrue, IfOk, OnOk, IfErr, IfSome};
+ghost use Rattle.std.specs.Prelude.{◌≡◌, ◌≤◌, ◌&&◌, ◌∷◌, None, Some, All, length, map, slice_get};
+ghost use Rattle.std.specs.Prelude.{option_map, IsTrue, IfOk, OnOk, IfErr, IfSome};
 ghost use Rattle.guard_model.specs.Tags.{same_tag};
 ghost use Rattle.guard_model.specs.TypeView.{type_view};
 ghost use Rattle.guard_der.specs.Sound.{is_sound};
@@ -58,7 +59,8 @@ impl Table {
         // and then each rule's type has the values and the encodings of the declared one, constraints aside.
         ensures alike { IfOk result (λ table. All (AreAlike (type_view declared.now)) (types_view rules.now)) }
         // A refusal names their first fault.
-        ensures refused { IfErr result (λ f. IfSome (named f) (λ fault. first_fault (type_view declared.now) (types_view rules.now) ≡ Some fault)) }
+        ensures refused { IfErr result (λ f. IfSome (named f)
+            (λ fault. first_fault (type_view declared.now) (types_view rules.now) ≡ Some fault)) }
     {
         find_fault(alloc, declared, rules)?;
         let compiled = nodes_of(alloc, declared, rules)?;
@@ -103,7 +105,8 @@ fn nodes_of<'a>(
 ) -> Result<Compiled<'a>, OutOfMemory>
     requires { AreConsistent (type_view declared.now) (types_view rules.now) }
     ensures stands { IfOk result (λ c. StandsFor c.nodes (type_view declared.now) (types_view rules.now)) }
-    ensures types { IfOk result (λ c. types_at (type_view declared.now) (types_view c.others.items) c.places.items ≡ types_view rules.now) }
+    ensures types { IfOk result (λ c. types_at (type_view declared.now) (types_view c.others.items) c.places.items
+        ≡ types_view rules.now) }
 {
     let sharing = share(alloc, declared, rules)?;
     let demands = demands_of(alloc, declared, &sharing.others, &sharing.places)?;
@@ -118,7 +121,8 @@ fn nodes_of<'a>(
 /// Answers the first fault of the types, if they have one.
 fn find_fault(alloc: Global, declared: &Ty, rules: &[&Ty]) -> Result<(), TableFault>
     ensures faultless { OnOk result (first_fault (type_view declared.now) (types_view rules.now) ≡ None) }
-    ensures refused { IfErr result (λ f. IfSome (named f) (λ fault. first_fault (type_view declared.now) (types_view rules.now) ≡ Some fault)) }
+    ensures refused { IfErr result
+        (λ f. IfSome (named f) (λ fault. first_fault (type_view declared.now) (types_view rules.now) ≡ Some fault)) }
 {
     if rules.len() > MOST_RULES {
         return Err(TableFault::TooManyRules);

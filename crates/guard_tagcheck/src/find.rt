@@ -26,7 +26,8 @@ pub fn find_clash(alloc: Global, ty: &Ty) -> Result<Option<Clash>, OutOfMemory>
     // A clash that is found is the type's.
     ensures clash { IfOk result (λ found. IfSome found (λ c. IsClash (type_view ty.now) (clash_view c))) }
     // The type's clash is found.
-    ensures only { (c : AbstractClash) → IsClash (type_view ty.now) c → IfOk result (λ found. option_map clash_view found ≡ Some c) }
+    ensures only { (c : AbstractClash) → IsClash (type_view ty.now) c →
+        IfOk result (λ found. option_map clash_view found ≡ Some c) }
 {
     first_clash(alloc, ty)
 }
@@ -49,7 +50,8 @@ fn first_clash(alloc: Global, ty: &Ty) -> Result<Option<Clash>, OutOfMemory>
 fn clash_of_elements(alloc: Global, element: &Ty) -> Result<Option<Clash>, OutOfMemory>
     requires limits { IsTrue (keeps_limits (type_view element.now)) }
     requires depth { nesting (type_view element.now) < deepest_nesting }
-    ensures { IfOk result (λ found. option_map clash_view found ≡ inside (Element 0) (first_clash (type_view element.now))) }
+    ensures { IfOk result (λ found. option_map clash_view found
+        ≡ inside (Element 0) (first_clash (type_view element.now))) }
 {
     let found = first_clash(alloc, element)?;
     match found {
@@ -68,7 +70,9 @@ fn clash_among(
     requires limits { IsTrue (components_keep_limits (components_of (map component_view comps.now))) }
     requires few { length comps.now ≤ most_components }
     requires depth { deepest (components_of (map component_view comps.now)) < deepest_nesting }
-    ensures { IfOk result (λ found. option_map clash_view found ≡ option_or (here (first_pair in_sequence 0 (components_of (map component_view comps.now)))) (clash_inside 0 (components_of (map component_view comps.now)))) }
+    ensures { IfOk result (λ found. option_map clash_view found
+        ≡ option_or (here (first_pair in_sequence 0 (components_of (map component_view comps.now))))
+        (clash_inside 0 (components_of (map component_view comps.now)))) }
 {
     let pair = least_pair(alloc, comps, in_sequence)?;
     match pair {
@@ -86,7 +90,8 @@ fn clash_inside(alloc: Global, comps: &[Comp]) -> Result<Option<Clash>, OutOfMem
     requires limits { IsTrue (components_keep_limits (components_of (map component_view comps.now))) }
     requires few { length comps.now ≤ most_components }
     requires depth { deepest (components_of (map component_view comps.now)) < deepest_nesting }
-    ensures { IfOk result (λ found. option_map clash_view found ≡ clash_inside 0 (components_of (map component_view comps.now))) }
+    ensures { IfOk result (λ found. option_map clash_view found
+        ≡ clash_inside 0 (components_of (map component_view comps.now))) }
 {
     for (index, comp) in comps.iter().enumerate() {
         let found = first_clash(alloc, &comp.ty)?;

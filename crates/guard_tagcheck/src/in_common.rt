@@ -22,7 +22,8 @@ pub struct InCommon {
 /// earlier one may begin and one of the later one as well. None where the type has no clash there. It fails only where
 /// memory runs out.
 pub fn common_to(ty: &Ty, clash: &Clash) -> Result<Option<InCommon>, OutOfMemory>
-    ensures { IfOk result (λ found. option_map common_view found ≡ in_common (type_view ty.now) (clash_view clash.now)) }
+    ensures { IfOk result (λ found. option_map common_view found
+        ≡ in_common (type_view ty.now) (clash_view clash.now)) }
 {
     match type_at(ty, clash.path.as_slice()) {
         Some(whole) => common_in(whole, clash.first, clash.second),

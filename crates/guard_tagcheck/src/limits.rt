@@ -47,7 +47,8 @@ fn is_kind_within(kind: &Kind, depth: usize) -> bool
 
 #[cycle(limits)]
 fn are_within(comps: &[Comp], depth: usize) -> bool
-    ensures { result ≡ (nat_le (component_count (components_of (map component_view comps.now))) most_components && all_within (components_of (map component_view comps.now)) depth) }
+    ensures { result ≡ (nat_le (component_count (components_of (map component_view comps.now))) most_components
+        && all_within (components_of (map component_view comps.now)) depth) }
 {
     if comps.len() > MOST_COMPONENTS {
         return false;

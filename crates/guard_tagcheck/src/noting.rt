@@ -38,8 +38,10 @@ pub(crate) fn least_pair(
 /// before it that one of them has.
 #[cycle(noting)]
 fn note(notes: &mut BTreeMap<Tag, u8>, ty: &Ty, position: u8) -> Result<Option<u8>, OutOfMemory>
-    ensures noted { OnOk result (Notes (noted notes.old.entries) (begins_with (type_view ty.now)) position (noted notes.new.entries)) }
-    ensures first { IfOk result (IsEarliest (IsNoted (noted notes.old.entries) (begins_with (type_view ty.now)) position)) }
+    ensures noted { OnOk result
+        (Notes (noted notes.old.entries) (begins_with (type_view ty.now)) position (noted notes.new.entries)) }
+    ensures first { IfOk result
+        (IsEarliest (IsNoted (noted notes.old.entries) (begins_with (type_view ty.now)) position)) }
 {
     if let Some(tag) = ty.tags.first() {
         return note_tag(notes, *tag, position);
@@ -56,8 +58,10 @@ fn note_all(
     alternatives: &[Comp],
     position: u8,
 ) -> Result<Option<u8>, OutOfMemory>
-    ensures noted { OnOk result (Notes (noted notes.old.entries) (one_begins_with (components_of (map component_view alternatives.now))) position (noted notes.new.entries)) }
-    ensures first { IfOk result (IsEarliest (IsNoted (noted notes.old.entries) (one_begins_with (components_of (map component_view alternatives.now))) position)) }
+    ensures noted { OnOk result (Notes (noted notes.old.entries)
+        (one_begins_with (components_of (map component_view alternatives.now))) position (noted notes.new.entries)) }
+    ensures first { IfOk result (IsEarliest (IsNoted (noted notes.old.entries)
+        (one_begins_with (components_of (map component_view alternatives.now))) position)) }
 {
     let mut first = None;
     for alternative in alternatives {

@@ -1,5 +1,6 @@
 //! The first clash of a type.
-ghost use Rattle.std.specs.Prelude.{◌≡◌, suc, ◌≤◌, ◌<◌, length, map, drop, option_map, IfOk, IfErr, IsTrue, IsOk, Err, Some};
+ghost use Rattle.std.specs.Prelude.{◌≡◌, suc, ◌≤◌, ◌<◌, length, map, drop, option_map};
+ghost use Rattle.std.specs.Prelude.{IfOk, IfErr, IsTrue, IsOk, Err, Some};
 ghost use Rattle.std.specs.Option.{option_or};
 ghost use Rattle.guard_model.specs.TypeView.{type_view, component_view, components_of, presence_view};
 ghost use Rattle.guard_model.specs.Answer.{Gives};
@@ -30,7 +31,8 @@ pub fn check(ty: &Ty) -> Result<(), Clash>
     // A clash that it returns is the type's.
     ensures clash { IfErr result (λ c. IsClash (type_view ty.now) (clash_view c)) }
     // It returns the type's clash.
-    ensures only { (c : AbstractClash) → IsClash (type_view ty.now) c → Gives (λ x. x) (λ e. Some (clash_view e)) result (Err c) }
+    ensures only { (c : AbstractClash) → IsClash (type_view ty.now) c →
+        Gives (λ x. x) (λ e. Some (clash_view e)) result (Err c) }
 {
     match first_clash(ty) {
         Some(clash) => Err(clash),
@@ -68,7 +70,8 @@ fn clash_among(comps: &[Comp], in_sequence: bool) -> Option<Clash>
     requires limits { IsTrue (components_keep_limits (components_of (map component_view comps.now))) }
     requires few { length comps.now ≤ most_components }
     requires depth { deepest (components_of (map component_view comps.now)) < deepest_nesting }
-    ensures { option_map clash_view result ≡ option_or (here (first_pair in_sequence 0 (components_of (map component_view comps.now)))) (clash_inside 0 (components_of (map component_view comps.now))) }
+    ensures { option_map clash_view result ≡ option_or (here (first_pair in_sequence 0 (components_of
+        (map component_view comps.now)))) (clash_inside 0 (components_of (map component_view comps.now))) }
 {
     match first_pair(comps, in_sequence) {
         Some((first, second)) => Some(Clash {
@@ -115,7 +118,8 @@ fn first_pair(comps: &[Comp], in_sequence: bool) -> Option<(u8, u8)>
 fn partner(comps: &[Comp], index: usize, ty: &Ty, in_sequence: bool) -> Option<u8>
     requires there { index < length comps.now }
     requires few { length comps.now ≤ most_components }
-    ensures { result ≡ partner in_sequence (type_view ty.now) (suc index) (components_of (map component_view (drop (suc index) comps.now))) }
+    ensures { result ≡ partner in_sequence (type_view ty.now) (suc index)
+        (components_of (map component_view (drop (suc index) comps.now))) }
 {
     for later in index + 1..comps.len() {
         let comp = &comps[later];

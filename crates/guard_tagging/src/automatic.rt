@@ -42,7 +42,8 @@ pub fn is_automatic_list(default: TagDefault, comps: &[CompTree]) -> bool
 }
 
 pub fn is_automatic_choice(default: TagDefault, alternatives: &[AlternativeTree]) -> bool
-    ensures { result ≡ types.is_automatic_choice default (alternatives_of (map written.alternative_view alternatives.now)) }
+    ensures { result
+        ≡ types.is_automatic_choice default (alternatives_of (map written.alternative_view alternatives.now)) }
 {
     is_automatic_default(default) && !has_tagged_alternative(alternatives)
 }

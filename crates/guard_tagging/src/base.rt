@@ -48,7 +48,8 @@ pub fn integer_type(
     trees: &[NamedTree],
     before: usize,
 ) -> Result<Box<Made>, TagFault>
-    ensures { Gives (λ m. made_view m.value) named result (reading.integer_type (node_view node.now) (map written.named_view trees.now) before) }
+    ensures { Gives (λ m. made_view m.value) named result
+        (reading.integer_type (node_view node.now) (map written.named_view trees.now) before) }
 {
     let places = named_places(alloc, trees)?;
     let whole = numbered_whole(alloc, node, 2, &places, before)?;
@@ -64,7 +65,8 @@ pub fn bits_type(
     trees: &[NamedTree],
     before: usize,
 ) -> Result<Box<Made>, TagFault>
-    ensures { Gives (λ m. made_view m.value) named result (reading.bits_type (node_view node.now) (map written.named_view trees.now) before) }
+    ensures { Gives (λ m. made_view m.value) named result
+        (reading.bits_type (node_view node.now) (map written.named_view trees.now) before) }
 {
     let places = named_places(alloc, trees)?;
     let whole = numbered_whole(alloc, node, 3, &places, before)?;
@@ -80,7 +82,8 @@ pub fn enumerated_type(
     trees: &[ItemTree],
     before: usize,
 ) -> Result<Box<Made>, TagFault>
-    ensures { Gives (λ m. made_view m.value) named result (reading.enumerated_type (node_view node.now) (map written.item_view trees.now) before) }
+    ensures { Gives (λ m. made_view m.value) named result
+        (reading.enumerated_type (node_view node.now) (map written.item_view trees.now) before) }
 {
     let places = item_places(alloc, trees)?;
     let whole = numbered_whole(alloc, node, 10, &places, before)?;
@@ -97,7 +100,8 @@ fn numbered_whole(
     places: &[Placed],
     before: usize,
 ) -> Result<Whole, TagFault>
-    ensures { Gives whole_view named result (reading.numbered_whole (node_view node.now) tag_number (map place_view places.now) before) }
+    ensures { Gives whole_view named result
+        (reading.numbered_whole (node_view node.now) tag_number (map place_view places.now) before) }
 {
     let tags = tags_of(alloc, node, &[universal(tag_number)], false)?;
     check_differ(alloc, places)?;
@@ -123,7 +127,8 @@ pub fn structure_type(
     collection: Collection,
     parts: Box<Parts>,
 ) -> Result<Box<Made>, TagFault>
-    ensures { Gives (λ m. made_view m.value) named result (reading.structure_type (node_view node.now) collection (parts_view parts.value)) }
+    ensures { Gives (λ m. made_view m.value) named result
+        (reading.structure_type (node_view node.now) collection (parts_view parts.value)) }
 {
     let tags = tags_of(
         alloc,
@@ -140,7 +145,8 @@ pub fn structure_type(
 /// CHOICE with its alternatives, which are nested one level deeper.
 #[tactic(auto, unfolding(crate::specs::inside::ReadBases::choice_type))]
 pub fn choice_type(alloc: Global, node: &Node, parts: Box<Parts>) -> Result<Box<Made>, TagFault>
-    ensures { Gives (λ m. made_view m.value) named result (reading.choice_type (node_view node.now) (parts_view parts.value)) }
+    ensures { Gives (λ m. made_view m.value) named result
+        (reading.choice_type (node_view node.now) (parts_view parts.value)) }
 {
     let tags = tags_of(alloc, node, &[], true)?;
     check_list(alloc, node.site, &parts)?;
@@ -157,7 +163,8 @@ pub fn of_type(
     collection: Collection,
     element: Box<Made>,
 ) -> Result<Box<Made>, TagFault>
-    ensures { Gives (λ m. made_view m.value) named result (reading.of_type (node_view node.now) collection (made_view element.value)) }
+    ensures { Gives (λ m. made_view m.value) named result
+        (reading.of_type (node_view node.now) collection (made_view element.value)) }
 {
     let tags = tags_of(
         alloc,
@@ -179,7 +186,8 @@ pub fn referred_to(
     ty: &Ty,
     before: usize,
 ) -> Result<Box<Made>, TagFault>
-    ensures { Gives (λ m. made_view m.value) named result (reading.referred_to (node_view node.now) (model.type_view ty.now) before) }
+    ensures { Gives (λ m. made_view m.value) named result
+        (reading.referred_to (node_view node.now) (model.type_view ty.now) before) }
 {
     let tags = tags_of(alloc, node, &ty.tags, is_untagged_choice(ty))?;
     let inside = nesting_inside(&ty.kind);

@@ -1,5 +1,6 @@
 //! The type of a definition, from its tree and the types of the definitions before it.
-ghost use Rattle.std.specs.Prelude.{◌≡◌, ◌↔◌, true, ◌≤◌, ◌+◌, IsTrue, Some, IfOk, IfErr, IfSome, map, length, min, slice_get, All};
+ghost use Rattle.std.specs.Prelude.{◌≡◌, ◌↔◌, true, ◌≤◌, ◌+◌, IsTrue, Some, IfOk, IfErr};
+ghost use Rattle.std.specs.Prelude.{IfSome, map, length, min, slice_get, All};
 ghost use Rattle.guard_model.specs.TypeView.{type_view};
 ghost use Rattle.guard_names.specs.Declarations.{Definition, definitions};
 ghost use Rattle.guard_names.specs.NamesView.{modules_of, order_of};
@@ -44,11 +45,14 @@ pub fn skeleton(alloc: Global, names: &Names, done: &[Ty], id: Id) -> Result<Ty,
     requires few { nodes_of_all (map type_view done.now) ≤ faults.most_nodes }
     requires limits { All (λ t. IsTrue (is_within_limits (type_view t))) done.now }
     requires spelled { All IsSpelledModule (modules_of names.now) }
-    ensures tagged { IfOk result (λ ty. IsTypeOf (modules_of names.now) (order_of names.now) (map type_view done.now) id (type_view ty)) }
-    ensures refused { IfErr result (λ f. IfSome (named f) (IsFaultOf (modules_of names.now) (order_of names.now) (map type_view done.now) id)) }
+    ensures tagged { IfOk result
+        (λ ty. IsTypeOf (modules_of names.now) (order_of names.now) (map type_view done.now) id (type_view ty)) }
+    ensures refused { IfErr result
+        (λ f. IfSome (named f) (IsFaultOf (modules_of names.now) (order_of names.now) (map type_view done.now) id)) }
     // So the tags can be checked, and the next definition follows.
     ensures limits { IfOk result (λ ty. IsTrue (is_within_limits (type_view ty))) }
-    ensures few { IfOk result (λ ty. nodes_of_all (map type_view done.now) + faults.nodes (type_view ty) ≤ faults.most_nodes) }
+    ensures few { IfOk result
+        (λ ty. nodes_of_all (map type_view done.now) + faults.nodes (type_view ty) ≤ faults.most_nodes) }
 {
     let automatic = automatic_lists(alloc, names, done)?;
     let before = Done {
@@ -69,13 +73,16 @@ pub fn skeleton_after(
     id: Id,
 ) -> Result<TaggedType, TagFault>
     requires next { slice_get (order_of names.now) (length done.now.types.now) ≡ Some id }
-    requires known { AreMeanings (modules_of names.now) (order_of names.now) (map type_view done.now.types.now) (done_view done.now) }
+    requires known { AreMeanings (modules_of names.now) (order_of names.now) (map type_view done.now.types.now)
+        (done_view done.now) }
     requires counted { done.now.nodes ≡ nodes_of_all (map type_view done.now.types.now) }
     requires few { done.now.nodes ≤ faults.most_nodes }
     requires limits { All (λ t. IsTrue (is_within_limits (type_view t))) done.now.types.now }
     requires spelled { All IsSpelledModule (modules_of names.now) }
-    ensures tagged { IfOk result (λ s. IsTypeOf (modules_of names.now) (order_of names.now) (map type_view done.now.types.now) id (type_view s.ty)) }
-    ensures refused { IfErr result (λ f. IfSome (named f) (IsFaultOf (modules_of names.now) (order_of names.now) (map type_view done.now.types.now) id)) }
+    ensures tagged { IfOk result (λ s. IsTypeOf (modules_of names.now) (order_of names.now)
+        (map type_view done.now.types.now) id (type_view s.ty)) }
+    ensures refused { IfErr result (λ f. IfSome (named f)
+        (IsFaultOf (modules_of names.now) (order_of names.now) (map type_view done.now.types.now) id)) }
     ensures limits { IfOk result (λ s. IsTrue (is_within_limits (type_view s.ty))) }
     // What is kept for the next one: how many types there are with it, and whether it is a list that is tagged
     // automatically.
@@ -104,8 +111,10 @@ fn scope_in<'s, 'm, 'a, 'd>(
     id: Id,
     done: Done<'d>,
 ) -> Scope<'s, 'm, 'a, 'd>
-    requires { (d : Definition) × (Some d ≡ slice_get (definitions (modules_of names.now)) id) × (d.home ≡ module_view home.now) }
-    ensures { scope_view result ≡ surroundings (modules_of names.now) (order_of names.now) (done_view done.entry) (module_view home.now) }
+    requires { (d : Definition) × (Some d ≡ slice_get (definitions (modules_of names.now)) id)
+        × (d.home ≡ module_view home.now) }
+    ensures { scope_view result
+        ≡ surroundings (modules_of names.now) (order_of names.now) (done_view done.entry) (module_view home.now) }
 {
     Scope {
         tag_default: home.tag_default.unwrap_or(TagDefault::Explicit),
@@ -118,7 +127,8 @@ fn scope_in<'s, 'm, 'a, 'd>(
 /// Which of the definitions are lists that are tagged automatically, in their order; of as many as there are types.
 fn automatic_lists(alloc: Global, names: &Names, types: &[Ty]) -> Result<Vec<bool>, AllocError>
     requires { length types.now ≤ length (order_of names.now) }
-    ensures { IfOk result (λ v. AreMeanings (modules_of names.now) (order_of names.now) (map type_view types.now) (known_list (map type_view types.now) v.items)) }
+    ensures { IfOk result (λ v. AreMeanings (modules_of names.now) (order_of names.now) (map type_view types.now)
+        (known_list (map type_view types.now) v.items)) }
 {
     let mut automatic = Vec::with_capacity(alloc, types.len())?;
     for place in 0..types.len() {
@@ -134,7 +144,8 @@ fn automatic_lists(alloc: Global, names: &Names, types: &[Ty]) -> Result<Vec<boo
 }
 
 fn is_automatic_definition(names: &Names, done: Done, id: Id) -> bool
-    ensures { result ≡ around.is_automatic_definition (modules_of names.now) (order_of names.now) (done_view done.entry) (slice_get (definitions (modules_of names.now)) id) }
+    ensures { result ≡ around.is_automatic_definition (modules_of names.now) (order_of names.now) (done_view done.entry)
+        (slice_get (definitions (modules_of names.now)) id) }
 {
     match names.home(id) {
         Some((home, assignment)) => {

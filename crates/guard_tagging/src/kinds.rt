@@ -60,7 +60,8 @@ pub fn plain_kind(plain: PlainType) -> Kind
 }
 
 pub fn structure_kind(collection: Collection, comps: Vec<Comp>) -> Kind
-    ensures { model.kind_view result ≡ types.structure_kind collection (model.components_of (map model.component_view comps.items)) }
+    ensures { model.kind_view result
+        ≡ types.structure_kind collection (model.components_of (map model.component_view comps.items)) }
 {
     match collection {
         Collection::Sequence => Kind::Sequence(comps),

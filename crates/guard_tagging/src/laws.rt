@@ -27,17 +27,21 @@ pub fn law_spelled(text: &[u8], tokens: &[Token])
 /// The numbers that the items of an ENUMERATED have are those of X.680 20.3: an item with a number has that one, and
 /// each other one the least number from 0 on that is neither written with an item nor the number of an item before it.
 pub fn law_numbering(items: &[ItemTree])
-    ensures { AreNumbered (written_numbers (map item_view items.now)) (map item_view items.now) (numbered (map item_view items.now)) }
+    ensures { AreNumbered (written_numbers (map item_view items.now)) (map item_view items.now)
+        (numbered (map item_view items.now)) }
 {}
 
 /// Whatever types the first definitions in the order have, there is one list of what is known of them, and going
 /// through them in their order finds it. By it the type of the next definition is found to be a list that is tagged
 /// automatically exactly where it is one by its tree and by what names mean.
 pub fn law_automatic(names: &Names, types: &[Ty])
-    ensures there_is { AreMeanings (modules_of names.now) (order_of names.now) (map type_view types.now) (known_from (modules_of names.now) (order_of names.now) (map type_view types.now)) }
-    ensures one { (known others : List Meaning) → AreMeanings (modules_of names.now) (order_of names.now) (map type_view types.now) known
+    ensures there_is { AreMeanings (modules_of names.now) (order_of names.now) (map type_view types.now)
+        (known_from (modules_of names.now) (order_of names.now) (map type_view types.now)) }
+    ensures one { (known others : List Meaning) →
+        AreMeanings (modules_of names.now) (order_of names.now) (map type_view types.now) known
         → AreMeanings (modules_of names.now) (order_of names.now) (map type_view types.now) others → known ≡ others }
-    ensures found { (known : List Meaning) → AreMeanings (modules_of names.now) (order_of names.now) (map type_view types.now) known
+    ensures found { (known : List Meaning) →
+        AreMeanings (modules_of names.now) (order_of names.now) (map type_view types.now) known
         → (number : ℕ) (d : Definition) → slice_get (order_of names.now) (length types.now) ≡ Some number
         → slice_get (definitions (modules_of names.now)) number ≡ Some d
         → (is_automatic (surroundings (modules_of names.now) (order_of names.now) known d.home) d.assignment.ty ≡ true)

@@ -4,7 +4,8 @@ ghost use Rattle.guard_model.specs.TypeView as model;
 ghost use Rattle.guard_syntax.specs.TypeViews as written;
 ghost use Rattle.guard_syntax.specs.Views.{number_view};
 ghost use Rattle.guard_tagging.specs.Faults.{repeated};
-ghost use Rattle.guard_tagging.specs.inside.ReadNames.{text_octets, read_places, named_place, item_place, signed_key, near_number, has_number, same_key};
+ghost use Rattle.guard_tagging.specs.inside.ReadNames.{text_octets, read_places, named_place, item_place};
+ghost use Rattle.guard_tagging.specs.inside.ReadNames.{signed_key, near_number, has_number, same_key};
 ghost use Rattle.guard_tagging.specs.inside.Views.{place_view};
 
 use guard_lexer::magnitude;
@@ -43,7 +44,8 @@ fn insert_number(
     number: Option<(bool, u128)>,
 ) -> Result<bool, AllocError>
     ensures new { IfOk result (λ new. new ≡ not (has_number numbers.old.keys number)) }
-    ensures after { OnOk result ((q : Bool × ℕ) → has_number numbers.new.keys (Some q) ≡ (has_number numbers.old.keys (Some q) || same_key (Some q) number)) }
+    ensures after { OnOk result ((q : Bool × ℕ) →
+        has_number numbers.new.keys (Some q) ≡ (has_number numbers.old.keys (Some q) || same_key (Some q) number)) }
 {
     match number {
         Some(number) => Ok(numbers.insert(number)?),

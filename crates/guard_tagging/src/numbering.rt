@@ -142,7 +142,8 @@ fn numbered(
     trees: &[ItemTree],
     taken: &BTreeSet<i128>,
 ) -> Result<Vec<Named>, TagFault>
-    ensures { Gives (λ v. map named_view v.items) named result (read_numbered taken.now.keys (length trees.now) 0 [] (map written.item_view trees.now)) }
+    ensures { Gives (λ v. map named_view v.items) named result
+        (read_numbered taken.now.keys (length trees.now) 0 [] (map written.item_view trees.now)) }
 {
     let mut items = Vec::with_capacity(alloc, trees.len())?;
     let mut next = 0u128;
@@ -163,7 +164,8 @@ fn item_of(
     next: u128,
 ) -> Result<(Named, u128), TagFault>
     requires { next + tries < 2 ^ 126 }
-    ensures gives { Gives (λ x. (named_view x.0, x.1)) named result (reading.read_item taken.now.keys tries next (written.item_view tree.now)) }
+    ensures gives { Gives (λ x. (named_view x.0, x.1)) named result
+        (reading.read_item taken.now.keys tries next (written.item_view tree.now)) }
     ensures small { IfOk result (λ x. x.1 ≤ next + tries + 1) }
 {
     let (number, after) = number_of(tree, taken, tries, next)?;
@@ -179,7 +181,8 @@ fn number_of(
     next: u128,
 ) -> Result<(i128, u128), TagFault>
     requires { next + tries < 2 ^ 126 }
-    ensures gives { Gives (λ x. x) named result (reading.read_number taken.now.keys tries next tree.now.site (written.item_number_view tree.now.number)) }
+    ensures gives { Gives (λ x. x) named result
+        (reading.read_number taken.now.keys tries next tree.now.site (written.item_number_view tree.now.number)) }
     ensures small { IfOk result (λ x. x.1 ≤ next + tries + 1) }
 {
     match &tree.number {

@@ -60,7 +60,8 @@ pub fn with_component(
     made: Box<Made>,
     presence: Presence,
 ) -> Result<Box<Parts>, AllocError>
-    ensures { IfOk result (λ v. parts_view v.value ≡ reading.with_component (parts_view parts.value) site name.now (made_view made.value) (model.presence_view presence)) }
+    ensures { IfOk result (λ v. parts_view v.value ≡ reading.with_component (parts_view parts.value) site name.now
+        (made_view made.value) (model.presence_view presence)) }
 {
     let Made { ty, nesting, nodes } = Box::into_inner(made);
     let comp = comp_of(alloc, name, ty, presence)?;
@@ -68,7 +69,8 @@ pub fn with_component(
 }
 
 fn comp_of(alloc: Global, name: &[u8], ty: Ty, presence: Presence) -> Result<Comp, AllocError>
-    ensures { IfOk result (λ comp. model.component_view comp ≡ reading.named_component name.now (model.type_view ty) (model.presence_view presence)) }
+    ensures { IfOk result (λ comp. model.component_view comp
+        ≡ reading.named_component name.now (model.type_view ty) (model.presence_view presence)) }
 {
     let name = ArcStr::from_string(name_text(alloc, name)?)?;
     Ok(Comp { name, ty, presence })
@@ -83,7 +85,8 @@ fn pushed(
     nesting: usize,
     nodes: usize,
 ) -> Result<Box<Parts>, AllocError>
-    ensures { IfOk result (λ v. parts_view v.value ≡ reading.pushed (parts_view parts.value) site (model.component_view comp) nesting nodes) }
+    ensures { IfOk result (λ v. parts_view v.value
+        ≡ reading.pushed (parts_view parts.value) site (model.component_view comp) nesting nodes) }
 {
     let Parts {
         mut sites,
@@ -113,7 +116,8 @@ pub fn with_list(
     site: Site,
     made: Box<Made>,
 ) -> Result<Box<Parts>, AllocError>
-    ensures { IfOk result (λ v. parts_view v.value ≡ reading.with_list (parts_view parts.value) site (made_view made.value)) }
+    ensures { IfOk result (λ v. parts_view v.value
+        ≡ reading.with_list (parts_view parts.value) site (made_view made.value)) }
 {
     let Made { ty, nesting, nodes } = Box::into_inner(made);
     let put_in = comps_in(alloc, ty.kind);
@@ -129,7 +133,8 @@ fn appended(
     nesting: usize,
     nodes: usize,
 ) -> Result<Box<Parts>, AllocError>
-    ensures { IfOk result (λ v. parts_view v.value ≡ reading.appended (parts_view parts.value) site (map model.component_view put_in.items) nesting nodes) }
+    ensures { IfOk result (λ v. parts_view v.value
+        ≡ reading.appended (parts_view parts.value) site (map model.component_view put_in.items) nesting nodes) }
 {
     let Parts {
         sites,

@@ -55,7 +55,8 @@ fn is_implicit(mode: Option<TagMode>) -> bool
 /// implicit tag replaces the outermost one after it, and so does an automatic one. A CHOICE without tags has none to
 /// replace, so that a tag on it is explicit.
 pub fn with_written(alloc: Global, node: &Node, base: &[Tag]) -> Result<Vec<Tag>, TagFault>
-    ensures { Gives (λ v. v.items) named result (read_tags node.now.tag_default (is_some node.now.automatic) (in_front node.now.automatic) (node_view node.now).tags base.now) }
+    ensures { Gives (λ v. v.items) named result (read_tags node.now.tag_default (is_some node.now.automatic)
+        (in_front node.now.automatic) (node_view node.now).tags base.now) }
 {
     let mut tags = in_front(alloc, node.automatic)?;
     let mut replaced = node.automatic.is_some();

@@ -26,7 +26,8 @@ pub fn take(
     site: Site,
     made: Box<Made>,
 ) -> Result<Box<Parts>, AllocError>
-    ensures { IfOk result (λ v. parts_view v.value ≡ reading.taken_in (parts_view parts.value) collection automatic site (made_view made.value)) }
+    ensures { IfOk result (λ v. parts_view v.value
+        ≡ reading.taken_in (parts_view parts.value) collection automatic site (made_view made.value)) }
 {
     let refused = refused_at(collection, automatic, site, &made.ty);
     if is_refused(refused) {

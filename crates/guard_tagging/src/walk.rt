@@ -38,7 +38,8 @@ pub fn type_of(
     before: usize,
 ) -> Result<Box<Made>, TagFault>
     requires known { IsKnown (scope_view scope.now) (written.type_view tree.now) }
-    ensures { Gives (λ m. made_view m.value) named result (reading.read_type (scope_view scope.now) counts automatic before (written.type_view tree.now)) }
+    ensures { Gives (λ m. made_view m.value) named result
+        (reading.read_type (scope_view scope.now) counts automatic before (written.type_view tree.now)) }
 {
     let node = Node {
         site: tree.site,
@@ -60,7 +61,8 @@ fn type_with(
     before: usize,
 ) -> Result<Box<Made>, TagFault>
     requires known { IsKnownInside (scope_view scope.now) (written.base_view base.now) }
-    ensures { Gives (λ m. made_view m.value) named result (reading.read_base (scope_view scope.now) (node_view node.now) before (written.base_view base.now)) }
+    ensures { Gives (λ m. made_view m.value) named result
+        (reading.read_base (scope_view scope.now) (node_view node.now) before (written.base_view base.now)) }
 {
     match base {
         BaseTree::Plain(plain) => plain_type(alloc, node, *plain, before),
@@ -94,7 +96,8 @@ fn structure(
     before: usize,
 ) -> Result<Box<Made>, TagFault>
     requires known { AreKnown (scope_view scope.now) (components_of (map written.component_view comps.now)) }
-    ensures { Gives (λ m. made_view m.value) named result (reading.read_base (scope_view scope.now) (node_view node.now) before (structure collection (components_of (map written.component_view comps.now)))) }
+    ensures { Gives (λ m. made_view m.value) named result (reading.read_base (scope_view scope.now) (node_view node.now)
+        before (structure collection (components_of (map written.component_view comps.now)))) }
 {
     let parts = components(alloc, scope, collection, comps, before)?;
     structure_type(alloc, node, collection, parts)
@@ -110,7 +113,8 @@ fn choice(
     before: usize,
 ) -> Result<Box<Made>, TagFault>
     requires known { AreKnownOthers (scope_view scope.now) (alternatives_of (map written.alternative_view trees.now)) }
-    ensures { Gives (λ m. made_view m.value) named result (reading.read_base (scope_view scope.now) (node_view node.now) before (choice (alternatives_of (map written.alternative_view trees.now)))) }
+    ensures { Gives (λ m. made_view m.value) named result (reading.read_base (scope_view scope.now) (node_view node.now)
+        before (choice (alternatives_of (map written.alternative_view trees.now)))) }
 {
     let parts = alternatives(alloc, scope, trees, before)?;
     choice_type(alloc, node, parts)
@@ -126,7 +130,8 @@ fn elements(
     before: usize,
 ) -> Result<Box<Made>, TagFault>
     requires known { IsKnown (scope_view scope.now) (written.type_view tree.now) }
-    ensures { Gives (λ m. made_view m.value) named result (reading.read_elements (scope_view scope.now) (node_view node.now) collection before (written.type_view tree.now)) }
+    ensures { Gives (λ m. made_view m.value) named result (reading.read_elements (scope_view scope.now)
+        (node_view node.now) collection before (written.type_view tree.now)) }
 {
     let element = type_of(alloc, scope, tree, true, None, before)?;
     of_type(alloc, node, collection, element)
@@ -141,7 +146,8 @@ fn components(
     before: usize,
 ) -> Result<Box<Parts>, TagFault>
     requires known { AreKnown (scope_view scope.now) (components_of (map written.component_view trees.now)) }
-    ensures { Gives (λ p. parts_view p.value) named result (reading.read_list (scope_view scope.now) collection before (components_of (map written.component_view trees.now))) }
+    ensures { Gives (λ p. parts_view p.value) named result (reading.read_list (scope_view scope.now) collection before
+        (components_of (map written.component_view trees.now))) }
 {
     let automatic = is_automatic_list(scope.tag_default, trees);
     let mut parts = Box::new(alloc, no_parts(alloc, before))?;
@@ -162,7 +168,8 @@ fn entry(
     parts: Box<Parts>,
 ) -> Result<Box<Parts>, TagFault>
     requires known { IsKnownForm (scope_view scope.now) (written.component_view tree.now).form }
-    ensures { Gives (λ p. parts_view p.value) named result (reading.read_component (scope_view scope.now) collection automatic (parts_view parts.value) (written.component_view tree.now)) }
+    ensures { Gives (λ p. parts_view p.value) named result (reading.read_component (scope_view scope.now) collection
+        automatic (parts_view parts.value) (written.component_view tree.now)) }
 {
     match &tree.form {
         CompForm::Named(name, ty, presence) => {
@@ -187,7 +194,8 @@ fn alternatives(
     before: usize,
 ) -> Result<Box<Parts>, TagFault>
     requires known { AreKnownOthers (scope_view scope.now) (alternatives_of (map written.alternative_view trees.now)) }
-    ensures { Gives (λ p. parts_view p.value) named result (reading.read_choice (scope_view scope.now) before (alternatives_of (map written.alternative_view trees.now))) }
+    ensures { Gives (λ p. parts_view p.value) named result
+        (reading.read_choice (scope_view scope.now) before (alternatives_of (map written.alternative_view trees.now))) }
 {
     let automatic = is_automatic_choice(scope.tag_default, trees);
     let mut parts = Box::new(alloc, no_parts(alloc, before))?;
@@ -206,7 +214,8 @@ fn alternative(
     parts: Box<Parts>,
 ) -> Result<Box<Parts>, TagFault>
     requires known { IsKnown (scope_view scope.now) (written.alternative_view tree.now).ty }
-    ensures { Gives (λ p. parts_view p.value) named result (reading.read_one (scope_view scope.now) automatic (parts_view parts.value) (written.alternative_view tree.now)) }
+    ensures { Gives (λ p. parts_view p.value) named result (reading.read_one (scope_view scope.now) automatic
+        (parts_view parts.value) (written.alternative_view tree.now)) }
 {
     let tag = next_tag(automatic, &parts);
     let made = type_of(alloc, scope, &tree.ty, true, tag, parts.nodes)?;

@@ -20,7 +20,8 @@ pub struct Encoded {
 
 /// The values as their encodings ascend.
 pub fn arranged(alloc: Global, mut elements: Vec<Encoded>) -> Result<Vec<Value>, AllocError>
-    ensures { IfOk result (λ v. map value_view v.items ≡ map encoded_value (arranged_encodings (map encoded_view elements.items))) }
+    ensures { IfOk result (λ v. map value_view v.items
+        ≡ map encoded_value (arranged_encodings (map encoded_view elements.items))) }
 {
     elements.sort_by(|one, other| order(&one.octets, &other.octets))?;
     values_of(alloc, elements)

@@ -15,7 +15,8 @@ use std::alloc::Global;
 
 /// The first component with this name: its place, and its type.
 pub fn located<'a>(name: &[u8], comps: &'a [Comp]) -> Option<(usize, &'a Ty)>
-    ensures found { option_map located_view result ≡ places.located name.now (components_of (map component_view comps.now)) }
+    ensures found { option_map located_view result
+        ≡ places.located name.now (components_of (map component_view comps.now)) }
     ensures within { IfSome result (λ x. x.0 < length comps.now) }
 {
     for index in 0..comps.len() {
@@ -36,7 +37,8 @@ pub fn placed<'a>(
 ) -> Result<(usize, &'a Ty), ValueFault>
     requires { IfSome found (λ x. x.0 < length fields.now) }
     ensures place { IfOk result (λ x. x.0 < length fields.now) }
-    ensures given { Gives located_view named result (reading.placed ordered next (fields_view fields.now) site (option_map located_view found.entry)) }
+    ensures given { Gives located_view named result
+        (reading.placed ordered next (fields_view fields.now) site (option_map located_view found.entry)) }
 {
     let Some((place, ty)) = found else {
         return Err(ValueFault::UnknownName(site));
@@ -63,7 +65,8 @@ pub fn place_of<'a>(
     requires count { length fields.now ≡ length comps.now }
     ensures within { IfOk result (λ x. x.0 < length comps.now) }
     ensures proper { IfOk result (λ x. IsTrue (is_proper (type_view x.1.now))) }
-    ensures given { Gives located_view named result (reading.place_at ordered (components_of (map component_view comps.now)) next (fields_view fields.now) site (name_view name.entry)) }
+    ensures given { Gives located_view named result (reading.place_at ordered
+        (components_of (map component_view comps.now)) next (fields_view fields.now) site (name_view name.entry)) }
 {
     let Some(name) = name else {
         return Err(ValueFault::WrongNotation(site));
@@ -101,7 +104,8 @@ pub fn completed(
     mut fields: Vec<Option<Value>>,
 ) -> Result<Vec<Option<Value>>, ValueFault>
     requires { length fields.items ≡ length comps.now }
-    ensures { Gives (λ v. fields_view v.items) named result (reading.completed site (components_of (map component_view comps.now)) (fields_view fields.items)) }
+    ensures { Gives (λ v. fields_view v.items) named result
+        (reading.completed site (components_of (map component_view comps.now)) (fields_view fields.items)) }
 {
     for (index, comp) in comps.iter().enumerate() {
         if fields[index].is_none() {

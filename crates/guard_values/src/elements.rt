@@ -41,7 +41,8 @@ pub fn listed_set(
     elements: Vec<Encoded>,
 ) -> Result<Value, ValueFault>
     requires { AreEncodings (type_view ty.now) (map encoded_view elements.items) }
-    ensures { Gives value_view named result (reading.listed_set site (type_view ty.now) (map encoded_value (map encoded_view elements.items))) }
+    ensures { Gives value_view named result
+        (reading.listed_set site (type_view ty.now) (map encoded_value (map encoded_view elements.items))) }
 {
     if elements.len() > MOST_ITEMS {
         return Err(ValueFault::TooLarge(site));
@@ -63,7 +64,8 @@ pub fn encoded(alloc: Global, ty: &Ty, site: Site, value: Value) -> Result<Encod
 pub fn encoding(alloc: Global, ty: &Ty, site: Site, value: &Value) -> Result<Vec<u8>, ValueFault>
     requires { IsTrue (fits (type_view ty.now) (value_view value.now)) }
     ensures encoding { IfOk result (λ octets. der (type_view ty.now) (value_view value.now) ≡ Some octets.items) }
-    ensures given { Gives (λ octets. value_view value.now) named result (limited site (type_view ty.now) (value_view value.now)) }
+    ensures given { Gives (λ octets. value_view value.now) named result
+        (limited site (type_view ty.now) (value_view value.now)) }
 {
     match encode(alloc, ty, value) {
         Ok(octets) => Ok(octets),
@@ -74,7 +76,8 @@ pub fn encoding(alloc: Global, ty: &Ty, site: Site, value: &Value) -> Result<Vec
 
 /// Nothing, or one number without a minus sign, looks like an object identifier with too few arcs.
 pub fn object_identifier_fault(site: Site, entries: &[EntryTree]) -> ValueFault
-    ensures { result ≡ (if are_too_few_arcs (entries_of (map trees.entry_view entries.now)) then ValueFault.BadObjectId site else ValueFault.WrongNotation site) }
+    ensures { result ≡ (if are_too_few_arcs (entries_of (map trees.entry_view entries.now)) then ValueFault.BadObjectId
+        site else ValueFault.WrongNotation site) }
 {
     if are_too_few_arcs(entries) {
         ValueFault::BadObjectId(site)

@@ -21,30 +21,41 @@ use guard_syntax::ValueTree;
 
 /// A tree denotes one value at most.
 pub fn law_one_value(names: &Names, known: &Known, id: Id, ty: &Ty, tree: &ValueTree)
-    ensures { (v w : AbstractValue) → Denotes (visible_from names.now known.now id) (type_view ty.now) (trees.value_view tree.now) v → Denotes (visible_from names.now known.now id) (type_view ty.now) (trees.value_view tree.now) w → v ≡ w }
+    ensures { (v w : AbstractValue) →
+        Denotes (visible_from names.now known.now id) (type_view ty.now) (trees.value_view tree.now) v →
+        Denotes (visible_from names.now known.now id) (type_view ty.now) (trees.value_view tree.now) w → v ≡ w }
 {}
 
 /// One fault at most is the first.
 pub fn law_one_fault(names: &Names, known: &Known, id: Id, ty: &Ty, tree: &ValueTree)
-    ensures { (f g : ValueFault) → IsFirstFault (visible_from names.now known.now id) (type_view ty.now) (trees.value_view tree.now) f → IsFirstFault (visible_from names.now known.now id) (type_view ty.now) (trees.value_view tree.now) g → f ≡ g }
+    ensures { (f g : ValueFault) →
+        IsFirstFault (visible_from names.now known.now id) (type_view ty.now) (trees.value_view tree.now) f →
+        IsFirstFault (visible_from names.now known.now id) (type_view ty.now) (trees.value_view tree.now) g → f ≡ g }
 {}
 
 /// A tree denotes a value or has a first fault.
 pub fn law_one_answer(names: &Names, known: &Known, id: Id, ty: &Ty, tree: &ValueTree)
-    ensures { ((v : AbstractValue) × Denotes (visible_from names.now known.now id) (type_view ty.now) (trees.value_view tree.now) v) ⊎ ((f : ValueFault) × IsFirstFault (visible_from names.now known.now id) (type_view ty.now) (trees.value_view tree.now) f) }
+    ensures { ((v : AbstractValue) × Denotes (visible_from names.now known.now id) (type_view ty.now)
+        (trees.value_view tree.now) v) ⊎ ((f : ValueFault)
+        × IsFirstFault (visible_from names.now known.now id) (type_view ty.now) (trees.value_view tree.now) f) }
 {}
 
 /// It hasn't both: where there is a first fault, nothing is denoted.
 pub fn law_fault_or_value(names: &Names, known: &Known, id: Id, ty: &Ty, tree: &ValueTree)
     requires sound { IsTrue (is_sound (type_view ty.now)) }
-    ensures { (f : ValueFault) (v : AbstractValue) → IsFirstFault (visible_from names.now known.now id) (type_view ty.now) (trees.value_view tree.now) f → Denotes (visible_from names.now known.now id) (type_view ty.now) (trees.value_view tree.now) v → ⊥ }
+    ensures { (f : ValueFault) (v : AbstractValue) →
+        IsFirstFault (visible_from names.now known.now id) (type_view ty.now) (trees.value_view tree.now) f →
+        Denotes (visible_from names.now known.now id) (type_view ty.now) (trees.value_view tree.now) v → ⊥ }
 {}
 
 /// The elements of a SET OF may be written in any order: the value is the same.
 pub fn law_any_order(names: &Names, known: &Known, id: Id, element: &Ty)
     requires sound { IsTrue (is_sound (type_view element.now)) }
     requires fitting { AreKnownFitting known.now }
-    ensures { (es others : List WrittenEntry) (tags : List Tag) (cons : Constraints) (site : Site) (v : AbstractValue) → IsPermutation es others
-        → Denotes (visible_from names.now known.now id) (type_of tags (set_of (type_view element.now)) cons) (value_node site (list (entries_of es))) v
-        → Denotes (visible_from names.now known.now id) (type_of tags (set_of (type_view element.now)) cons) (value_node site (list (entries_of others))) v }
+    ensures { (es others : List WrittenEntry) (tags : List Tag) (cons : Constraints) (site : Site) (v : AbstractValue) →
+        IsPermutation es others
+        → Denotes (visible_from names.now known.now id) (type_of tags (set_of (type_view element.now)) cons)
+        (value_node site (list (entries_of es))) v
+        → Denotes (visible_from names.now known.now id) (type_of tags (set_of (type_view element.now)) cons)
+        (value_node site (list (entries_of others))) v }
 {}

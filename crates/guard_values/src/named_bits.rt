@@ -26,7 +26,8 @@ pub fn value_of_names(
     site: Site,
     entries: &[EntryTree],
 ) -> Result<Value, ValueFault>
-    ensures { Gives value_view named result (read_named_bits site (map named_view names.now) (entries_of (map entry_view entries.now))) }
+    ensures { Gives value_view named result
+        (read_named_bits site (map named_view names.now) (entries_of (map entry_view entries.now))) }
 {
     if names.is_empty() {
         return Err(ValueFault::WrongNotation(site));
@@ -38,7 +39,8 @@ pub fn value_of_names(
 
 /// The bits that entries name, in written order.
 fn places(alloc: Global, names: &[Named], entries: &[EntryTree]) -> Result<Vec<u16>, ValueFault>
-    ensures { Gives (λ v. v.items) named result (each (read_place (map named_view names.now)) (map entry_view entries.now)) }
+    ensures { Gives (λ v. v.items) named result
+        (each (read_place (map named_view names.now)) (map entry_view entries.now)) }
 {
     let mut places = Vec::with_capacity(alloc, entries.len())?;
     for entry in entries {

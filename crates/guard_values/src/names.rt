@@ -39,7 +39,8 @@ pub fn shared_reference(
     site: Site,
     name: &[u8],
 ) -> Result<Arc<Value>, ValueFault>
-    ensures { Gives shared_view named result (read_reference (meaning_of scope.entry) (type_view ty.now) site name.now) }
+    ensures { Gives shared_view named result
+        (read_reference (meaning_of scope.entry) (type_view ty.now) site name.now) }
 {
     match own_number(&ty.kind, name) {
         Some(number) => Ok(Arc::new(alloc, numbered(&ty.kind, site, number)?)?),
@@ -72,7 +73,8 @@ pub fn number_named(name: &[u8], numbers: &[Named]) -> Option<i128>
 
 /// The value of a named number or item. Each number of this type is within the limits.
 fn numbered(kind: &Kind, site: Site, number: i128) -> Result<Value, ValueFault>
-    ensures { Gives value_view named result (answered (ValueFault.TooLarge site) (numbered_value (kind_view kind.now) number)) }
+    ensures { Gives value_view named result
+        (answered (ValueFault.TooLarge site) (numbered_value (kind_view kind.now) number)) }
 {
     if !is_in_range(number) {
         return Err(ValueFault::TooLarge(site));
@@ -95,7 +97,8 @@ fn visible_copy(
     site: Site,
     value: Option<VisibleValue>,
 ) -> Result<Value, ValueFault>
-    ensures { Gives value_view named result (read_visible site (type_view ty.now) (option_map visible_view value.entry)) }
+    ensures { Gives value_view named result
+        (read_visible site (type_view ty.now) (option_map visible_view value.entry)) }
 {
     let shared = visible(ty, site, value)?;
     Ok(shared.copy(alloc)?)
@@ -103,7 +106,8 @@ fn visible_copy(
 
 /// A visible value, where its type has the same base.
 fn visible(ty: &Ty, site: Site, visible: Option<VisibleValue>) -> Result<Arc<Value>, ValueFault>
-    ensures { Gives shared_view named result (read_visible site (type_view ty.now) (option_map visible_view visible.entry)) }
+    ensures { Gives shared_view named result
+        (read_visible site (type_view ty.now) (option_map visible_view visible.entry)) }
 {
     let Some(visible) = visible else {
         return Err(ValueFault::UnknownName(site));

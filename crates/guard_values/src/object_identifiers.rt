@@ -17,7 +17,8 @@ use std::alloc::Global;
 
 /// The object identifier whose first token is at the site.
 pub fn object_identifier(alloc: Global, site: Site, trees: &[ArcTree]) -> Result<Value, ValueFault>
-    ensures { Gives value_view named result (limited_arcs site (too_large_arc (map arc_view trees.now)) (arc_numbers (map arc_view trees.now))) }
+    ensures { Gives value_view named result
+        (limited_arcs site (too_large_arc (map arc_view trees.now)) (arc_numbers (map arc_view trees.now))) }
 {
     let arcs = arcs(alloc, trees)?;
     check_second(trees, &arcs)?;

@@ -23,7 +23,8 @@ use std::alloc::Global;
 
 /// TRUE or FALSE.
 pub fn boolean(kind: &Kind, site: Site, truth: bool) -> Result<Value, ValueFault>
-    ensures { Gives value_view named result (answered (ValueFault.WrongNotation site) (boolean_value (kind_view kind.now) truth)) }
+    ensures { Gives value_view named result
+        (answered (ValueFault.WrongNotation site) (boolean_value (kind_view kind.now) truth)) }
 {
     match kind {
         Kind::Bool => Ok(Value::Bool(truth)),
@@ -33,7 +34,8 @@ pub fn boolean(kind: &Kind, site: Site, truth: bool) -> Result<Value, ValueFault
 
 /// NULL.
 pub fn null(kind: &Kind, site: Site) -> Result<Value, ValueFault>
-    ensures { Gives value_view named result (answered (ValueFault.WrongNotation site) (null_value (kind_view kind.now))) }
+    ensures { Gives value_view named result
+        (answered (ValueFault.WrongNotation site) (null_value (kind_view kind.now))) }
 {
     match kind {
         Kind::Null => Ok(Value::Null),
@@ -85,28 +87,32 @@ pub fn text(
 }
 
 fn bits(alloc: Global, names: &[Named], spelling: &[u8]) -> Result<Value, ValueFault>
-    ensures { Gives value_view named result (Ok (bits_value (bits_kept (map named_view names.now) (written.binary_digits spelling.now)))) }
+    ensures { Gives value_view named result
+        (Ok (bits_value (bits_kept (map named_view names.now) (written.binary_digits spelling.now)))) }
 {
     let bits = binary_digits(alloc, spelling)?;
     bit_string(alloc, bits_kept(names, &bits))
 }
 
 fn bits_of_digits(alloc: Global, names: &[Named], spelling: &[u8]) -> Result<Value, ValueFault>
-    ensures { Gives value_view named result (Ok (bits_value (bits_kept (map named_view names.now) (written.hexadecimal_bits spelling.now)))) }
+    ensures { Gives value_view named result
+        (Ok (bits_value (bits_kept (map named_view names.now) (written.hexadecimal_bits spelling.now)))) }
 {
     let bits = hexadecimal_bits(alloc, spelling)?;
     bit_string(alloc, bits_kept(names, &bits))
 }
 
 fn octets(alloc: Global, spelling: &[u8]) -> Result<Value, ValueFault>
-    ensures { Gives value_view named result (Ok (octet_string (written.octets_of_bits (written.binary_digits spelling.now)))) }
+    ensures { Gives value_view named result
+        (Ok (octet_string (written.octets_of_bits (written.binary_digits spelling.now)))) }
 {
     let bits = binary_digits(alloc, spelling)?;
     Ok(Value::Octets(octets_of_bits(alloc, &bits)?))
 }
 
 fn hexadecimal_octets(alloc: Global, spelling: &[u8]) -> Result<Value, ValueFault>
-    ensures { Gives value_view named result (Ok (octet_string (written.octets_of_bits (written.hexadecimal_bits spelling.now)))) }
+    ensures { Gives value_view named result
+        (Ok (octet_string (written.octets_of_bits (written.hexadecimal_bits spelling.now)))) }
 {
     let bits = hexadecimal_bits(alloc, spelling)?;
     Ok(Value::Octets(octets_of_bits(alloc, &bits)?))
@@ -119,7 +125,8 @@ fn characters(
     site: Site,
     spelling: &[u8],
 ) -> Result<Value, ValueFault>
-    ensures { Gives value_view named result (answered (ValueFault.BadCharacter site) (characters_value kind (written.quoted spelling.now))) }
+    ensures { Gives value_view named result
+        (answered (ValueFault.BadCharacter site) (characters_value kind (written.quoted spelling.now))) }
 {
     match text_of(kind, quoted(alloc, spelling)?) {
         Some(text) => Ok(Value::Chars(text)),
@@ -129,7 +136,8 @@ fn characters(
 
 /// The text that octets spell, where all its characters are of the kind's alphabet.
 fn text_of(kind: CharKind, octets: Vec<u8>) -> Option<String>
-    ensures { option_map string_bytes result ≡ (if is_utf8 octets.items && fits_characters kind (chars octets.items) then Some octets.items else None) }
+    ensures { option_map string_bytes result
+        ≡ (if is_utf8 octets.items && fits_characters kind (chars octets.items) then Some octets.items else None) }
 {
     let Ok(text) = String::from_utf8(octets) else {
         return None;

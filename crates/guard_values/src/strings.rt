@@ -1,5 +1,6 @@
 //! What strings of bits and hexadecimal digits say (X.680 clauses 22 and 23), and those in double quotes.
-ghost use Rattle.std.specs.Prelude.{◌≡◌, ◌∷◌, [], ◌^◌, ◌<◌, ◌≤◌, ◌*◌, ◌+◌, ◌-◌, length, drop, slice_index, All, IfOk, Ok};
+ghost use Rattle.std.specs.Prelude.{◌≡◌, ◌∷◌, [], ◌^◌, ◌<◌, ◌≤◌, ◌*◌, ◌+◌, ◌-◌, length};
+ghost use Rattle.std.specs.Prelude.{drop, slice_index, All, IfOk, Ok};
 ghost use Rattle.guard_model.specs.Answer.{Gives};
 ghost use Rattle.guard_model.specs.ValueView.{value_view};
 ghost use Rattle.guard_values.specs.Simple.{bits_value};

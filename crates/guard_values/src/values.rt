@@ -34,13 +34,17 @@ pub fn value(
     requires sound { IsTrue (is_sound (type_view ty.now)) }
     requires fitting { AreKnownFitting known.now }
     // The value is the one denoted.
-    ensures denoted { IfOk result (λ v. Denotes (visible_from names.now known.now id) (type_view ty.now) (trees.value_view tree.now) (value_view v)) }
+    ensures denoted { IfOk result (λ v. Denotes (visible_from names.now known.now id) (type_view ty.now)
+        (trees.value_view tree.now) (value_view v)) }
     ensures fits { IfOk result (λ v. IsTrue (fits (type_view ty.now) (value_view v))) }
     // The condition of a fault that is named holds, and then nothing is denoted.
-    ensures holds { IfErr result (λ e. IfSome (named e) (λ f. IsFaultIn (visible_from names.now known.now id) (type_view ty.now) (trees.value_view tree.now) f)) }
-    ensures none { IfErr result (λ e. IfSome (named e) (λ f. (v : AbstractValue) → Denotes (visible_from names.now known.now id) (type_view ty.now) (trees.value_view tree.now) v → ⊥)) }
+    ensures holds { IfErr result (λ e. IfSome (named e)
+        (λ f. IsFaultIn (visible_from names.now known.now id) (type_view ty.now) (trees.value_view tree.now) f)) }
+    ensures none { IfErr result (λ e. IfSome (named e) (λ f. (v : AbstractValue) →
+        Denotes (visible_from names.now known.now id) (type_view ty.now) (trees.value_view tree.now) v → ⊥)) }
     // It is the first one.
-    ensures first { IfErr result (λ e. IfSome (named e) (IsFirstFault (visible_from names.now known.now id) (type_view ty.now) (trees.value_view tree.now))) }
+    ensures first { IfErr result (λ e. IfSome (named e)
+        (IsFirstFault (visible_from names.now known.now id) (type_view ty.now) (trees.value_view tree.now))) }
 {
     let shared = shared_value(alloc, names, known, id, ty, tree)?;
     Ok(shared.copy(alloc)?)
@@ -59,13 +63,17 @@ pub fn shared_value(
     requires sound { IsTrue (is_sound (type_view ty.now)) }
     requires fitting { AreKnownFitting known.now }
     // The value is the one denoted.
-    ensures denoted { IfOk result (λ v. Denotes (visible_from names.now known.now id) (type_view ty.now) (trees.value_view tree.now) (value_view (arc_value v))) }
+    ensures denoted { IfOk result (λ v. Denotes (visible_from names.now known.now id) (type_view ty.now)
+        (trees.value_view tree.now) (value_view (arc_value v))) }
     ensures fits { IfOk result (λ v. IsTrue (fits (type_view ty.now) (value_view (arc_value v)))) }
     // The condition of a fault that is named holds, and then nothing is denoted.
-    ensures holds { IfErr result (λ e. IfSome (named e) (λ f. IsFaultIn (visible_from names.now known.now id) (type_view ty.now) (trees.value_view tree.now) f)) }
-    ensures none { IfErr result (λ e. IfSome (named e) (λ f. (v : AbstractValue) → Denotes (visible_from names.now known.now id) (type_view ty.now) (trees.value_view tree.now) v → ⊥)) }
+    ensures holds { IfErr result (λ e. IfSome (named e)
+        (λ f. IsFaultIn (visible_from names.now known.now id) (type_view ty.now) (trees.value_view tree.now) f)) }
+    ensures none { IfErr result (λ e. IfSome (named e) (λ f. (v : AbstractValue) →
+        Denotes (visible_from names.now known.now id) (type_view ty.now) (trees.value_view tree.now) v → ⊥)) }
     // It is the first one.
-    ensures first { IfErr result (λ e. IfSome (named e) (IsFirstFault (visible_from names.now known.now id) (type_view ty.now) (trees.value_view tree.now))) }
+    ensures first { IfErr result (λ e. IfSome (named e)
+        (IsFirstFault (visible_from names.now known.now id) (type_view ty.now) (trees.value_view tree.now))) }
 {
     value_within_limit(alloc, Scope { names, known, id }, tree, ty)
 }

@@ -11,7 +11,9 @@ ghost use Rattle.guard_syntax.specs.Views as trees;
 ghost use Rattle.guard_values.specs.Meanings.{AreFitting};
 ghost use Rattle.guard_values.specs.Arrangement.{AreEncodings, encoded_value};
 ghost use Rattle.guard_values.specs.inside.Reading as reading;
-ghost use Rattle.guard_values.specs.inside.Reading.{read_form, read_chosen, read_list, read_items, read_set_items, read_fields, read_entries, read_elements, entry_at, element_at, read_whole, read_sorted, read_first_fault};
+ghost use Rattle.guard_values.specs.inside.Reading.{read_form, read_chosen, read_list, read_items, read_set_items};
+ghost use Rattle.guard_values.specs.inside.Reading.{read_fields, read_entries, read_elements, entry_at, element_at};
+ghost use Rattle.guard_values.specs.inside.Reading.{read_whole, read_sorted, read_first_fault};
 ghost use Rattle.guard_values.specs.Views.{named, encoded_view, shared_view, meaning_of};
 
 use crate::arrangement::Encoded;
@@ -36,7 +38,8 @@ pub fn value_within_limit(
 ) -> Result<Arc<Value>, ValueFault>
     requires proper { IsTrue (is_proper (type_view ty.now)) }
     requires fitting { AreFitting (meaning_of scope) }
-    ensures { Gives shared_view named result (read_whole (meaning_of scope.entry) (type_view ty.now) (trees.value_view tree.now)) }
+    ensures { Gives shared_view named result
+        (read_whole (meaning_of scope.entry) (type_view ty.now) (trees.value_view tree.now)) }
 {
     let value = shared_value(alloc, scope, tree, ty)?;
     let _octets = encoding(alloc, ty, tree.site, &value)?;
@@ -53,7 +56,8 @@ fn shared_value(
 ) -> Result<Arc<Value>, ValueFault>
     requires proper { IsTrue (is_proper (type_view ty.now)) }
     requires fitting { AreFitting (meaning_of scope) }
-    ensures { Gives shared_view named result (read_sorted (meaning_of scope.entry) (type_view ty.now) (trees.value_view tree.now)) }
+    ensures { Gives shared_view named result
+        (read_sorted (meaning_of scope.entry) (type_view ty.now) (trees.value_view tree.now)) }
 {
     if let ValueForm::Reference(name) = &tree.form {
         return shared_reference(alloc, scope, ty, tree.site, name);
@@ -67,7 +71,8 @@ fn shared_value(
 fn sorted_value(alloc: Global, scope: Scope, tree: &ValueTree, ty: &Ty) -> Result<Value, ValueFault>
     requires proper { IsTrue (is_proper (type_view ty.now)) }
     requires fitting { AreFitting (meaning_of scope) }
-    ensures { Gives value_view named result (read_sorted (meaning_of scope.entry) (type_view ty.now) (trees.value_view tree.now)) }
+    ensures { Gives value_view named result
+        (read_sorted (meaning_of scope.entry) (type_view ty.now) (trees.value_view tree.now)) }
 {
     match read(alloc, scope, true, tree, ty) {
         Ok(value) => Ok(value),
@@ -80,7 +85,8 @@ fn sorted_value(alloc: Global, scope: Scope, tree: &ValueTree, ty: &Ty) -> Resul
 fn first_fault(alloc: Global, scope: Scope, tree: &ValueTree, ty: &Ty) -> Result<Value, ValueFault>
     requires proper { IsTrue (is_proper (type_view ty.now)) }
     requires fitting { AreFitting (meaning_of scope) }
-    ensures { Gives value_view named result (read_first_fault (meaning_of scope.entry) (type_view ty.now) (trees.value_view tree.now)) }
+    ensures { Gives value_view named result
+        (read_first_fault (meaning_of scope.entry) (type_view ty.now) (trees.value_view tree.now)) }
 {
     let _value = read(alloc, scope, false, tree, ty)?;
     Err(ValueFault::TooLarge(tree.site))
@@ -98,7 +104,8 @@ fn read(
 ) -> Result<Value, ValueFault>
     requires proper { IsTrue (is_proper (type_view ty.now)) }
     requires fitting { AreFitting (meaning_of scope) }
-    ensures { Gives value_view named result (reading.read (meaning_of scope.entry) sorted (type_view ty.now) (trees.value_view tree.now)) }
+    ensures { Gives value_view named result
+        (reading.read (meaning_of scope.entry) sorted (type_view ty.now) (trees.value_view tree.now)) }
 {
     form(alloc, scope, sorted, &tree.form, tree.site, ty)
 }
@@ -115,7 +122,8 @@ fn form(
 ) -> Result<Value, ValueFault>
     requires proper { IsTrue (is_proper (type_view ty.now)) }
     requires fitting { AreFitting (meaning_of scope) }
-    ensures { Gives value_view named result (read_form (meaning_of scope.entry) sorted (type_view ty.now) site (trees.value_form_view form.now)) }
+    ensures { Gives value_view named result
+        (read_form (meaning_of scope.entry) sorted (type_view ty.now) site (trees.value_form_view form.now)) }
 {
     match form {
         ValueForm::Boolean(truth) => boolean(&ty.kind, site, *truth),
@@ -142,7 +150,8 @@ fn chosen(
 ) -> Result<Value, ValueFault>
     requires proper { IsTrue (is_proper_kind (kind_view kind.now)) }
     requires fitting { AreFitting (meaning_of scope) }
-    ensures { Gives value_view named result (read_chosen site (kind_view kind.now) name.now (λ u. reading.read (meaning_of scope.entry) sorted u (trees.value_view tree.now))) }
+    ensures { Gives value_view named result (read_chosen site (kind_view kind.now) name.now
+        (λ u. reading.read (meaning_of scope.entry) sorted u (trees.value_view tree.now))) }
 {
     let (place, ty) = alternative(kind, site, name)?;
     let value = read(alloc, scope, sorted, tree, ty)?;
@@ -161,7 +170,8 @@ fn braces(
 ) -> Result<Value, ValueFault>
     requires proper { IsTrue (is_proper_kind (kind_view kind.now)) }
     requires fitting { AreFitting (meaning_of scope) }
-    ensures { Gives value_view named result (read_list (meaning_of scope.entry) sorted site (kind_view kind.now) (entries_of (map trees.entry_view entries.now))) }
+    ensures { Gives value_view named result (read_list (meaning_of scope.entry) sorted site (kind_view kind.now)
+        (entries_of (map trees.entry_view entries.now))) }
 {
     match kind {
         Kind::Sequence(comps) => fields(alloc, scope, sorted, entries, site, true, comps),
@@ -187,7 +197,9 @@ fn fields(
 ) -> Result<Value, ValueFault>
     requires proper { IsTrue (are_proper (components_of (map component_view comps.now))) }
     requires fitting { AreFitting (meaning_of scope) }
-    ensures { Gives value_view named result (read_fields site (components_of (map component_view comps.now)) (read_entries (meaning_of scope.entry) sorted ordered (components_of (map component_view comps.now)) 0 (all_absent (components_of (map component_view comps.now))) (entries_of (map trees.entry_view entries.now)))) }
+    ensures { Gives value_view named result (read_fields site (components_of (map component_view comps.now))
+        (read_entries (meaning_of scope.entry) sorted ordered (components_of (map component_view comps.now)) 0
+        (all_absent (components_of (map component_view comps.now))) (entries_of (map trees.entry_view entries.now)))) }
 {
     let given = entry_fields(alloc, scope, sorted, entries, ordered, comps)?;
     let fields = completed(alloc, site, comps, given)?;
@@ -206,7 +218,9 @@ fn entry_fields(
     requires proper { IsTrue (are_proper (components_of (map component_view comps.now))) }
     requires fitting { AreFitting (meaning_of scope) }
     ensures count { IfOk result (λ v. length v.items ≡ length comps.now) }
-    ensures given { Gives (λ v. fields_view v.items) named result (read_entries (meaning_of scope.entry) sorted ordered (components_of (map component_view comps.now)) 0 (all_absent (components_of (map component_view comps.now))) (entries_of (map trees.entry_view entries.now))) }
+    ensures given { Gives (λ v. fields_view v.items) named
+        result (read_entries (meaning_of scope.entry) sorted ordered (components_of (map component_view comps.now)) 0
+        (all_absent (components_of (map component_view comps.now))) (entries_of (map trees.entry_view entries.now))) }
 {
     let mut fields = absent_fields(alloc, comps)?;
     let mut next = 0;
@@ -236,7 +250,9 @@ fn entry_value(
     requires fitting { AreFitting (meaning_of scope) }
     requires count { length fields.now ≡ length comps.now }
     ensures within { IfOk result (λ x. x.0 < length comps.now) }
-    ensures given { Gives (λ x. (x.0, value_view x.1)) named result (entry_at ordered (components_of (map component_view comps.now)) next (fields_view fields.now) (trees.entry_view entry.now).site (trees.entry_view entry.now).name (λ u. reading.read (meaning_of scope.entry) sorted u (trees.entry_view entry.now).value)) }
+    ensures given { Gives (λ x. (x.0, value_view x.1)) named result (entry_at ordered (components_of (map component_view
+        comps.now)) next (fields_view fields.now) (trees.entry_view entry.now).site (trees.entry_view entry.now).name
+        (λ u. reading.read (meaning_of scope.entry) sorted u (trees.entry_view entry.now).value)) }
 {
     let (place, ty) = place_of(ordered, comps, next, fields, entry.site, entry.name)?;
     let value = read(alloc, scope, sorted, &entry.value, ty)?;
@@ -255,7 +271,8 @@ fn items(
 ) -> Result<Value, ValueFault>
     requires proper { IsTrue (is_proper (type_view ty.now)) }
     requires fitting { AreFitting (meaning_of scope) }
-    ensures { Gives value_view named result (read_items (meaning_of scope.entry) sorted site (type_view ty.now) (entries_of (map trees.entry_view entries.now))) }
+    ensures { Gives value_view named result (read_items (meaning_of scope.entry) sorted site (type_view ty.now)
+        (entries_of (map trees.entry_view entries.now))) }
 {
     let elements = elements(alloc, scope, sorted, entries, ty)?;
     listed(site, elements)
@@ -271,7 +288,8 @@ fn elements(
 ) -> Result<Vec<Value>, ValueFault>
     requires proper { IsTrue (is_proper (type_view ty.now)) }
     requires fitting { AreFitting (meaning_of scope) }
-    ensures { Gives (λ v. map value_view v.items) named result (read_elements (meaning_of scope.entry) sorted false (type_view ty.now) (entries_of (map trees.entry_view entries.now))) }
+    ensures { Gives (λ v. map value_view v.items) named result (read_elements (meaning_of scope.entry) sorted false
+        (type_view ty.now) (entries_of (map trees.entry_view entries.now))) }
 {
     let mut elements = Vec::with_capacity(alloc, entries.len())?;
     for entry in entries {
@@ -293,7 +311,8 @@ fn set_items(
 ) -> Result<Value, ValueFault>
     requires proper { IsTrue (is_proper (type_view ty.now)) }
     requires fitting { AreFitting (meaning_of scope) }
-    ensures { Gives value_view named result (read_set_items (meaning_of scope.entry) sorted site (type_view ty.now) (entries_of (map trees.entry_view entries.now))) }
+    ensures { Gives value_view named result (read_set_items (meaning_of scope.entry) sorted site (type_view ty.now)
+        (entries_of (map trees.entry_view entries.now))) }
 {
     if !sorted {
         return items(alloc, scope, sorted, entries, site, ty);
@@ -312,7 +331,8 @@ fn encoded_elements(
     requires proper { IsTrue (is_proper (type_view ty.now)) }
     requires fitting { AreFitting (meaning_of scope) }
     ensures encodings { IfOk result (λ v. AreEncodings (type_view ty.now) (map encoded_view v.items)) }
-    ensures given { Gives (λ v. map encoded_value (map encoded_view v.items)) named result (read_elements (meaning_of scope.entry) true true (type_view ty.now) (entries_of (map trees.entry_view entries.now))) }
+    ensures given { Gives (λ v. map encoded_value (map encoded_view v.items)) named result (read_elements
+        (meaning_of scope.entry) true true (type_view ty.now) (entries_of (map trees.entry_view entries.now))) }
 {
     let mut elements = Vec::with_capacity(alloc, entries.len())?;
     for entry in entries {
@@ -333,7 +353,9 @@ fn encoded_element(
     requires proper { IsTrue (is_proper (type_view ty.now)) }
     requires fitting { AreFitting (meaning_of scope) }
     ensures encoding { IfOk result (λ e. der (type_view ty.now) (value_view e.value) ≡ Some e.octets.items) }
-    ensures given { Gives (λ e. value_view e.value) named result (element_at true (type_view ty.now) (trees.entry_view entry.now).site (trees.entry_view entry.now).name (reading.site_of (trees.entry_view entry.now).value) (reading.read (meaning_of scope.entry) true (type_view ty.now) (trees.entry_view entry.now).value)) }
+    ensures given { Gives (λ e. value_view e.value) named result (element_at true (type_view ty.now) (trees.entry_view
+        entry.now).site (trees.entry_view entry.now).name (reading.site_of (trees.entry_view entry.now).value)
+        (reading.read (meaning_of scope.entry) true (type_view ty.now) (trees.entry_view entry.now).value)) }
 {
     let value = element(alloc, scope, true, entry, ty)?;
     encoded(alloc, ty, entry.value.site, value)
@@ -350,7 +372,9 @@ fn element(
 ) -> Result<Value, ValueFault>
     requires proper { IsTrue (is_proper (type_view ty.now)) }
     requires fitting { AreFitting (meaning_of scope) }
-    ensures { Gives value_view named result (element_at false (type_view ty.now) (trees.entry_view entry.now).site (trees.entry_view entry.now).name (reading.site_of (trees.entry_view entry.now).value) (reading.read (meaning_of scope.entry) sorted (type_view ty.now) (trees.entry_view entry.now).value)) }
+    ensures { Gives value_view named result (element_at false (type_view ty.now) (trees.entry_view entry.now).site
+        (trees.entry_view entry.now).name (reading.site_of (trees.entry_view entry.now).value)
+        (reading.read (meaning_of scope.entry) sorted (type_view ty.now) (trees.entry_view entry.now).value)) }
 {
     if entry.name.is_some() {
         return Err(ValueFault::WrongNotation(entry.site));

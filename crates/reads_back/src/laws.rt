@@ -51,8 +51,8 @@ pub fn law_types_have_names()
     law_unfinished();
 }
 
-/// Of a value of a type of a schema, the text and what is shown read back as this value. Only hidden characters and what
-/// is longer than what is read are left out.
+/// Of a value of a type of a schema, the text and what is shown read back as this value. Only hidden characters and
+/// what is longer than what is read are left out.
 pub fn law_schema_reads_back()
     ensures text { (texts : List (List ℕ)) (s : AbstractSchema) → Accepts texts s
         → (home name : List ℕ) (t : AbstractType) → s.types home name ≡ Some t

@@ -25,7 +25,8 @@ pub fn place_of(
     requires few { length comps.now ≤ 64 }
     requires fields { length fields.now ≡ length comps.now }
     ensures within { IfOk result (λ i. i < length comps.now) }
-    ensures given { Gives (λ i. i) (fault_of path.new.items) result (placed_at (components_of (map component_view comps.now)) (fields_view fields.now) before at tag) }
+    ensures given { Gives (λ i. i) (fault_of path.new.items) result
+        (placed_at (components_of (map component_view comps.now)) (fields_view fields.now) before at tag) }
 {
     let Some(place) = one_with(comps, tag) else {
         return Err(fault_at(path, Code::UnexpectedTag, at));
@@ -49,7 +50,8 @@ pub fn completed(
 ) -> Result<Vec<Option<Value>>, Fault>
     requires few { length comps.now ≤ 64 }
     requires fields { length fields.items ≡ length comps.now }
-    ensures { Gives (λ v. fields_view v.items) (fault_of path.new.items) result (completed 0 (components_of (map component_view comps.now)) (fields_view fields.items) at) }
+    ensures { Gives (λ v. fields_view v.items) (fault_of path.new.items) result
+        (completed 0 (components_of (map component_view comps.now)) (fields_view fields.items) at) }
 {
     for (index, comp) in comps.iter().enumerate() {
         if fields[index].is_none() {

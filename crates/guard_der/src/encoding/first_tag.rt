@@ -25,7 +25,8 @@ pub fn outermost(ty: &Ty, value: &Value) -> Tag
 
 #[cycle(outermost)]
 fn outermost_alternative(alternatives: &[Comp], at: usize, value: &Value) -> Tag
-    ensures { result ≡ outermost_alternative (components_of (map component_view alternatives.now)) at (value_view value.now) }
+    ensures { result
+        ≡ outermost_alternative (components_of (map component_view alternatives.now)) at (value_view value.now) }
 {
     if at >= alternatives.len() {
         return no_tag();

@@ -62,7 +62,8 @@ fn push_fewest(
     requires low { limit ≤ base }
     requires octets { base ≤ digits_below form }
     requires room { number < limit * base ^ more }
-    ensures { IfOk result (λ _. out.new.items ≡ out.old.items ++ map (digit_octet form) (fewest base limit more number)) }
+    ensures { IfOk result (λ _. out.new.items ≡ out.old.items
+        ++ map (digit_octet form) (fewest base limit more number)) }
 {
     if more == 0 || number < limit {
         return Ok(out.push(octet_of(form, number as u8))?);

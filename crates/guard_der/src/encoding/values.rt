@@ -6,7 +6,8 @@ ghost use Rattle.guard_model.specs.ValueView.{value_view, field_view, fields_vie
 ghost use Rattle.guard_der.specs.Der.{der, contents_octets, parts_of, alternative_octets, item_encodings};
 ghost use Rattle.guard_der.specs.Fits.{fits, fits_kind, fits_fields, fits_alternative, every_fits, fits_field};
 ghost use Rattle.guard_der.specs.Encoding.{refusal, or_too_long};
-ghost use Rattle.guard_der.specs.inside.EncodingSteps.{part_of, parts_view, with_parts, all_joined, sequence_octets, set_octets};
+ghost use Rattle.guard_der.specs.inside.EncodingSteps.{part_of, parts_view, with_parts, all_joined};
+ghost use Rattle.guard_der.specs.inside.EncodingSteps.{sequence_octets, set_octets};
 
 use crate::encoding::EncodeFault;
 use crate::encoding::element::tagged;
@@ -32,7 +33,8 @@ pub fn encoding(alloc: Global, ty: &Ty, value: &Value) -> Result<Vec<u8>, Encode
 #[cycle(encoding)]
 pub fn contents(alloc: Global, kind: &Kind, value: &Value) -> Result<Vec<u8>, EncodeFault>
     requires { IsTrue (fits_kind (kind_view kind.now) (value_view value.now)) }
-    ensures { Gives (λ v. v.items) refusal result (or_too_long (contents_octets (kind_view kind.now) (value_view value.now))) }
+    ensures { Gives (λ v. v.items) refusal result
+        (or_too_long (contents_octets (kind_view kind.now) (value_view value.now))) }
 {
     match (kind, value) {
         (Kind::Bool, Value::Bool(truth)) => Ok(boolean(alloc, *truth)?),
@@ -58,7 +60,8 @@ pub fn contents(alloc: Global, kind: &Kind, value: &Value) -> Result<Vec<u8>, En
 #[cycle(encoding)]
 fn sequence(alloc: Global, comps: &[Comp], fields: &[Option<Value>]) -> Result<Vec<u8>, EncodeFault>
     requires { IsTrue (fits_fields (components_of (map component_view comps.now)) (fields_view fields.now)) }
-    ensures { Gives (λ v. v.items) refusal result (or_too_long (sequence_octets (parts_of (components_of (map component_view comps.now)) (fields_view fields.now)))) }
+    ensures { Gives (λ v. v.items) refusal result (or_too_long
+        (sequence_octets (parts_of (components_of (map component_view comps.now)) (fields_view fields.now)))) }
 {
     let parts = parts(alloc, comps, fields)?;
     Ok(joined(alloc, &parts)?)
@@ -68,7 +71,8 @@ fn sequence(alloc: Global, comps: &[Comp], fields: &[Option<Value>]) -> Result<V
 #[cycle(encoding)]
 fn set(alloc: Global, comps: &[Comp], fields: &[Option<Value>]) -> Result<Vec<u8>, EncodeFault>
     requires { IsTrue (fits_fields (components_of (map component_view comps.now)) (fields_view fields.now)) }
-    ensures { Gives (λ v. v.items) refusal result (or_too_long (set_octets (parts_of (components_of (map component_view comps.now)) (fields_view fields.now)))) }
+    ensures { Gives (λ v. v.items) refusal result
+        (or_too_long (set_octets (parts_of (components_of (map component_view comps.now)) (fields_view fields.now)))) }
 {
     let parts = parts(alloc, comps, fields)?;
     let sorted = ascending(alloc, parts)?;
@@ -83,8 +87,10 @@ fn alternative(
     at: usize,
     value: &Value,
 ) -> Result<Vec<u8>, EncodeFault>
-    requires { IsTrue (fits_alternative (components_of (map component_view alternatives.now)) at (value_view value.now)) }
-    ensures { Gives (λ v. v.items) refusal result (or_too_long (alternative_octets (components_of (map component_view alternatives.now)) at (value_view value.now))) }
+    requires { IsTrue
+        (fits_alternative (components_of (map component_view alternatives.now)) at (value_view value.now)) }
+    ensures { Gives (λ v. v.items) refusal result (or_too_long
+        (alternative_octets (components_of (map component_view alternatives.now)) at (value_view value.now))) }
 {
     if at >= alternatives.len() {
         return Err(EncodeFault::TooLong);
@@ -100,7 +106,8 @@ fn parts(
     fields: &[Option<Value>],
 ) -> Result<Vec<EncodedPart>, EncodeFault>
     requires { IsTrue (fits_fields (components_of (map component_view comps.now)) (fields_view fields.now)) }
-    ensures { Gives (λ v. parts_view v.items) refusal result (or_too_long (parts_of (components_of (map component_view comps.now)) (fields_view fields.now))) }
+    ensures { Gives (λ v. parts_view v.items) refusal result
+        (or_too_long (parts_of (components_of (map component_view comps.now)) (fields_view fields.now))) }
 {
     if comps.len() != fields.len() {
         return Err(EncodeFault::TooLong);
@@ -123,7 +130,8 @@ fn push_part(
     field: &Option<Value>,
 ) -> Result<(), EncodeFault>
     requires { IsTrue (fits_field (presence_view presence.now) (type_view ty.now) (field_view field.now)) }
-    ensures { Gives (λ _. parts_view parts.new.items) refusal result (or_too_long (with_parts (parts_view parts.old.items) (part_of (presence_view presence.now) (type_view ty.now) (field_view field.now)))) }
+    ensures { Gives (λ _. parts_view parts.new.items) refusal result (or_too_long (with_parts (parts_view
+        parts.old.items) (part_of (presence_view presence.now) (type_view ty.now) (field_view field.now)))) }
 {
     let Some(value) = field else {
         return Ok(());
@@ -142,7 +150,8 @@ fn push_part(
 #[cycle(encoding)]
 fn elements(alloc: Global, ty: &Ty, items: &[Value]) -> Result<Vec<u8>, EncodeFault>
     requires { IsTrue (every_fits (fits (type_view ty.now)) (items_view items.now)) }
-    ensures { Gives (λ v. v.items) refusal result (or_too_long (all_joined (item_encodings (der (type_view ty.now)) (items_view items.now)))) }
+    ensures { Gives (λ v. v.items) refusal result
+        (or_too_long (all_joined (item_encodings (der (type_view ty.now)) (items_view items.now)))) }
 {
     let mut out = Vec::new(alloc);
     for item in items {

@@ -25,7 +25,8 @@ pub fn are_octets(octets: &[u8]) -> bool
 /// At most seven bits are unused, none where there are no octets (X.690 8.6.2); the unused bits are zero (11.2.1).
 /// Where bits are named, the last one isn't (11.2.2).
 pub fn bits_fit(names: &[Named], bits: &Bits) -> bool
-    ensures { result ≡ (fits_bits bits.now.octets.items bits.now.unused && ends_as_named (map named_view names.now) bits.now.octets.items bits.now.unused) }
+    ensures { result ≡ (fits_bits bits.now.octets.items bits.now.unused
+        && ends_as_named (map named_view names.now) bits.now.octets.items bits.now.unused) }
 {
     are_octets(&bits.octets)
         && has_proper_end(&bits.octets, bits.unused)

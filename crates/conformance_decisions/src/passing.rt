@@ -1,4 +1,4 @@
-//! `Policy::passes`, `passes_as_given` and `passes_as_last` beside `Policy::verdict`.
+//! `Policy::passes`, `passes_as_given` and `passes_as_last` beside the reason that is found by a value.
 use crate::verdicts::cut;
 use conformance_rows::{Compared, Judges, Subject, octets_in, text_of, texts_of};
 use guard_frames::load_texts;
@@ -18,12 +18,12 @@ struct Passing<'a> {
 }
 
 impl Judges for Passing<'_> {
-    /// Whether `passes` is true exactly where the verdict is to pass, and `passes_as_given` and `passes_as_last` answer
+    /// Whether `passes` is true exactly where the reason is to pass, and `passes_as_given` and `passes_as_last` answer
     /// so where some rule gives the route, and else none.
     fn agree(&self, alloc: Global, octets: &[u8]) -> Result<bool, AllocError> {
-        match self.policy.verdict(alloc, &self.route, octets) {
-            Ok(verdict) => {
-                let is_pass = matches!(verdict, Verdict::Pass);
+        match self.policy.reason(alloc, &self.route, octets, None) {
+            Ok(reason) => {
+                let is_pass = matches!(reason, Verdict::Pass);
                 let as_given = if self.is_given { Some(is_pass) } else { None };
                 Ok(
                     self.policy.passes(&self.route, octets) == is_pass
@@ -43,7 +43,10 @@ impl Passing<'_> {
         self.policy.passes_and_found(self.names, octets, &mut last);
         let mut body = Vec::from_slice(alloc, self.names)?;
         body.extend_from_slice(octets)?;
-        Ok(self.policy.passes_as_last(last, &body))
+        match self.policy.passes_as_last(last, &body) {
+            Some(told) => Ok(Some(told.goes())),
+            None => Ok(None),
+        }
     }
 }
 

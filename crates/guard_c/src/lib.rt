@@ -1,5 +1,5 @@
-//! The guard as a library for C, which `derguard.h` declares. Each export takes the address of a handle that C keeps, and
-//! says again what the guard's own crates say of what it does.
+//! The guard as a library for C, which `derguard.h` declares. Each export takes the address of a handle that C keeps,
+//! and says again what the guard's own crates say of what it does.
 //!
 //! | question | code | definition |
 //! |---|---|---|

@@ -4,7 +4,8 @@ ghost use Rattle.guard_c.specs.Policies.{IsRefusal, IsUnshared};
 ghost use Rattle.guard_frames.specs.Texts.{SayPolicy, SayNone, named};
 ghost use Rattle.guard_policy.specs.Policies.{AbstractPolicy};
 ghost use Rattle.guard_policy.specs.PolicyView.{policy_view};
-ghost use Rattle.std.specs.Prelude.{◌≡◌, ◌≢◌, IsTrue, None, Some, IfOk, IfErr, IfSome, IsSomeAnd, MatchResult, is_some, map};
+ghost use Rattle.std.specs.Prelude.{◌≡◌, ◌≢◌, IsTrue, None, Some, IfOk, IfErr, IfSome};
+ghost use Rattle.std.specs.Prelude.{IsSomeAnd, MatchResult, is_some, map};
 ghost use Rattle.std_alloc.specs.Arc.{arc_value};
 ghost use Rattle.guard_c.specs.declared.status.Status.TheVariants as ended;
 

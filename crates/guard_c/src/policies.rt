@@ -19,8 +19,8 @@ use crate::telling::{put, tell};
 use guard_policy::Route;
 use std::alloc::Global;
 
-/// Loads the policy that a text says over the modules of other texts, in place of what the handle held. The handle holds
-/// what it held unless this is done. `fault` is the buffer for the text of the fault where it is refused.
+/// Loads the policy that a text says over the modules of other texts, in place of what the handle held. The handle
+/// holds what it held unless this is done. `fault` is the buffer for the text of the fault where it is refused.
 #[unsafe(no_mangle)]
 pub extern "C" fn derguard_load(
     alloc: Global,

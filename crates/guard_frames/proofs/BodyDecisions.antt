@@ -1,15 +1,20 @@
 -- What a policy decides of a body, by the octets of its names or by the names.
-use Rattle.std.proofs.Common.{◌≡◌, ◌∙◌, ◌-◌, ◌≤◌, List, ℕ, ◌++◌, Bool, true, false, ◌↔◌, ap, sym, subst, length, take, length-append, arith}
-use Rattle.std.specs.Prelude.{IsTrue, Some, None}
+use Rattle.std.proofs.Common.{◌≡◌, ◌∙◌, ◌-◌, ◌≤◌, List, ℕ, ◌++◌, true, false, refl, ap, sym, subst, length, take, length-append, arith}
+use Rattle.std.specs.Prelude.{Some, None}
 use Rattle.std.proofs.lemmas.Bool.{false≢true}
 use Rattle.std.proofs.lemmas.List.{append_assoc}
 use Rattle.std.proofs.Math.Seq.{take-append_seam}
+use Rattle.guard_reader.specs.declared.marks.Marks.{Marks}
+use Rattle.guard_policy.specs.declared.passing.Passing.{Passing}
+use Rattle.guard_policy.specs.declared.passing.Passing.TheVariants as passing
 use Rattle.guard_policy.specs.NamedRoutes.{with_length, IsGiven}
 use Rattle.guard_policy.specs.Policies.{AbstractPolicy, AbstractRoute, AbstractRule}
 use Rattle.guard_policy.specs.Decisions.{Goes}
+use Rattle.guard_policy.specs.Told.{AreMarksOf, Tells, is_going}
+use Rattle.guard_policy.proofs.Reasons.{if_some_map}
 use Rattle.guard_frames.specs.Bodies.{AbstractBody, IsBody, HasNames, named, parts_in, body_in, has_names}
-use Rattle.guard_frames.specs.OfPolicy.{route_of, decision_of}
-use Rattle.guard_frames.specs.Outcomes.{Decision, BodyGoes}
+use Rattle.guard_frames.specs.OfPolicy.{route_of, decision_of, marks_of}
+use Rattle.guard_frames.specs.Outcomes.{Decision, BodyGoes, IsDecided}
 use Rattle.guard_frames.proofs.HeaderLaws.{names_in, names_again, parts_take, same_parts, one_body, no_body}
 
 -- ---- the names, and the message after them
@@ -35,6 +40,17 @@ names_before octets b e =
     ap (λ k. take k octets) long ∙ ap (take (length front)) split ∙ take-append_seam front b.message in
     split ∙ ap (λ (x : List ℕ). x ++ b.message) (sym first)
 
+-- ---- what is told of the body that the octets are
+
+decided_of : (p : AbstractPolicy) (octets : List ℕ) (b : AbstractBody) (told : Passing) → ((c : AbstractBody) → IsBody octets c → c ≡ b)
+    → (is_going told ≡ true → IsBody octets b) → Tells p (route_of b) b.message told → IsDecided (decision_of p) (marks_of p) octets told
+decided_of p octets b passing.Goes one is goes = record { body = b; is = is refl; decided = goes }
+decided_of p octets b (passing.Stays marks) one is stays = (
+  λ go. stays.0 (subst (λ (x : AbstractBody). Goes p (route_of x) x.message) (one go.body go.is) go.decided),
+  if_some_map (AreMarksOf p b.name b.message) (λ m. (x : AbstractBody) → IsBody octets x → marks_of p x m) marks
+      (λ m are x is_one. subst (λ (y : AbstractBody). marks_of p y m) (sym (one x is_one)) are) stays.1,
+)
+
 -- ---- where some rule gives the names
 
 abbrev body_of : AbstractRoute → List ℕ → AbstractBody
@@ -51,39 +67,29 @@ given_body rules octets names message route whole given =
     ∙ append_assoc from (to ++ name) message ∙ ap (λ (rest : List ℕ). from ++ rest) (append_assoc to name message) in
     record { joined = joined; names = names_in (body_of route message) given.plain }
 
-goes_as : (d : Decision) (octets : List ℕ) (b : AbstractBody) (goes : Bool) → IsBody octets b → (IsTrue goes ↔ d.Goes b) → IsTrue goes ↔ BodyGoes d octets
-goes_as d octets b goes is exact = (
-  λ yes. record { body = b; is = is; decided = exact.0 yes },
-  λ go. exact.1 (subst d.Goes (one_body octets go.body b go.is is) go.decided),
-)
-
-pub goes_as_given : (p : AbstractPolicy) (octets names message : List ℕ) (goes : Bool) → octets ≡ names ++ message →
-    ((route : AbstractRoute) × IsGiven p.rules names route × (IsTrue goes ↔ Goes p route message)) → IsTrue goes ↔ BodyGoes (decision_of p) octets
-goes_as_given p octets names message goes whole (route, given, exact) =
-    goes_as (decision_of p) octets (body_of route message) goes (given_body p.rules octets names message route whole given) exact
+pub decided_as_given : (p : AbstractPolicy) (octets names message : List ℕ) (told : Passing) → octets ≡ names ++ message →
+    ((route : AbstractRoute) × IsGiven p.rules names route × Tells p route message told) → IsDecided (decision_of p) (marks_of p) octets told
+decided_as_given p octets names message told whole (route, given, tells) =
+    let is = given_body p.rules octets names message route whole given in
+    decided_of p octets (body_of route message) told (λ c other. one_body octets c (body_of route message) other is) (λ going. is) tells
 
 -- ---- by the names
 
--- the message goes, and so the octets go where the names are names
-pub goes_where_named : (p : AbstractPolicy) (octets : List ℕ) (b : AbstractBody) (passes are : Bool) → Some b ≡ parts_in octets → are ≡ has_names b
-    → passes ≡ true → (IsTrue passes ↔ Goes p (route_of b) b.message) → IsTrue are ↔ BodyGoes (decision_of p) octets
-goes_where_named p octets b passes are there same passed exact = (
-  λ all. record {
-    body = b;
-    is = record { joined = parts_take octets b (sym there); names = names_in b (sym same ∙ all) };
-    decided = exact.0 passed;
-  },
-  λ go. same ∙ names_again b (subst HasNames (same_parts octets b go.body there go.is) go.is.names),
-)
+-- what is in their places is names, where the message goes
+pub decided_as_named : (p : AbstractPolicy) (octets : List ℕ) (b : AbstractBody) (told : Passing) → Some b ≡ parts_in octets
+    → (is_going told ≡ true → has_names b ≡ true) → Tells p (route_of b) b.message told → IsDecided (decision_of p) (marks_of p) octets told
+decided_as_named p octets b told there named tells =
+    decided_of p octets b told (λ c is. same_parts octets b c there is)
+    (λ going. record { joined = parts_take octets b (sym there); names = names_in b (named going) }) tells
 
--- the message doesn't go, and so the octets don't, whether or not the names are names
-pub stays_by_names : (p : AbstractPolicy) (octets : List ℕ) (b : AbstractBody) (passes : Bool) → Some b ≡ parts_in octets → passes ≡ false →
-    (IsTrue passes ↔ Goes p (route_of b) b.message) → IsTrue passes ↔ BodyGoes (decision_of p) octets
-stays_by_names p octets b passes there stays exact = (
-  λ yes. absurd (false≢true (sym stays ∙ yes)),
-  λ go. exact.1 (subst (λ (x : AbstractBody). Goes p (route_of x) x.message) (same_parts octets b go.body there go.is) go.decided),
+-- it isn't
+pub stays_misnamed : (d : Decision) (MarksOf : AbstractBody → Marks → Type 0) (octets : List ℕ) (b : AbstractBody) → Some b ≡ parts_in octets → has_names b ≡ false
+    → IsDecided d MarksOf octets (passing.Stays None)
+stays_misnamed d MarksOf octets b there misnamed = (
+  λ go. false≢true (sym misnamed ∙ names_again b (subst HasNames (same_parts octets b go.body there go.is) go.is.names)),
+  tt,
 )
 
 -- no other octets go
-pub stays_without : (d : Decision) (octets : List ℕ) → None ≡ body_in octets → IsTrue false ↔ BodyGoes d octets
-stays_without d octets none = (λ yes. absurd (false≢true yes), λ go. absurd (no_body octets none go.body go.is))
+pub stays_without : (d : Decision) (MarksOf : AbstractBody → Marks → Type 0) (octets : List ℕ) → None ≡ body_in octets → IsDecided d MarksOf octets (passing.Stays None)
+stays_without d MarksOf octets none = (λ go. no_body octets none go.body go.is, tt)

@@ -1,8 +1,10 @@
 -- What a policy decides of the body of a frame.
 use Rattle.std.specs.Prelude.{◌≡◌}
+use Rattle.guard_reader.specs.declared.marks.Marks.{Marks}
 use Rattle.guard_policy.specs.Policies.{AbstractPolicy, AbstractRoute}
 use Rattle.guard_policy.specs.Verdicts.{AbstractVerdict}
 use Rattle.guard_policy.specs.Decisions.{Goes, IsReason}
+use Rattle.guard_policy.specs.Told.{AreMarksOf}
 use Rattle.guard_report.specs.Lines.{line_octets}
 use Rattle.guard_frames.specs.Bodies.{AbstractBody}
 use Rattle.guard_frames.specs.Outcomes.{Decision}
@@ -18,3 +20,7 @@ decision_of p = record {
   Reports = λ n b text. (w : AbstractVerdict) × IsReason p (route_of b) b.message w
       × (text ≡ line_octets p (route_of b) n w);
 }
+
+-- the marks of its message
+abbrev pub marks_of : AbstractPolicy → AbstractBody → Marks → Type 0
+marks_of p b marks = AreMarksOf p b.name b.message marks

@@ -1,5 +1,8 @@
 -- What becomes of each frame of a stream: it goes out, or it stays.
-use Rattle.std.specs.Prelude.{ℕ, Bool, true, false, List, drop, map}
+use Rattle.std.specs.Prelude.{ℕ, Bool, true, false, List, drop, map, IfSome}
+use Rattle.guard_reader.specs.declared.marks.Marks.{Marks}
+use Rattle.guard_policy.specs.declared.passing.Passing.{Passing}
+use Rattle.guard_policy.specs.declared.passing.Passing.TheVariants as passing
 use Rattle.guard_frames.specs.Bodies.{AbstractBody, IsBody}
 
 -- What is decided of a body: whether it goes, and the report line, with the frame's number, of one that stays.
@@ -12,6 +15,12 @@ pub record BodyGoes (d : Decision) (octets : List ℕ) : Type 0 where
   pub body : AbstractBody
   pub is : IsBody octets body
   pub decided : d.Goes body
+
+-- The octets go, or they don't, and marks that are told then are those of the body that they are.
+abbrev pub IsDecided : Decision → (AbstractBody → Marks → Type 0) → List ℕ → Passing → Type 0
+IsDecided d MarksOf octets passing.Goes = BodyGoes d octets
+IsDecided d MarksOf octets (passing.Stays marks) =
+    (BodyGoes d octets → ⊥) × IfSome marks (λ m. (b : AbstractBody) → IsBody octets b → MarksOf b m)
 
 -- a frame goes where what follows its four octets of length goes
 abbrev pub Goes : Decision → List ℕ → Type 0

@@ -17,8 +17,8 @@ IsNoRun (Policy f) = Unit {0}
 IsNoRun (Run f) = ⊥
 IsNoRun OutOfMemory = Unit {0}
 
--- What comes of the octets that were read under this policy, by the answer: no fault but one of the run. Want of memory
--- is answered by its own name, and never as one.
+-- What comes of the octets that were read under this policy, by the answer: no fault but one of the run. That memory
+-- ran out is answered by its own name, and never as one.
 abbrev pub RunsUnder : AbstractPolicy → List ℕ → Type 0 → Result Totals TextsFault → Added → Type 0
 RunsUnder p read Ended (Ok totals) added = Runs (decision_of p) read Ended (Ok totals) added
 RunsUnder p read Ended (Err (Run f)) added = (f ≡ NoMemory → ⊥) × Runs (decision_of p) read Ended (Err f) added
@@ -26,8 +26,8 @@ RunsUnder p read Ended (Err (Schema f)) added = ⊥
 RunsUnder p read Ended (Err (Policy f)) added = ⊥
 RunsUnder p read Ended (Err OutOfMemory) added = (read ≡ []) × (added ≡ nothing)
 
--- What the answer says of the texts: they say a policy, or this is why they say none. Want of memory says nothing of
--- them.
+-- What the answer says of the texts: they say a policy, or this is why they say none. That memory ran out
+-- says nothing of them.
 abbrev pub AnswersFor : List (List ℕ) → List ℕ → Result Totals TextsFault → Type 0
 AnswersFor modules text (Ok totals) = (p : AbstractPolicy) × SayPolicy modules text p
 AnswersFor modules text (Err (Run f)) = (p : AbstractPolicy) × SayPolicy modules text p

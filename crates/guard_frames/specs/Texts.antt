@@ -22,7 +22,7 @@ abbrev pub SayPolicy : List (List ℕ) → List ℕ → AbstractPolicy → Type 
 SayPolicy modules text p = (s : AbstractSchema) × Accepts modules s × Loads text (named_types s) p
 
 -- Why they say none: the first fault of the modules; or, where they have none, that of the policy's text over them.
--- Want of memory says nothing of them.
+-- That memory ran out says nothing of them.
 abbrev pub SayNone : List (List ℕ) → List ℕ → TextsFault → Type 0
 SayNone modules text (Schema f) = IsSomeAnd (schema.named f) (schema_text.IsRefused modules)
 SayNone modules text (Policy f) =

@@ -1,6 +1,7 @@
 //! What a link reads from and writes to.
 
-ghost use Rattle.std.specs.Prelude.{◌≡◌, ◌<◌, ◌≤◌, ◌++◌, ℕ, List, Bool, true, Option, None, length, take, IfOk, OnOk, OnErr, IsErr};
+ghost use Rattle.std.specs.Prelude.{◌≡◌, ◌<◌, ◌≤◌, ◌++◌, ℕ, List, Bool, true, Option};
+ghost use Rattle.std.specs.Prelude.{None, length, take, IfOk, OnOk, OnErr, IsErr};
 ghost use Rattle.std.specs.Io.KnownBytes.{Appends, Consumes, IsAtEnd};
 ghost use Rattle.guard_frames.specs.Calls.{Calls, Asks, EndsLine, AsksLines};
 ghost use Rattle.guard_frames.specs.Prefix.{IsProperPrefix};

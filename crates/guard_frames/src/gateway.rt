@@ -61,7 +61,7 @@ impl<S: Drop> Gateway<S> {
     /// A gateway of new links, one for each pair of sinks, in their order; at most 65,535, so that each has a number.
     ///
     /// # Errors
-    /// Both arguments, where memory is wanting.
+    /// Both arguments, where memory ran out.
     pub fn new(alloc: Global, policy: Policy, ends: Vec<Ends<S>>) -> Result<Gateway<S>, NoRoom<S>>
         requires few { length ends.items ≤ 65535 }
         ensures links { IfOk result (λ g. gateway_view g ≡ record {

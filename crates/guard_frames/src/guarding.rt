@@ -7,7 +7,8 @@ ghost use Rattle.guard_frames.specs.Added.{Moves};
 ghost use Rattle.guard_frames.specs.Calls.{AsksLines};
 ghost use Rattle.guard_frames.specs.OfPolicy.{decision_of};
 ghost use Rattle.guard_frames.specs.Runs.{Runs, ReadToLimit};
-ghost use Rattle.guard_frames.specs.declared.running.RunFault.TheVariants.{WriteFailed, ReadFailed, OutOfMemory as NoMemory};
+ghost use Rattle.guard_frames.specs.declared.running.RunFault.TheVariants.{WriteFailed, ReadFailed};
+ghost use Rattle.guard_frames.specs.declared.running.RunFault.TheVariants.{OutOfMemory as NoMemory};
 
 use crate::devices::{Sink, Source};
 use crate::running::{RunFault, decide_stream};

@@ -3,7 +3,7 @@
 use crate::devices::{Failed, Sink};
 use std::alloc::Global;
 
-/// Keeps what it takes. Want of memory is its only failure.
+/// Keeps what it takes. It fails only where memory runs out.
 #[derive(Drop)]
 pub struct Kept {
     kept: Vec<u8>,

@@ -1,52 +1,62 @@
 //! A policy decides which bodies go: those whose message goes.
 
-ghost use Rattle.std.specs.Prelude.{◌≡◌, ◌↔◌, IsTrue};
+ghost use Rattle.std.specs.Prelude.{◌≡◌};
 ghost use Rattle.guard_policy.specs.PolicyView.{policy_view, route_view};
 ghost use Rattle.guard_frames.specs.Bodies.{body_view};
-ghost use Rattle.guard_frames.specs.OfPolicy.{route_of, decision_of};
-ghost use Rattle.guard_frames.specs.Outcomes.{BodyGoes};
+ghost use Rattle.guard_frames.specs.OfPolicy.{route_of, decision_of, marks_of};
+ghost use Rattle.guard_frames.specs.Outcomes.{IsDecided};
 
 use crate::body::Body;
 use crate::decision::Decide;
 use crate::header::{cut_body, has_names};
 use guard_model::OutOfMemory;
-use guard_policy::{LastRoute, Policy, Route};
+use guard_policy::{LastRoute, Marks, Passing, Policy, Route};
 use guard_report::line;
 use std::alloc::Global;
 
 impl Decide for Policy {
     ghost decides = { λ policy. decision_of (policy_view policy) };
 
-    fn goes(&self, octets: &[u8], last: &mut LastRoute) -> bool {
+    ghost marks_of = { λ policy. marks_of (policy_view policy) };
+
+    fn goes(&self, octets: &[u8], last: &mut LastRoute) -> Passing {
         match self.passes_as_last(*last, octets) {
-            Some(goes) => goes,
+            Some(told) => told,
             None => goes_as_read(self, octets, last),
         }
     }
 
-    fn line(&self, alloc: Global, number: u64, body: &Body) -> Result<Vec<u8>, OutOfMemory> {
+    fn line(
+        &self,
+        alloc: Global,
+        number: u64,
+        body: &Body,
+        marks: Option<Marks>,
+    ) -> Result<Vec<u8>, OutOfMemory> {
         let route = route_of(body);
-        let verdict = self.verdict(alloc, &route, body.message)?;
+        let verdict = self.reason(alloc, &route, body.message, marks)?;
         line(alloc, number, &route, &verdict, self)
     }
 }
 
 /// Whether a frame goes, whose names are read and looked up. Where no rule gives them, whether they are names is asked
-/// last, and so not of a frame that stays: its report asks it.
-fn goes_as_read(policy: &Policy, octets: &[u8], last: &mut LastRoute) -> bool
-    ensures { IsTrue result ↔ BodyGoes (decision_of (policy_view policy.now)) octets.now }
+/// last, and not of a frame whose message stays: its report asks it.
+fn goes_as_read(policy: &Policy, octets: &[u8], last: &mut LastRoute) -> Passing
+    ensures { IsDecided (decision_of (policy_view policy.now)) (marks_of (policy_view policy.now)) octets.now result }
 {
     let Some(body) = cut_body(octets) else {
-        return false;
+        return Passing::Stays(None);
     };
     let names = &octets[..octets.len() - body.message.len()];
-    match policy.passes_and_found(names, body.message, last) {
-        Some(goes) => goes,
-        None => {
-            let route = route_of(&body);
-            policy.passes(&route, body.message) && has_names(&body)
-        }
+    if let Some(told) = policy.passes_and_found(names, body.message, last) {
+        return told;
     }
+    let route = route_of(&body);
+    let told = policy.look_at(&route, body.message);
+    if told.goes() && !has_names(&body) {
+        return Passing::Stays(None);
+    }
+    told
 }
 
 /// Who sends what to whom, by the header.

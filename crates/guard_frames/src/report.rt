@@ -1,6 +1,6 @@
 //! What becomes of a frame, and the line that is reported of one that stays.
 
-ghost use Rattle.std.specs.Prelude.{◌≡◌, ◌++◌, ◌≤◌, true, List, [], ℕ, drop, length, OnOk, OnErr, decimal};
+ghost use Rattle.std.specs.Prelude.{◌≡◌, ◌++◌, ◌≤◌, true, List, [], ℕ, drop, length, IfSome, OnOk, OnErr, decimal};
 ghost use Rattle.std.specs.Io.KnownBytes.{Appends};
 ghost use Rattle.guard_frames.specs.Calls.{EndsLine, AsksLines};
 ghost use Rattle.guard_frames.specs.Prefix.{IsProperPrefix};
@@ -13,7 +13,7 @@ use crate::decision::Decide;
 use crate::devices::{Failed, Sink, put_all};
 use crate::header::read_body;
 use crate::short_line::{ShortLine, add};
-use guard_policy::LastRoute;
+use guard_policy::{LastRoute, Marks, Passing};
 use itoa::Buffer;
 use std::alloc::Global;
 
@@ -49,23 +49,30 @@ pub(crate) fn judge<D: Decide>(
     ensures judged { IsJudged (D.decides policy.now) number frame.now.octets.now result }
     ensures ends { RulingEnds result }
 {
-    if policy.goes(frame.body, last) {
+    let Passing::Stays(marks) = policy.goes(frame.body, last) else {
         return Ruling::Goes;
-    }
+    };
     match read_body(frame.body) {
-        Some(body) => Ruling::Stays(report_of(alloc, policy, number, &body)),
+        Some(body) => Ruling::Stays(report_of(alloc, policy, number, &body, marks)),
         None => Ruling::Stays(Report::BadHeader),
     }
 }
 
-/// What is reported of the frame of this number and with this body, which stays.
-fn report_of<D: Decide>(alloc: Global, policy: &D, number: u64, body: &Body) -> Report
+/// What is reported of the frame of this number and with this body, which stays and has these marks.
+fn report_of<D: Decide>(
+    alloc: Global,
+    policy: &D,
+    number: u64,
+    body: &Body,
+    marks: Option<Marks>,
+) -> Report
     requires names { HasNames (body_view body.now) }
     requires stays { (D.decides policy.now).Goes (body_view body.now) → ⊥ }
+    requires told { IfSome marks (D.marks_of policy.now (body_view body.now)) }
     ensures reports { IsReportOf (D.decides policy.now) number (body_view body.now) result }
     ensures ends { ReportEnds result }
 {
-    match policy.line(alloc, number, body) {
+    match policy.line(alloc, number, body, marks) {
         Ok(line) => Report::Line(line),
         Err(_) => Report::NoMemory,
     }

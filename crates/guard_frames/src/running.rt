@@ -7,7 +7,8 @@ ghost use Rattle.guard_frames.specs.Calls.{AsksLines};
 ghost use Rattle.guard_frames.specs.Totals.{WentUpBy};
 ghost use Rattle.guard_frames.specs.Runs.{Runs, ReadToLimit};
 ghost use Rattle.guard_frames.specs.inside.Closing.{run_fault};
-ghost use Rattle.guard_frames.specs.declared.running.RunFault.TheVariants.{WriteFailed, ReadFailed, OutOfMemory as NoMemory};
+ghost use Rattle.guard_frames.specs.declared.running.RunFault.TheVariants.{WriteFailed, ReadFailed};
+ghost use Rattle.guard_frames.specs.declared.running.RunFault.TheVariants.{OutOfMemory as NoMemory};
 
 use crate::decision::Decide;
 use crate::devices::{Failed, Sink, Source};

@@ -1,6 +1,5 @@
 -- What the octets of a route's names lead to decides of a message on the route.
-use Rattle.std.proofs.Common.{◌≡◌, ℕ, List, [], ◌∷◌, map, slice_get, Bool, true, false, ◌||◌, ◌↔◌, Option, Some, None, option_map, option_and_then, string_bytes, refl, ap, sym, ◌∙◌}
-use Rattle.std.specs.Prelude.{IsTrue}
+use Rattle.std.proofs.Common.{◌≡◌, ℕ, List, [], ◌∷◌, map, slice_get, Bool, true, false, ◌||◌, Option, Some, None, option_map, option_and_then, string_bytes, refl, ap, sym, ◌∙◌}
 use Rattle.std.specs.List.{list_any, AllByRecursion}
 use Rattle.std.proofs.lemmas.List.Elements.{recursion_from_All}
 use Rattle.std.proofs.lemmas.Option.{same_Some, slice_get-map}
@@ -10,19 +9,20 @@ use Rattle.guard_policy.specs.declared.index.Index.{Index}
 use Rattle.guard_policy.specs.declared.kept.KeptMessage.{KeptMessage}
 use Rattle.guard_policy.specs.declared.kept.KeptRule.{KeptRule}
 use Rattle.guard_policy.specs.declared.leads.Lead.{Lead}
+use Rattle.guard_policy.specs.declared.passing.Passing.{Passing}
 use Rattle.guard_policy.specs.declared.policy.Policy.{Policy}
-use Rattle.guard_policy.specs.Decisions.{Goes}
 use Rattle.guard_policy.specs.KeptView.{kept_message_view, kept_rule_view}
 use Rattle.guard_policy.specs.NamedRoutes.{gives, IsGiven}
 use Rattle.guard_policy.specs.PolicyView.{policy_view}
 use Rattle.guard_policy.specs.Policies.{AbstractMessage, AbstractRoute, declared_type}
+use Rattle.guard_policy.specs.Told.{Tells}
 use Rattle.guard_policy.specs.inside.Keeping.{IsFirst}
 use Rattle.guard_policy.specs.inside.Leads.{given_route, lead_there, lead_of, found_lead}
 use Rattle.guard_policy.specs.inside.Listings.{AbstractListed, found_in, listing, place_among, numbers_for}
 use Rattle.guard_policy.specs.inside.Passing.{IsAnswer}
 use Rattle.guard_policy.specs.inside.Routing.{route_rules}
 use Rattle.guard_policy.specs.inside.KeptRules.{rules_kept}
-use Rattle.guard_policy.proofs.ByMarks.{goes_exactly}
+use Rattle.guard_policy.proofs.ByMarks.{tells}
 use Rattle.guard_policy.proofs.GivenRoutes.{is_given, given_is, gives_own}
 use Rattle.guard_policy.proofs.Keeping.{first_named}
 use Rattle.guard_policy.proofs.Listed.{with_numbers, listed_parts, listed_type}
@@ -157,10 +157,10 @@ module _ (policy : Policy) (names : List ℕ) (lead : Lead) (found : found_lead 
       there = at;
     }
 
-    pub given_goes : (octets : List ℕ) (answer : Bool) → IsAnswer m.table lead.rules octets answer
-        → (x : AbstractRoute) × IsGiven (policy_view policy).rules names x × (IsTrue answer ↔ Goes (policy_view policy) x octets)
-    given_goes octets answer is = (
+    pub given_tells : (octets : List ℕ) (told : Passing) → IsAnswer m.table lead.rules octets told
+        → (x : AbstractRoute) × IsGiven (policy_view policy).rules names x × Tells (policy_view policy) x octets told
+    given_tells octets told is = (
       route,
       is_given names (policy_view policy).rules route led.given,
-      goes_exactly policy route octets led.leads.listed.numbers m typed first lead.rules answer rules is,
+      tells policy route octets led.leads.listed.numbers m typed first lead.rules told rules is,
     )

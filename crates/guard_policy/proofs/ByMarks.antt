@@ -1,7 +1,6 @@
 -- What the marks of a table say by a route's rules is what the rules say of the value.
 use Rattle.std.proofs.Common.{◌≡◌, ℕ, zero, suc, ◌+◌, List, [], ◌∷◌, map, slice_get, Bool, true, false, ◌&&◌, ◌||◌, not, cond, ◌↔◌, Option, None, Some, option_map, string_bytes, All, refl, ap, sym, ◌∙◌, subst, arith, inl, inr}
-use Rattle.std.specs.Prelude.{IsTrue, bytes_eq}
-use Rattle.std.proofs.lemmas.Bool.{false≢true}
+use Rattle.std.specs.Prelude.{IsTrue, IfSome, bytes_eq}
 use Rattle.std.specs.List.{list_any, list_all}
 use Rattle.std.proofs.lemmas.Option.{same_Some, slice_get-map, slice_get_within, get_or_from_slice_get}
 use Rattle.std.proofs.lemmas.List.Elements.{All-get_or}
@@ -19,11 +18,14 @@ use Rattle.guard_reader.specs.declared.marks.Marks.{Marks}
 use Rattle.guard_reader.specs.Marking.{is_in, HasMarks}
 use Rattle.guard_policy.specs.declared.kept.Kept.{Kept}
 use Rattle.guard_policy.specs.declared.kept.KeptMessage.{KeptMessage}
+use Rattle.guard_policy.specs.declared.passing.Passing.{Passing}
+use Rattle.guard_policy.specs.declared.passing.Passing.TheVariants as passing
 use Rattle.guard_policy.specs.declared.policy.Policy.{Policy}
 use Rattle.guard_policy.specs.declared.policy.Effect.{Effect}
 use Rattle.guard_policy.specs.declared.policy.Effect.TheVariants.{Allow, Deny}
 use Rattle.guard_policy.specs.declared.routing.RouteRules.{RouteRules}
 use Rattle.guard_policy.specs.declared.routing.Routing.{Routing}
+use Rattle.guard_policy.specs.Consistency.{types_for}
 use Rattle.guard_policy.specs.Decisions.{NumberedRule, speaks_of, speaking, is_allowing, allows, denies, first_denying, judged, rules_of as route_rules, Goes, IsReason}
 use Rattle.guard_policy.specs.Verdicts.{AbstractVerdict}
 use Rattle.guard_policy.specs.KeptView.{kept_message_view}
@@ -32,11 +34,12 @@ use Rattle.guard_policy.specs.PolicyView.{policy_view}
 use Rattle.guard_policy.specs.Policies.{AbstractPolicy, AbstractMessage, AbstractRule, AbstractRoute, declared_type, declared_among}
 use Rattle.guard_policy.specs.inside.Keeping.{IsFirst}
 use Rattle.guard_policy.specs.inside.Listings.{numbers_for}
-use Rattle.guard_policy.specs.inside.Passing.{LetsGo, AreMarks, EncodeNothing, IsAnswer, IsMarked, first_in}
+use Rattle.guard_policy.specs.Told.{AreMarksOf, Tells}
+use Rattle.guard_policy.specs.inside.Passing.{LetsGo, AreMarks, EncodeNothing, IsAnswer, IsToldBy, IsMarked, first_in}
 use Rattle.guard_policy.specs.inside.Routing.{rules_named, slots_where, has_effect, common, speaking_slots, slots_for, route_rules as rules_on, IsRouting, IsRouted}
 use Rattle.guard_policy.specs.inside.KeptRules.{messages_kept, rules_kept}
 use Rattle.guard_policy.proofs.Applicable.{declared_sound}
-use Rattle.guard_policy.proofs.Goes.{judged_denied, judged_undenied, none_allows, nothing_allows}
+use Rattle.guard_policy.proofs.Goes.{judged_denied, judged_undenied, nothing_allows}
 use Rattle.guard_policy.proofs.Keeping.{first_named}
 use Rattle.guard_policy.proofs.Listed.{speaks_not, with_numbers, declared_pair}
 use Rattle.guard_policy.proofs.RuleSlots.{Says, true_at, any, says_slots, common_says, both_mapped, filled, empty, filled_any, empty_any, any_mapped}
@@ -293,14 +296,16 @@ module _ (policy : Policy) (route : AbstractRoute) (octets numbers : List ℕ) (
   declares : declared_type (policy_view policy) route.message ≡ Some (declared_of m.table)
   declares = (declared_pair (policy_view policy).rules route.message (declared_type (policy_view policy) route.message) (declared_of m.table) numbers listed).0
 
+  routed : IsRouted (rules_kept policy.kept) m × (string_bytes m.name ≡ route.message)
+  routed = routed_first policy.kept.messages.items (rules_kept policy.kept) route.message m policy.kept.routed first
+
   -- With the marks of the value that the octets encode, the message goes exactly where the declared type has it and the
   -- route's rules let it go.
   by_marks : (marks : Marks) → AreMarks m.table octets marks → LetsGo (rules_on m.routing route) marks.members ↔ Goes (policy_view policy) route octets
-  by_marks marks (v, fitting, encoded, has_marks) =
-      let routed = routed_first policy.kept.messages.items (rules_kept policy.kept) route.message m policy.kept.routed first in (
-        goes policy.kept (policy_view policy) route octets m marks v refl refl declares routed.0 routed.1 fitting encoded has_marks,
-        only policy.kept (policy_view policy) route octets m marks v refl refl declares routed.0 routed.1 fitting encoded has_marks,
-      )
+  by_marks marks (v, fitting, encoded, has_marks) = (
+    goes policy.kept (policy_view policy) route octets m marks v refl refl declares routed.0 routed.1 fitting encoded has_marks,
+    only policy.kept (policy_view policy) route octets m marks v refl refl declares routed.0 routed.1 fitting encoded has_marks,
+  )
 
   -- what goes is the encoding of a value of the message's type
   encoded : Goes (policy_view policy) route octets → EncodeNothing m.table octets → ⊥
@@ -308,32 +313,54 @@ module _ (policy : Policy) (route : AbstractRoute) (octets numbers : List ℕ) (
       let is : g.0 ≡ declared_of m.table = same_Some _ _ (sym g.2 ∙ declares) in
       nothing g.1 (subst (λ (t : AbstractType). IsTrue (fits t g.1)) is g.3) (subst (λ (t : AbstractType). der t g.1 ≡ Some octets) is g.4)
 
-  pub goes_exactly : (rules : RouteRules) (answer : Bool) → rules ≡ rules_on m.routing route → IsAnswer m.table rules octets answer
-      → IsTrue answer ↔ Goes (policy_view policy) route octets
-  goes_exactly rules answer are (inl (marks, walked, exactly)) =
-      let goes = by_marks marks walked in (
-        λ is. goes.0 (subst (λ (r : RouteRules). LetsGo r marks.members) are (exactly.0 is)),
-        λ g. exactly.1 (subst (λ (r : RouteRules). LetsGo r marks.members) (sym are) (goes.1 g)),
+  -- the types of the table have the values that the declared type and those of the rules have
+  same_types : (v : AbstractValue) (slot : ℕ)
+      → is_in (table_types m.table) v slot ≡ is_in (declared_of m.table ∷ types_for route.message (policy_view policy).rules) v slot
+  same_types v zero = refl
+  same_types v (suc n) = routed.0.types v n ∙ ap (λ (name : List ℕ). is_in (types_for name (rules_kept policy.kept)) v n) routed.1
+
+  marks_of : (marks : Marks) → AreMarks m.table octets marks → AreMarksOf (policy_view policy) route.message octets marks
+  marks_of marks (v, fitting, encoded, has_marks) = record {
+    ty = declared_of m.table;
+    value = v;
+    declared = declares;
+    fitting = fitting;
+    encoded = encoded;
+    marked = λ slot. has_marks slot ∙ same_types v slot;
+  }
+
+  marks_in_table : (marks : Marks) → AreMarksOf (policy_view policy) route.message octets marks → AreMarks m.table octets marks
+  marks_in_table marks are =
+      let is : are.ty ≡ declared_of m.table = same_Some _ _ (sym are.declared ∙ declares) in (
+        are.value,
+        subst (λ (t : AbstractType). IsTrue (fits t are.value)) is are.fitting,
+        subst (λ (t : AbstractType). der t are.value ≡ Some octets) is are.encoded,
+        λ slot.
+            are.marked slot
+            ∙ ap (λ (t : AbstractType). is_in (t ∷ types_for route.message (policy_view policy).rules) are.value slot) is
+            ∙ sym (same_types are.value slot),
       )
-  goes_exactly rules answer are (inr (nothing, is)) = (λ e. absurd (false≢true (sym is ∙ e)), λ g. absurd (encoded g nothing))
+
+  pub tells : (rules : RouteRules) (answer : Passing) → rules ≡ rules_on m.routing route → IsAnswer m.table rules octets answer
+      → Tells (policy_view policy) route octets answer
+  tells rules passing.Goes are (marks, walked, lets) =
+      (by_marks marks walked).0 (subst (λ (r : RouteRules). LetsGo r marks.members) are lets)
+  tells rules (passing.Stays (Some marks)) are (walked, stays) = (
+    λ goes. stays (subst (λ (r : RouteRules). LetsGo r marks.members) (sym are) ((by_marks marks walked).1 goes)),
+    marks_of marks walked,
+  )
+  tells rules (passing.Stays None) are nothing = (λ goes. encoded goes nothing, tt)
 
   -- where no allowing rule speaks of the route, none of its rules allows anything
-  pub unallowed_by : (rules : RouteRules) → rules ≡ rules_on m.routing route → rules.allowing ≡ none
+  unallowed_by : (rules : RouteRules) → rules ≡ rules_on m.routing route → rules.allowing ≡ none
       → list_any (λ r. is_allowing r.rule) (route_rules (policy_view policy) route) ≡ false
   unallowed_by rules are empty_now =
-      let routed = routed_first policy.kept.messages.items (rules_kept policy.kept) route.message m policy.kept.routed first in
       unallowing (rules_kept policy.kept) route m routed.0 routed.1 (ap (λ (r : RouteRules). r.allowing) (sym are) ∙ empty_now)
 
-  -- and no message goes
-  pub unallowed_stays : (rules : RouteRules) → rules ≡ rules_on m.routing route → rules.allowing ≡ none → Goes (policy_view policy) route octets → ⊥
-  unallowed_stays rules are empty_now (t, v, declared, fitting, encoded, is_in, some, none_denies) =
-      false≢true (sym (none_allows (route_rules (policy_view policy) route) v (unallowed_by rules are empty_now)) ∙ some)
-
   -- so what the marks tell is the reason
-  pub told_by_marks : (rules : RouteRules) (w : AbstractVerdict) → rules ≡ rules_on m.routing route → IsMarked m.table rules numbers octets w
-      → IsReason (policy_view policy) route octets w
-  told_by_marks rules w are (marks, (v, fitting, encoded, has_marks), of_type, told) =
-      let routed = routed_first policy.kept.messages.items (rules_kept policy.kept) route.message m policy.kept.routed first in
+  told_by_them : (rules : RouteRules) (w : AbstractVerdict) (marks : Marks) → rules ≡ rules_on m.routing route → AreMarks m.table octets marks
+      → IsTrue (has marks.members 0) → IsToldBy rules numbers marks.members w → IsReason (policy_view policy) route octets w
+  told_by_them rules w marks are (v, fitting, encoded, has_marks) of_type told =
       let is_in = inside policy.kept (policy_view policy) route octets m marks v refl refl declares routed.0 routed.1 fitting encoded has_marks of_type in
       let rs = route_rules (policy_view policy) route in
       let slots : common rules.denying marks.members ≡ common (rules_on m.routing route).denying marks.members = ap (λ (r : RouteRules). common r.denying marks.members) are in
@@ -351,3 +378,11 @@ module _ (policy : Policy) (route : AbstractRoute) (octets numbers : List ℕ) (
             ∙ nothing_allows rs v (unallowed_by rules are n.1))
       ] in
       inr (declared_of m.table, declares, inr (v, fitting, encoded, judged_so))
+
+  pub told_by_marks : (rules : RouteRules) (w : AbstractVerdict) (marks : Option Marks) → rules ≡ rules_on m.routing route
+      → IfSome marks (AreMarksOf (policy_view policy) route.message octets) → IsMarked rules numbers marks w → IsReason (policy_view policy) route octets w
+  told_by_marks rules w None are known (marks, is, of_type, told) = absurd (let e = is in cc)
+  told_by_marks rules w (Some found) are known (marks, is, of_type, told) =
+      let same : found ≡ marks = same_Some _ _ is in
+      told_by_them rules w marks are
+      (marks_in_table marks (subst (AreMarksOf (policy_view policy) route.message octets) same known)) of_type told

@@ -93,7 +93,7 @@ passes_judged t rules v fitting p =
 
 -- ---- where no rule allows anything
 
-pub none_allows : (rules : List NumberedRule) (v : AbstractValue) → some_allowing rules ≡ false → some_allows rules v ≡ false
+none_allows : (rules : List NumberedRule) (v : AbstractValue) → some_allowing rules ≡ false → some_allows rules v ≡ false
 none_allows [] v e = refl
 none_allows (r ∷ rs) v e =
     (elim (is_allowing r.rule) as (λ b. (b || some_allowing rs) ≡ false → ((b && is_member r.rule.ty v) || some_allows rs v) ≡ false) [

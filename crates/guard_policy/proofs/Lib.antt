@@ -13,6 +13,7 @@ pub mod OneReason
 pub mod RuleSlots
 pub mod PartyNames
 pub mod RulesNamed
+pub mod Looks
 pub mod ByMarks
 pub mod GivenRoutes
 pub mod AsGiven

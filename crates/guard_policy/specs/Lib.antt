@@ -9,6 +9,7 @@ pub mod Consistency
 -- ---- verdicts
 pub mod Verdicts
 pub mod Decisions
+pub mod Told
 -- ---- the text of a policy
 pub mod Documents
 pub mod Entries

@@ -91,7 +91,7 @@ top_fault top = first_of (
     ∷ unless (is_some (tables_at Rule top)) (missing_key Top Rule)
     ∷ [])
 
--- A refusal names a fault, unless memory ran out. Want of memory is never wrapped.
+-- A refusal names a fault, unless memory ran out, which is never wrapped.
 abbrev pub named : PolicyFault → Option AbstractFault
 named code.OutOfMemory = None
 named code.Toml = Some toml

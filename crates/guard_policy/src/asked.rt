@@ -1,6 +1,6 @@
 //! What types and constraints ask of values, and of the components of values, as far as no union and no exception says
-//! it. `guard_tables` takes these apart as well, into terms with slots of their own, for which it needs room; that isn't
-//! what is asked here.
+//! it. `guard_tables` takes these apart as well, into terms with slots of their own, for which it needs room; that
+//! isn't what is asked here.
 ghost use Rattle.std.specs.Prelude.{◌≡◌, ◌++◌, map, option_map, OnOk, IfOk};
 ghost use Rattle.guard_model.specs.Components.{components_in, component_at};
 ghost use Rattle.guard_model.specs.TypeView.{type_view, kind_view, component_view, constraint_view, element_view};

@@ -3,7 +3,8 @@ ghost use Rattle.std.specs.Prelude.{◌≡◌, ◌&&◌, ◌↔◌, ◌^◌, ◌
 ghost use Rattle.guard_integers.specs.Integers.{holds};
 ghost use Rattle.guard_model.specs.Limits.{fits_128_bits};
 ghost use Rattle.guard_model.specs.TypeView.{type_view, kind_view, component_view, components_of};
-ghost use Rattle.guard_policy.specs.Barren.{demand_has_number, have_no_number, demand_may_have_size, have_no_size, kind_has_no_value};
+ghost use Rattle.guard_policy.specs.Barren.{demand_has_number, have_no_number, demand_may_have_size};
+ghost use Rattle.guard_policy.specs.Barren.{have_no_size, kind_has_no_value};
 ghost use Rattle.guard_policy.specs.Barren.{some_has_no_value, is_barren};
 ghost use Rattle.guard_policy.specs.inside.Asked.{demands_view};
 ghost use Rattle.guard_tables.specs.inside.DemandViews.{demand_view};

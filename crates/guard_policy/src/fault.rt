@@ -9,8 +9,9 @@ use std::alloc::{AllocError, AllocFailed};
 use thiserror::Error;
 
 /// Why a text is no policy: its first fault; or memory ran out, whatever the answer would have been. Faults are looked
-/// for at the top, then in each message, in each rule, and in each message's table. In one entry an unknown key comes first,
-/// then a missing one, then a bad name, a name that another has, an effect, a message and a type that aren't there.
+/// for at the top, then in each message, in each rule, and in each message's table. In one entry an unknown key comes
+/// first, then a missing one, then a bad name, a name that another has, an effect, a message and a type that aren't
+/// there.
 #[derive(Debug, Drop, Error)]
 pub enum PolicyFault {
     /// It is no document of TOML.

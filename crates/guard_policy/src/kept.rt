@@ -20,8 +20,8 @@ use guard_model::{OutOfMemory, Ty};
 use guard_tables::Table;
 use std::alloc::{AllocError, Global};
 
-/// A message, with the name of its declared type's module, the table of this type and those of its rules, and how routes
-/// lead to these.
+/// A message, with the name of its declared type's module, the table of this type and those of its rules, and how
+/// routes lead to these.
 #[derive(Drop)]
 pub(crate) struct KeptMessage {
     pub name: String,

@@ -10,6 +10,7 @@
 //! | Which rules speak of a route? | `speaking.rt` | `specs/Decisions.antt` |
 //! | Which verdicts are there? | `verdict.rt` | `specs/Verdicts.antt` |
 //! | When does a message go? | `passing.rt` (`passes`) | `specs/Decisions.antt` |
+//! | What is told of one that stays? | `passing.rt` (`look_at`) | `specs/Told.antt` |
 //! | How does a route lead to its rules? | `routing.rt` | `specs/inside/Routing.antt` |
 //! | Which routes do rules give by names? | `leads.rt`, `route_octets.rt` | `specs/NamedRoutes.antt` |
 //! | Where is a route looked for first? | `last_route.rt`, `passing.rt` (`passes_as_last`) | `specs/NamedRoutes.antt` |
@@ -60,7 +61,9 @@ pub use entry::{Entry, Key};
 pub use fault::PolicyFault;
 pub use files::module_files;
 pub use guard_der::named_types::Types;
+pub use guard_reader::Marks;
 pub use last_route::LastRoute;
+pub use passing::Passing;
 pub use policy::{Effect, Policy, SaidRule};
 pub use route::{Route, is_anyone, is_name};
 pub use said::SaidMessage;

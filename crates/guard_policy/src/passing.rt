@@ -10,8 +10,31 @@ use super::last_route::LastRoute;
 use super::policy::Policy;
 use super::route::Route;
 use super::routing::{RouteRules, meets};
-use guard_reader::walk;
+use guard_reader::{Marks, walk};
 use guard_tables::Slots;
+
+/// Whether a message goes, and what the pass over its octets told of one that stays.
+#[derive(Clone, Copy)]
+pub enum Passing {
+    Goes,
+    /// Marks that are told are those of the value that its octets encode.
+    Stays(Option<Marks>),
+}
+
+impl Passing {
+    ghost use Rattle.std.specs.Prelude.{◌≡◌};
+    ghost use Rattle.guard_policy.specs.Told.{is_going};
+
+    /// Whether it goes.
+    pub fn goes(self) -> bool
+        ensures { result ≡ is_going self }
+    {
+        match self {
+            Passing::Goes => true,
+            Passing::Stays(_) => false,
+        }
+    }
+}
 
 impl Policy {
     ghost use Rattle.std.specs.Prelude.{◌≡◌, ◌↔◌, ◌++◌, ℕ, List, IsTrue, IfSome, None};
@@ -19,20 +42,26 @@ impl Policy {
     ghost use Rattle.guard_policy.specs.Policies.{AbstractRoute};
     ghost use Rattle.guard_policy.specs.Decisions.{Goes};
     ghost use Rattle.guard_policy.specs.NamedRoutes.{IsGiven};
+    ghost use Rattle.guard_policy.specs.Told.{Tells};
 
     /// Whether a message goes on its route: its octets are the encoding of a value of its declared type that some rule
     /// of the route allows and none denies. It takes no memory.
     pub fn passes(&self, route: &Route, octets: &[u8]) -> bool
         ensures { IsTrue result ↔ Goes (policy_view self.now) (route_view route.now) octets.now }
     {
+        self.look_at(route, octets).goes()
+    }
+
+    /// Whether a message goes on its route, and what `reason` need not find out again where it stays. It takes no
+    /// memory.
+    pub fn look_at(&self, route: &Route, octets: &[u8]) -> Passing
+        ensures { Tells (policy_view self.now) (route_view route.now) octets.now result }
+    {
         let Some((message, _)) = self.found(route.message) else {
-            return false;
+            return Passing::Stays(None);
         };
         let rules = message.routing.rules(route);
-        if rules.allow_nothing() {
-            return false;
-        }
-        goes_by(message, &rules, octets)
+        told_by_walk(message, &rules, octets)
     }
 
     /// Whether a message goes on the route that these octets are: three names, each after one octet with its length, as
@@ -47,50 +76,54 @@ impl Policy {
         ensures other { result ≡ None → (route : AbstractRoute) → IsGiven (policy_view self.now).rules names.now route
             → ⊥ }
     {
-        self.passes_and_found(names, octets, &mut LastRoute::none())
+        let told = self.passes_and_found(names, octets, &mut LastRoute::none())?;
+        Some(told.goes())
     }
 
-    /// What `passes_as_given` says; and `last` is where the route was found.
+    /// What `passes_as_given` says, and what `reason` need not find out again; and `last` is where the route was found.
     pub fn passes_and_found(
         &self,
         names: &[u8],
         octets: &[u8],
         last: &mut LastRoute,
-    ) -> Option<bool>
-        ensures given { IfSome result (λ goes. (route : AbstractRoute)
+    ) -> Option<Passing>
+        ensures given { IfSome result (λ told. (route : AbstractRoute)
             × IsGiven (policy_view self.now).rules names.now route
-            × (IsTrue goes ↔ Goes (policy_view self.now) route octets.now)) }
+            × Tells (policy_view self.now) route octets.now told) }
         ensures other { result ≡ None → (route : AbstractRoute) → IsGiven (policy_view self.now).rules names.now route
             → ⊥ }
     {
         let (place, lead) = self.kept.leads.find(names)?;
         last.place = place;
         let message = self.kept.messages.get(lead.place)?;
-        Some(goes_by(message, &lead.rules, octets))
+        Some(told_by_walk(message, &lead.rules, octets))
     }
 
-    /// Whether the message of a frame goes, where the frame's body begins with the names of the route that was found
-    /// last; none says nothing of it. It takes no memory and looks nothing up.
-    pub fn passes_as_last(&self, last: LastRoute, body: &[u8]) -> Option<bool>
-        ensures { IfSome result (λ goes. (route : AbstractRoute) × (names : List ℕ) × (message : List ℕ)
+    /// What `passes_and_found` says of the message of a frame, where the frame's body begins with the names of the
+    /// route that was found last; none says nothing of it. It takes no memory and looks nothing up.
+    pub fn passes_as_last(&self, last: LastRoute, body: &[u8]) -> Option<Passing>
+        ensures { IfSome result (λ told. (route : AbstractRoute) × (names : List ℕ) × (message : List ℕ)
             × (body.now ≡ names ++ message) × IsGiven (policy_view self.now).rules names route
-            × (IsTrue goes ↔ Goes (policy_view self.now) route message)) }
+            × Tells (policy_view self.now) route message told) }
     {
         let (lead, octets) = self.kept.leads.find_at(last.place, body)?;
         let message = self.kept.messages.get(lead.place)?;
-        Some(goes_by(message, &lead.rules, octets))
+        Some(told_by_walk(message, &lead.rules, octets))
     }
 }
 
 /// Whether the octets are the encoding of a value of the message's declared type that some of these rules allows and
-/// none denies.
-fn goes_by(message: &KeptMessage, rules: &RouteRules, octets: &[u8]) -> bool
+/// none denies; and the marks, where they are the encoding of another one.
+fn told_by_walk(message: &KeptMessage, rules: &RouteRules, octets: &[u8]) -> Passing
     ensures { IsAnswer message.now.table rules.now octets.now result }
 {
-    match walk(&message.table, octets) {
-        Some(marks) => marks.of_type() && lets_go(rules, &marks.members),
-        None => false,
+    let Some(marks) = walk(&message.table, octets) else {
+        return Passing::Stays(None);
+    };
+    if marks.of_type() && lets_go(rules, &marks.members) {
+        return Passing::Goes;
     }
+    Passing::Stays(Some(marks))
 }
 
 /// Whether some allowing rule and no denying one is among those that have the value.

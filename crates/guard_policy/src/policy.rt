@@ -11,6 +11,7 @@ ghost use Rattle.guard_policy.specs.inside.KeptRules.{messages_kept, rules_kept}
 use super::fault::PolicyFault;
 use super::kept::{Kept, KeptMessage, keep_rules};
 use super::leads::Leads;
+use super::passing::Passing;
 use super::route::Route;
 use super::said::SaidMessage;
 use super::tables::keep_messages;
@@ -54,7 +55,8 @@ impl Policy {
     ghost use Rattle.std.specs.Prelude.{slice_get};
     ghost use Rattle.guard_policy.specs.PolicyView.{policy_view};
     ghost use Rattle.guard_policy.specs.SaidView.{said_message_view, said_view};
-    ghost use Rattle.guard_policy.specs.Policies.{declared_message, declared_type, message_name_of, rule_name_of, module_name};
+    ghost use Rattle.guard_policy.specs.Policies.{declared_message, declared_type, message_name_of};
+    ghost use Rattle.guard_policy.specs.Policies.{rule_name_of, module_name};
     ghost use Rattle.guard_policy.specs.inside.Listings.{numbers_for};
     ghost use Rattle.guard_policy.specs.inside.Keeping.{AreDeclared, IsFirst};
     ghost use Rattle.guard_tables.specs.TableView.{declared_of};
@@ -195,7 +197,10 @@ impl Policy {
         ensures passes { IfOk result (λ w. (verdict_view w ≡ pass)
             ↔ Goes (policy_view self.now) (route_view route.now) octets.now) }
     {
-        self.reason(alloc, route, octets)
+        match self.look_at(route, octets) {
+            Passing::Goes => Ok(Verdict::Pass),
+            Passing::Stays(marks) => self.reason(alloc, route, octets, marks),
+        }
     }
 }
 

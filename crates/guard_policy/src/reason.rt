@@ -1,38 +1,41 @@
-//! The reason why a message stays. That a denying rule has its value, or that no rule may allow one, the walk over its
-//! octets tells; else a value is made of them, since a breach or violations have to be named.
+//! The reason why a message stays. That a denying rule has its value, or that no rule may allow one, the marks tell
+//! that the walk over its octets found; else a value is made of them, since a breach or violations have to be named.
 ghost use Rattle.std.specs.Prelude.{◌≡◌, IfSome, Some};
 ghost use Rattle.guard_policy.specs.Verdicts.{verdict_view};
 ghost use Rattle.guard_policy.specs.inside.Passing.{IsMarked, IsToldBy, first_in};
 
 use super::decision::judge;
-use super::kept::KeptMessage;
 use super::policy::Policy;
 use super::route::Route;
 use super::routing::{RouteRules, common};
 use super::verdict::Verdict;
 use guard_der::{DecodeFault, decode};
 use guard_model::{OutOfMemory, Ty};
-use guard_reader::walk;
+use guard_reader::Marks;
 use guard_tables::Slots;
 use std::alloc::Global;
 
 impl Policy {
-    ghost use Rattle.std.specs.Prelude.{◌≡◌, ℕ, List, Some, IfOk, option_map};
+    ghost use Rattle.std.specs.Prelude.{◌≡◌, ℕ, List, Some, IfOk, IfSome, option_map};
     ghost use Rattle.guard_model.specs.AbstractType.{AbstractType};
     ghost use Rattle.guard_model.specs.TypeView.{type_view};
     ghost use Rattle.guard_policy.specs.PolicyView.{policy_view, route_view};
     ghost use Rattle.guard_policy.specs.Policies.{declared_type};
     ghost use Rattle.guard_policy.specs.Verdicts.{verdict_view};
     ghost use Rattle.guard_policy.specs.Decisions.{IsReason};
+    ghost use Rattle.guard_policy.specs.Told.{AreMarksOf};
     ghost use Rattle.guard_policy.specs.inside.Listings.{numbers_for};
 
-    /// What becomes of a message on its route.
-    pub(crate) fn reason(
+    /// What becomes of a message on its route, where these are its marks. It walks over no octets: without marks all is
+    /// found by the value that they encode.
+    pub fn reason(
         &self,
         alloc: Global,
         route: &Route,
         octets: &[u8],
+        marks: Option<Marks>,
     ) -> Result<Verdict, OutOfMemory>
+        requires { IfSome marks (AreMarksOf (policy_view self.now) (route_view route.now).message octets.now) }
         ensures { IfOk result (λ w. IsReason (policy_view self.now) (route_view route.now) octets.now
             (verdict_view w)) }
     {
@@ -40,7 +43,7 @@ impl Policy {
             return Ok(Verdict::UnknownMessage);
         };
         let rules = message.routing.rules(route);
-        if let Some(verdict) = reason_by_marks(message, &rules, numbers, octets) {
+        if let Some(verdict) = reason_by_marks(&rules, numbers, marks) {
             return Ok(verdict);
         }
         self.reason_by_value(alloc, route, message.table.declared(), numbers, octets)
@@ -69,23 +72,17 @@ impl Policy {
     }
 }
 
-/// The verdict, where marks tell it. There is no walk where the route's rules deny nothing and may allow something.
-fn reason_by_marks(
-    message: &KeptMessage,
-    rules: &RouteRules,
-    numbers: &[usize],
-    octets: &[u8],
-) -> Option<Verdict>
-    ensures { IfSome result (λ w. IsMarked message.now.table rules.now numbers.now octets.now (verdict_view w)) }
+/// The verdict, where there are marks and they tell it.
+fn reason_by_marks(rules: &RouteRules, numbers: &[usize], marks: Option<Marks>) -> Option<Verdict>
+    ensures { IfSome result (λ w. IsMarked rules.now numbers.now marks (verdict_view w)) }
 {
-    if rules.denying == Slots::none() && !rules.allow_nothing() {
+    let Some(found) = marks else {
+        return None;
+    };
+    if !found.of_type() {
         return None;
     }
-    let marks = walk(&message.table, octets)?;
-    if !marks.of_type() {
-        return None;
-    }
-    told_by(rules, numbers, &marks.members)
+    told_by(rules, numbers, &found.members)
 }
 
 /// The verdict on a value that the declared type has and the types in these slots, where they tell it.

@@ -33,8 +33,8 @@ pub fn line(
     Ok(line)
 }
 
-/// Appends the line, so that one buffer can serve for many lines. It fails only where memory runs out; a part of the line
-/// may have come to the buffer then.
+/// Appends the line, so that one buffer can serve for many lines. It fails only where memory runs out; a part of the
+/// line may have come to the buffer then.
 pub fn add_line(
     line: &mut Vec<u8>,
     number: u64,
@@ -43,7 +43,8 @@ pub fn add_line(
     policy: &Policy,
 ) -> Result<(), OutOfMemory>
     ensures { OnOk result (line.new.items
-        ≡ line.old.items ++ line_octets (policy_view policy.now) (route_view route.now) number (verdict_view verdict.now)) }
+        ≡ line.old.items
+        ++ line_octets (policy_view policy.now) (route_view route.now) number (verdict_view verdict.now)) }
 {
     add_number(line, number)?;
     add(line, b" ")?;

@@ -1,5 +1,5 @@
 -- Whether a message's octets go under the rules of a route.
-use Rattle.std.specs.Prelude.{◌≡◌, ◌≢◌, ◌⊎◌, ◌↔◌, ℕ, suc, Bool, false, List, [], ◌∷◌, Option, Some, None, IsTrue, if◌then◌else◌}
+use Rattle.std.specs.Prelude.{◌≡◌, ◌≢◌, ◌⊎◌, ℕ, suc, List, [], ◌∷◌, Option, Some, None, IsTrue, if◌then◌else◌}
 use Rattle.guard_model.specs.AbstractValue.{AbstractValue}
 use Rattle.guard_der.specs.Der.{der}
 use Rattle.guard_der.specs.Fits.{fits}
@@ -9,6 +9,8 @@ use Rattle.guard_tables.specs.declared.slots.Slots.{Slots}
 use Rattle.guard_tables.specs.declared.table.Table.{Table}
 use Rattle.guard_tables.specs.Slots.{none, has}
 use Rattle.guard_tables.specs.TableView.{declared_of, table_types}
+use Rattle.guard_policy.specs.declared.passing.Passing.{Passing}
+use Rattle.guard_policy.specs.declared.passing.Passing.TheVariants as passing
 use Rattle.guard_policy.specs.declared.routing.RouteRules.{RouteRules}
 use Rattle.guard_policy.specs.Verdicts.{AbstractVerdict, denied_by, no_rule}
 use Rattle.guard_policy.specs.inside.Routing.{common}
@@ -29,11 +31,12 @@ abbrev pub EncodeNothing : Table → List ℕ → Type 0
 EncodeNothing table octets =
     (v : AbstractValue) → IsTrue (fits (declared_of table) v) → der (declared_of table) v ≡ Some octets → ⊥
 
--- the answer whether the octets go under these rules
-abbrev pub IsAnswer : Table → RouteRules → List ℕ → Bool → Type 0
-IsAnswer table rules octets answer =
-    ((marks : Marks) × AreMarks table octets marks × (IsTrue answer ↔ LetsGo rules marks.members))
-    ⊎ (EncodeNothing table octets × (answer ≡ false))
+-- what is told of the octets under these rules
+abbrev pub IsAnswer : Table → RouteRules → List ℕ → Passing → Type 0
+IsAnswer table rules octets passing.Goes = (marks : Marks) × AreMarks table octets marks × LetsGo rules marks.members
+IsAnswer table rules octets (passing.Stays (Some marks)) =
+    AreMarks table octets marks × (LetsGo rules marks.members → ⊥)
+IsAnswer table rules octets (passing.Stays None) = EncodeNothing table octets
 
 -- of the rules of these numbers, the first of which has this slot, the first whose slot is in the set
 abbrev pub first_in : Slots → ℕ → List ℕ → Option ℕ
@@ -47,8 +50,7 @@ IsToldBy rules numbers members w =
     ((i : ℕ) × (first_in (common rules.denying members) 1 numbers ≡ Some i) × (w ≡ denied_by i))
     ⊎ ((common rules.denying members ≡ none) × (rules.allowing ≡ none) × (w ≡ no_rule))
 
--- the verdict on the octets, as their marks tell it
-abbrev pub IsMarked : Table → RouteRules → List ℕ → List ℕ → AbstractVerdict → Type 0
-IsMarked table rules numbers octets w =
-    (marks : Marks) × AreMarks table octets marks × IsTrue (has marks.members 0)
-    × IsToldBy rules numbers marks.members w
+-- the verdict, as marks tell it
+abbrev pub IsMarked : RouteRules → List ℕ → Option Marks → AbstractVerdict → Type 0
+IsMarked rules numbers told w =
+    (marks : Marks) × (told ≡ Some marks) × IsTrue (has marks.members 0) × IsToldBy rules numbers marks.members w

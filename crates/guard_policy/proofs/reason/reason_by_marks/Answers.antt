@@ -8,5 +8,5 @@ pub returns : goal.returns
 returns c =
     let rules = c.args.rules.now in
     let numbers = c.args.numbers.now in
-    if_some_map (λ w. IsToldBy rules numbers c.in_ok-marks.marks.members (verdict_view w)) (λ w. IsMarked c.args.message.now.table rules numbers c.args.octets.now (verdict_view w)) c.told_by.result
-    (λ w told. (c.in_ok-marks.marks, c.in_ok-marks.ensures.marks, sym c.of_type.ensures ∙ c.if-not-of_type.false, told)) c.told_by.ensures
+    if_some_map (λ w. IsToldBy rules numbers c.in-Some.found.members (verdict_view w)) (λ w. IsMarked rules numbers c.args.marks (verdict_view w)) c.told_by.result
+    (λ w told. (c.in-Some.found, c.in-Some.is, sym c.of_type.ensures ∙ c.if-not-of_type.false, told)) c.told_by.ensures

@@ -1,8 +1,8 @@
 use Rattle.guard_policy.specs.PolicyView.{policy_view}
-use Rattle.guard_frames.proofs.BodyDecisions.{goes_as_given}
+use Rattle.guard_frames.proofs.BodyDecisions.{decided_as_given}
 use Rattle.guard_frames.proofs.policies.PolicyDecide.goes.Goals as goal
 
 pub returns-in-Some : goal.returns-in-Some
 returns-in-Some c =
-    let told = c.in-Some.ensures in
-    goes_as_given (policy_view c.args.self.now) c.args.octets.now told.1 told.2 c.in-Some.goes told.3 (told.0, told.4, told.5)
+    let found = c.in-Some.ensures in
+    decided_as_given (policy_view c.args.self.now) c.args.octets.now found.1 found.2 c.in-Some.told found.3 (found.0, found.4, found.5)

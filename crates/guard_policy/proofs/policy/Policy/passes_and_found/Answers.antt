@@ -1,5 +1,5 @@
 use Rattle.std.proofs.Common.{Some, None, sym}
-use Rattle.guard_policy.proofs.AsGiven.{leads_on, message_there, given_goes}
+use Rattle.guard_policy.proofs.AsGiven.{leads_on, message_there, given_tells}
 use Rattle.guard_policy.proofs.Listed.{item_there}
 use Rattle.guard_policy.proofs.policy.Policy.passes_and_found.Goals as goal
 
@@ -17,5 +17,5 @@ returns-clause-given c =
     let messages = c.args.self.now.kept.messages.items in
     let lead = c.in_ok-place.lead.now in
     let at = rw c.deref.ensures.value at c.in_ok-message.ensures.lookup in
-    given_goes c.args.self.now c.args.names.now lead (sym c.in_ok-place.ensures) c.in_ok-message.message.now
-    (sym (item_there messages lead.place (Some c.in_ok-message.message) at)) c.args.octets.now c.goes_by.result c.goes_by.ensures
+    given_tells c.args.self.now c.args.names.now lead (sym c.in_ok-place.ensures) c.in_ok-message.message.now
+    (sym (item_there messages lead.place (Some c.in_ok-message.message) at)) c.args.octets.now c.told_by_walk.result c.told_by_walk.ensures

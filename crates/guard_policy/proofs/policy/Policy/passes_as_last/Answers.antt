@@ -1,5 +1,5 @@
 use Rattle.std.proofs.Common.{Some, sym}
-use Rattle.guard_policy.proofs.AsGiven.{given_goes}
+use Rattle.guard_policy.proofs.AsGiven.{given_tells}
 use Rattle.guard_policy.proofs.Listed.{item_there}
 use Rattle.guard_policy.proofs.policy.Policy.passes_as_last.Goals as goal
 
@@ -9,6 +9,6 @@ returns c =
     let lead = c.in_ok-lead.lead.now in
     let found = c.in_ok-lead.ensures in
     let at = rw c.deref.ensures.value at c.in_ok-message.ensures.lookup in
-    let goes = given_goes c.args.self.now found.0 lead found.2 c.in_ok-message.message.now
-    (sym (item_there messages lead.place (Some c.in_ok-message.message) at)) c.in_ok-lead.octets.now c.goes_by.result c.goes_by.ensures in
-    (goes.0, found.0, c.in_ok-lead.octets.now, found.1, goes.1, goes.2)
+    let told = given_tells c.args.self.now found.0 lead found.2 c.in_ok-message.message.now
+    (sym (item_there messages lead.place (Some c.in_ok-message.message) at)) c.in_ok-lead.octets.now c.told_by_walk.result c.told_by_walk.ensures in
+    (told.0, found.0, c.in_ok-lead.octets.now, found.1, told.1, told.2)

@@ -7,7 +7,7 @@ use Rattle.guard_policy.proofs.policy.Policy.reason.Goals as goal
 pub returns-in-Some-reason_by_marks : goal.returns-in-Some-reason_by_marks
 returns-in-Some-reason_by_marks c =
     told_by_marks c.args.self.now (route_view c.args.route.now) c.args.octets.now c.in-Some.numbers.now c.in-Some.message.now c.in-Some.ensures.listed c.in-Some.ensures.first
-    c.rules-rules.result (verdict_view c.in-Some-reason_by_marks.verdict) c.rules-rules.ensures c.in-Some-reason_by_marks.ensures
+    c.rules-rules.result (verdict_view c.in-Some-reason_by_marks.verdict) c.args.marks c.rules-rules.ensures c.requires c.in-Some-reason_by_marks.ensures
 
 pub reason_by_value-requires : goal.reason_by_value-requires
 reason_by_value-requires c = rw c.declared.ensures.declared (sym c.in-Some.ensures.listed)

@@ -1,21 +1,39 @@
-use Rattle.std.proofs.Common.{◌≡◌, ◌↔◌}
+use Rattle.std.proofs.Common.{◌≡◌, ◌↔◌, refl}
 use Rattle.guard_policy.specs.PolicyView.{policy_view, route_view}
 use Rattle.guard_policy.specs.Verdicts.{verdict_view, pass}
 use Rattle.guard_policy.specs.Decisions.{IsReason, Goes}
+use Rattle.guard_policy.proofs.Goes.{passes_from_goes}
 use Rattle.guard_policy.proofs.Reasons.{if_ok_map}
 use Rattle.guard_policy.proofs.OneReason.{one_reason, passes_exactly}
 use Rattle.guard_policy.proofs.policy.Policy.verdict.Goals as goal
 
-pub returns-clause-only : goal.returns-clause-only
-returns-clause-only c = λ w other.
+pub returns-in-Goes-clause-reason : goal.returns-in-Goes-clause-reason
+returns-in-Goes-clause-reason c =
+    passes_from_goes (policy_view c.args.self.now) (route_view c.args.route.now) c.args.octets.now c.in-Goes.ensures
+
+pub returns-in-Goes-clause-only : goal.returns-in-Goes-clause-only
+returns-in-Goes-clause-only c = λ w other.
+    let p = policy_view c.args.self.now in
+    let route = route_view c.args.route.now in
+    let octets = c.args.octets.now in
+    one_reason p route octets pass w c.args.self.now.kept.consistent (passes_from_goes p route octets c.in-Goes.ensures) other
+
+pub returns-in-Goes-clause-passes : goal.returns-in-Goes-clause-passes
+returns-in-Goes-clause-passes c = (λ is. c.in-Goes.ensures, λ goes. refl)
+
+pub reason-requires : goal.reason-requires
+reason-requires c = c.in-Stays.ensures.1
+
+pub returns-in-Stays-clause-only : goal.returns-in-Stays-clause-only
+returns-in-Stays-clause-only c = λ w other.
     let p = policy_view c.args.self.now in
     let route = route_view c.args.route.now in
     let octets = c.args.octets.now in
     if_ok_map (λ x. IsReason p route octets (verdict_view x)) (λ x. verdict_view x ≡ w) c.reason.result
     (λ x reason. one_reason p route octets (verdict_view x) w c.args.self.now.kept.consistent reason other) c.reason.ensures
 
-pub returns-clause-passes : goal.returns-clause-passes
-returns-clause-passes c =
+pub returns-in-Stays-clause-passes : goal.returns-in-Stays-clause-passes
+returns-in-Stays-clause-passes c =
     let p = policy_view c.args.self.now in
     let route = route_view c.args.route.now in
     let octets = c.args.octets.now in

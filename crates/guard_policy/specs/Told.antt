@@ -1,0 +1,33 @@
+-- What a look at a message tells: whether it goes, and of one that stays the marks, where they were found.
+use Rattle.std.specs.Prelude.{◌≡◌, ℕ, Bool, true, false, List, ◌∷◌, Some, IsTrue, IfSome}
+use Rattle.guard_model.specs.AbstractType.{AbstractType}
+use Rattle.guard_model.specs.AbstractValue.{AbstractValue}
+use Rattle.guard_der.specs.Der.{der}
+use Rattle.guard_der.specs.Fits.{fits}
+use Rattle.guard_reader.specs.declared.marks.Marks.{Marks}
+use Rattle.guard_reader.specs.Marking.{HasMarks}
+use Rattle.guard_policy.specs.declared.passing.Passing.{Passing}
+use Rattle.guard_policy.specs.declared.passing.Passing.TheVariants as passing
+use Rattle.guard_policy.specs.Consistency.{types_for}
+use Rattle.guard_policy.specs.Decisions.{Goes}
+use Rattle.guard_policy.specs.Policies.{AbstractPolicy, AbstractRoute, declared_type}
+
+-- The octets are the encoding of a value of the message's declared type. The marks are those of this type and of the
+-- types of the message's rules, in file order.
+pub record AreMarksOf (p : AbstractPolicy) (message octets : List ℕ) (marks : Marks) : Type 0 where
+  pub ty : AbstractType
+  pub value : AbstractValue
+  pub declared : declared_type p message ≡ Some ty
+  pub fitting : IsTrue (fits ty value)
+  pub encoded : der ty value ≡ Some octets
+  pub marked : HasMarks marks (ty ∷ types_for message p.rules) value
+
+abbrev pub is_going : Passing → Bool
+is_going passing.Goes = true
+is_going (passing.Stays marks) = false
+
+-- the message goes, or it doesn't, and marks that are told are those of its octets
+abbrev pub Tells : AbstractPolicy → AbstractRoute → List ℕ → Passing → Type 0
+Tells p route octets passing.Goes = Goes p route octets
+Tells p route octets (passing.Stays marks) =
+    (Goes p route octets → ⊥) × IfSome marks (AreMarksOf p route.message octets)

@@ -84,10 +84,35 @@ name_note (name.Recursive site) =
 name_note name.TooManyModules = noted ThePolicy (codes "The policy lists more than 64 modules. List fewer.")
 name_note name.OutOfMemory = None
 
--- a fault of tags and parts, G1 to G12
+-- a fault of parts and their numbers, G7 to G12
+abbrev pub part_note : TagFault → Option AbstractNote
+part_note (tag.DuplicateName site) =
+    noted (At site) (codes "Two components or alternatives have this name. Rename one of them.")
+part_note (tag.DuplicateNumber site) =
+    noted (At site) (codes "Two items have this name or its number. Change one of them.")
+part_note (tag.TooManyComponents site) =
+    noted (At site)
+    (codes "The type has more than 64 components or alternatives. Group some, if messages may change.")
+part_note (tag.TooDeep site) =
+    noted (At site) (codes "More than 32 types are nested here. Make the nesting flatter, if messages may change.")
+part_note (tag.SchemaTooLarge site) =
+    noted (At site) (codes "With this one there are more than 100,000 types. Leave out what no message needs.")
+part_note (tag.NumberTooLarge site) =
+    noted (At site)
+    (codes "The number is outside 128 bits, or of a named bit above 65,535. Leave its name out, if messages are given.")
+part_note (tag.UniversalTag site) = None
+part_note (tag.ImplicitChoice site) = None
+part_note (tag.TagTooLarge site) = None
+part_note (tag.ComponentsOfKind site) = None
+part_note (tag.ComponentsOfAutomatic site) = None
+part_note (tag.ComponentsOfTagged site) = None
+part_note tag.OutOfMemory = None
+
+-- a fault of tags and of COMPONENTS OF, G1 to G6; the others are of parts
 abbrev pub tag_note : TagFault → Option AbstractNote
 tag_note (tag.UniversalTag site) =
-    noted (At site) (codes "A tag of the class UNIVERSAL can not be written. Leave it out, or choose another class.")
+    noted (At site)
+    (codes "A tag of class UNIVERSAL can not be written. Leave it out under an implicit tag; docs/POLICY.md has times.")
 tag_note (tag.ImplicitChoice site) =
     noted (At site) (codes "IMPLICIT can not be written on a CHOICE without a tag. Write EXPLICIT.")
 tag_note (tag.TagTooLarge site) =
@@ -98,20 +123,7 @@ tag_note (tag.ComponentsOfAutomatic site) =
     noted (At site) (codes "COMPONENTS OF is not read together with automatic tags. Write the components out.")
 tag_note (tag.ComponentsOfTagged site) =
     noted (At site) (codes "COMPONENTS OF is not read of a type with a tag of its own. Name the type without it.")
-tag_note (tag.DuplicateName site) =
-    noted (At site) (codes "Two components or alternatives have this name. Rename one of them.")
-tag_note (tag.DuplicateNumber site) =
-    noted (At site) (codes "Two items have this name or its number. Change one of them.")
-tag_note (tag.TooManyComponents site) =
-    noted (At site)
-    (codes "The type has more than 64 components or alternatives. Group some, if messages may change.")
-tag_note (tag.TooDeep site) =
-    noted (At site) (codes "More than 32 types are nested here. Make the nesting flatter, if messages may change.")
-tag_note (tag.SchemaTooLarge site) =
-    noted (At site) (codes "With this one there are more than 100,000 types. Leave out what no message needs.")
-tag_note (tag.NumberTooLarge site) =
-    noted (At site) (codes "The number is outside 128 bits, or of a named bit above 65,535. Choose a smaller one.")
-tag_note tag.OutOfMemory = None
+tag_note fault = part_note fault
 
 -- a fault of a written value, V1 to V8
 abbrev pub value_note : ValueFault → Option AbstractNote
@@ -127,7 +139,7 @@ value_note (value.RepeatedComponent site) =
 value_note (value.OutOfOrder site) =
     noted (At site) (codes "The components of a SEQUENCE come in the order of its type. Move this one forward.")
 value_note (value.BadCharacter site) =
-    noted (At site) (codes "The string has a character that its type does not have. Remove it, or choose another type.")
+    noted (At site) (codes "The string has a character that no value of its type has. Remove or mend it.")
 value_note (value.BadObjectId site) =
     noted (At site) (codes "No object identifier begins so. Write two arcs at least, the first of them 0, 1 or 2.")
 value_note (value.TooLarge site) =
@@ -144,7 +156,8 @@ constraint_note (constraint.ExclusiveLimit site) =
 constraint_note (constraint.AlphabetForm site) =
     noted (At site) (codes "FROM takes strings and ranges between two characters, with | between them. Write it so.")
 constraint_note (constraint.PresenceWord site) =
-    noted (At site) (codes "Only a component that is OPTIONAL takes such a word. Remove the word, or change the type.")
+    noted (At site)
+    (codes "Only a component that is OPTIONAL takes such a word. Remove it, or ask for the value of the component.")
 constraint_note (constraint.UnknownComponent site) =
     noted (At site) (codes "The type has no component or alternative of this name. Mend the name.")
 constraint_note (constraint.RepeatedComponent site) =
@@ -156,7 +169,8 @@ constraint_note (constraint.ContainedMismatch site) =
     (codes "The type that is named here has another base than the constrained one. Name one of the same base.")
 constraint_note (constraint.Value fault) = value_note fault
 constraint_note (constraint.SizeOnNamedBits site) =
-    noted (At site) (codes "SIZE is not read on a BIT STRING with named bits: trailing zeros count for nothing. List the values.")
+    noted (At site)
+    (codes "SIZE is not read on a BIT STRING with named bits: trailing zeros count for nothing. List the values.")
 constraint_note constraint.OutOfMemory = None
 
 -- a fault of modules; S1 to S3 are those of the schema as a whole
@@ -184,7 +198,7 @@ table_note (table.RuleTypeMismatch rule) =
     (codes "The type of a rule has other tags or another base than its message. Derive it by constraints.")
 table_note table.TooManyConditions =
     noted ThePolicy
-    (codes "The types of the message and its rules ask more than 256 things of one part. Split the message.")
+    (codes "The message and its rules ask more than 256 things of one part. Write ranges for values, or fewer rules.")
 table_note table.TooManyRules =
     noted ThePolicy (codes "The message has more than 255 rules. Join some of them by unions of types.")
 table_note table.OutOfMemory = None
@@ -199,7 +213,7 @@ policy_note (policy.MissingKey entry key) =
     noted ThePolicy (codes "The entry lacks this key, or something of another kind is there. Add or mend it.")
 policy_note (policy.BadName entry) =
     noted ThePolicy
-    (codes "A name has 1 to 63 letters, digits, hyphens, low lines and full stops. Mend that of the entry.")
+    (codes "A name has 1 to 63 letters, digits, hyphens, low lines and full stops. Mend the one above.")
 policy_note (policy.DuplicateName entry) =
     noted ThePolicy (codes "An entry before this one has its name. Rename one of the two.")
 policy_note (policy.NoSuchType entry) =

@@ -1,6 +1,6 @@
 -- What more is said of a policy's fault: the entry that has it, the line on which that begins, and the keys that are
 -- meant, with what is there. Where the text is no document, what `toml` says of it.
-use Rattle.std.specs.Prelude.{◌≡◌, ◌⊎◌, ◌<◌, ◌≤◌, ◌^◌, ◌+◌, ◌-◌, ◌&&◌, ℕ, Bool, true, false, not, nat_eq, bytes_eq, List, [], ◌∷◌, ◌++◌, length, take, codes, decimal, string_bytes, slice_get, Option, Some, None, option_and_then, if◌then◌else◌}
+use Rattle.std.specs.Prelude.{◌≡◌, ◌⊎◌, ◌<◌, ◌≤◌, ◌^◌, ◌+◌, ◌-◌, ◌&&◌, ℕ, Bool, true, false, not, nat_eq, bytes_eq, List, [], ◌∷◌, ◌++◌, length, take, codes, decimal, string_bytes, slice_get, Option, Some, None, option_and_then, unwrap_or, if◌then◌else◌}
 use Rattle.std.specs.List.{starts_with}
 use Rattle.std.specs.Option.{is_some, option_map_or}
 use Rattle.toml.specs.Data.{Data, Items, no_items, item, Members, at, get, get_member, as_str, as_array}
@@ -15,6 +15,7 @@ use Rattle.guard_policy.specs.declared.entry.Key.TheVariants as key
 use Rattle.guard_policy.specs.declared.fault.PolicyFault.{PolicyFault}
 use Rattle.guard_policy.specs.declared.fault.PolicyFault.TheVariants as policy
 use Rattle.guard_policy.specs.Documents.{key_text, IsDocument, IsNoDocument}
+use Rattle.guard_policy.specs.Names.{is_name, is_party}
 use Rattle.guard_notes.specs.Marking.{line_at, marked_line, columns}
 use Rattle.guard_notes.specs.Lines.{lines_of}
 
@@ -38,6 +39,10 @@ value_at key entry = option_and_then (get (key_text key)) entry
 
 abbrev pub word_at : Key → Option Data → Option (List ℕ)
 word_at key entry = option_and_then as_str (value_at key entry)
+
+-- the text there, or an empty one
+abbrev pub text_at : Key → Option Data → List ℕ
+text_at key entry = unwrap_or (word_at key entry) []
 
 -- ---- lines on which entries begin
 
@@ -110,11 +115,24 @@ lines_at text top (place.Rule number) keys = entry_lines text top key.Rule numbe
 
 -- ---- faults
 
--- the keys, besides its own name, at which an entry has names
-abbrev pub name_keys : Entry → List Key
-name_keys place.Top = []
-name_keys (place.Message number) = []
-name_keys (place.Rule number) = key.From ∷ key.To ∷ key.Message ∷ []
+-- the key at which a rule has its bad name, of several the first; none for its own name, which is shown anyway
+abbrev pub bad_key : Option Data → Option Key
+bad_key rule =
+    if not (is_name (text_at key.Name rule)) then None
+    else if not (is_party (text_at key.From rule)) then Some key.From
+    else if not (is_party (text_at key.To rule)) then Some key.To
+    else Some key.Message
+
+-- a rule, and the key of its bad name
+abbrev pub bad_rule_lines : List ℕ → Members → ℕ → Option Key → List ℕ
+bad_rule_lines text top number None = entry_lines text top key.Rule number []
+bad_rule_lines text top number (Some bad) = entry_lines text top key.Rule number (bad ∷ [])
+
+-- the entry that has a bad name; a message has no other than its own
+abbrev pub bad_name_lines : List ℕ → Members → Entry → List ℕ
+bad_name_lines text top place.Top = []
+bad_name_lines text top (place.Message number) = entry_lines text top key.Message number []
+bad_name_lines text top (place.Rule number) = bad_rule_lines text top number (bad_key (entry_of key.Rule number top))
 
 -- the rule is one of this message
 abbrev pub is_of : Option (List ℕ) → Data → Bool
@@ -154,7 +172,7 @@ abbrev pub fault_lines : List ℕ → Members → PolicyFault → List ℕ
 fault_lines text top policy.Toml = []
 fault_lines text top (policy.UnknownKey entry key) = unknown_key_lines text top entry (string_bytes key)
 fault_lines text top (policy.MissingKey entry key) = lines_at text top entry (key ∷ [])
-fault_lines text top (policy.BadName entry) = lines_at text top entry (name_keys entry)
+fault_lines text top (policy.BadName entry) = bad_name_lines text top entry
 fault_lines text top (policy.DuplicateName entry) = lines_at text top entry []
 fault_lines text top (policy.NoSuchType entry) = lines_at text top entry (key.Module ∷ key.TypeName ∷ [])
 fault_lines text top (policy.NoSuchMessage entry) = lines_at text top entry (key.Message ∷ [])

@@ -1,6 +1,7 @@
 //! What comes after the line of a fault of modules or of a policy.
 ghost use Rattle.std.specs.Prelude.{◌≡◌, option_map, string_bytes, IfOk};
-ghost use Rattle.guard_notes.specs.Explaining.{lex_lines, note_lines, IsSaidOfName, IsSaidOfSyntax, IsSaidOfModules, IsSchemaNote, IsPolicyNote};
+ghost use Rattle.guard_notes.specs.Explaining.{lex_lines, note_lines, IsSaidOfName, IsSaidOfSyntax};
+ghost use Rattle.guard_notes.specs.Explaining.{IsSaidOfModules, IsSchemaNote, IsPolicyNote};
 ghost use Rattle.guard_notes.specs.Notes.{note_view};
 ghost use Rattle.guard_notes.specs.Sources.{sources_view};
 

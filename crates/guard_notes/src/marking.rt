@@ -1,5 +1,6 @@
 //! A line of a text, with a mark under one of its columns.
-ghost use Rattle.std.specs.Prelude.{◌≡◌, ◌≤◌, ◌<◌, ◌-◌, ℕ, suc, length, map, take, drop, replicate, slice_get, unwrap_or, string_bytes, [], IfOk, nat_lt};
+ghost use Rattle.std.specs.Prelude.{◌≡◌, ◌≤◌, ◌<◌, ◌-◌, ℕ, suc, length, map, take, drop, replicate};
+ghost use Rattle.std.specs.Prelude.{slice_get, unwrap_or, string_bytes, [], IfOk, nat_lt};
 ghost use Rattle.guard_notes.specs.Marking.{line_at, shown, dots, left_out, place_of, marked_at, marked_line, columns};
 ghost use Rattle.guard_notes.specs.Lines.{lines_of};
 

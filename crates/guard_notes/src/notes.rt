@@ -1,6 +1,7 @@
 //! What is said of a fault where it is to be explained.
 ghost use Rattle.std.specs.Prelude.{◌≡◌, option_map};
-ghost use Rattle.guard_notes.specs.Notes.{note_view, noted, lex_note, syntax_note, name_note, tag_note, value_note, constraint_note, schema_note, table_note, policy_note};
+ghost use Rattle.guard_notes.specs.Notes.{note_view, noted, lex_note, syntax_note, name_note, tag_note, part_note};
+ghost use Rattle.guard_notes.specs.Notes.{value_note, constraint_note, schema_note, table_note, policy_note};
 
 use guard_constraints::ConsFault;
 use guard_lexer::LexFault;
@@ -133,14 +134,15 @@ fn name_note(fault: &NameFault) -> Option<Note>
     }
 }
 
-/// A fault of tags and parts, G1 to G12.
+/// A fault of tags and of COMPONENTS OF, G1 to G6; the others are of parts.
 fn tag_note(fault: &TagFault) -> Option<Note>
     ensures { option_map note_view result ≡ tag_note fault.now }
 {
     match fault {
         TagFault::UniversalTag(site) => noted(
             Place::At(*site),
-            "A tag of the class UNIVERSAL can not be written. Leave it out, or choose another class.",
+            "A tag of class UNIVERSAL can not be written. Leave it out under an implicit tag; docs/POLICY.md has \
+                times.",
         ),
         TagFault::ImplicitChoice(site) => noted(
             Place::At(*site),
@@ -162,6 +164,15 @@ fn tag_note(fault: &TagFault) -> Option<Note>
             Place::At(*site),
             "COMPONENTS OF is not read of a type with a tag of its own. Name the type without it.",
         ),
+        _ => part_note(fault),
+    }
+}
+
+/// A fault of parts and their numbers, G7 to G12.
+fn part_note(fault: &TagFault) -> Option<Note>
+    ensures { option_map note_view result ≡ part_note fault.now }
+{
+    match fault {
         TagFault::DuplicateName(site) => noted(
             Place::At(*site),
             "Two components or alternatives have this name. Rename one of them.",
@@ -184,9 +195,16 @@ fn tag_note(fault: &TagFault) -> Option<Note>
         ),
         TagFault::NumberTooLarge(site) => noted(
             Place::At(*site),
-            "The number is outside 128 bits, or of a named bit above 65,535. Choose a smaller one.",
+            "The number is outside 128 bits, or of a named bit above 65,535. Leave its name out, if messages are \
+                given.",
         ),
-        TagFault::OutOfMemory => None,
+        TagFault::UniversalTag(_)
+        | TagFault::ImplicitChoice(_)
+        | TagFault::TagTooLarge(_)
+        | TagFault::ComponentsOfKind(_)
+        | TagFault::ComponentsOfAutomatic(_)
+        | TagFault::ComponentsOfTagged(_)
+        | TagFault::OutOfMemory => None,
     }
 }
 
@@ -217,7 +235,7 @@ fn value_note(fault: &ValueFault) -> Option<Note>
         ),
         ValueFault::BadCharacter(site) => noted(
             Place::At(*site),
-            "The string has a character that its type does not have. Remove it, or choose another type.",
+            "The string has a character that no value of its type has. Remove or mend it.",
         ),
         ValueFault::BadObjectId(site) => noted(
             Place::At(*site),
@@ -250,7 +268,7 @@ fn constraint_note(fault: &ConsFault) -> Option<Note>
         ),
         ConsFault::PresenceWord(site) => noted(
             Place::At(*site),
-            "Only a component that is OPTIONAL takes such a word. Remove the word, or change the type.",
+            "Only a component that is OPTIONAL takes such a word. Remove it, or ask for the value of the component.",
         ),
         ConsFault::UnknownComponent(site) => noted(
             Place::At(*site),
@@ -315,7 +333,7 @@ fn table_note(fault: &TableFault) -> Option<Note>
         ),
         TableFault::TooManyConditions => noted(
             Place::ThePolicy,
-            "The types of the message and its rules ask more than 256 things of one part. Split the message.",
+            "The message and its rules ask more than 256 things of one part. Write ranges for values, or fewer rules.",
         ),
         TableFault::TooManyRules => noted(
             Place::ThePolicy,
@@ -344,7 +362,7 @@ pub fn policy_note(fault: &PolicyFault) -> Option<Note>
         ),
         PolicyFault::BadName(_) => noted(
             Place::ThePolicy,
-            "A name has 1 to 63 letters, digits, hyphens, low lines and full stops. Mend that of the entry.",
+            "A name has 1 to 63 letters, digits, hyphens, low lines and full stops. Mend the one above.",
         ),
         PolicyFault::DuplicateName(_) => noted(
             Place::ThePolicy,

@@ -3,12 +3,17 @@
 ghost use Rattle.std.specs.Prelude.{◌≡◌, ◌≤◌, length, option_map, option_and_then, string_bytes, IfOk};
 ghost use Rattle.toml.specs.Data.{as_array};
 ghost use Rattle.toml.specs.View.{view, items_view, table_view};
-ghost use Rattle.guard_notes.specs.PolicyNotes.{IsSaidOfPolicy, IsTomlNote, item_at, listed, entry_of, value_at, word_at, key_line, key_lines, name_line, heading, entry_lines, lines_at, name_keys, is_of, number_of_rule, rule_lines, table_lines, unknown_key_lines, message_lines, fault_lines};
+ghost use Rattle.guard_policy.specs.Names.{is_party};
+ghost use Rattle.guard_notes.specs.PolicyNotes.{IsSaidOfPolicy, IsTomlNote, item_at, listed, entry_of, value_at};
+ghost use Rattle.guard_notes.specs.PolicyNotes.{word_at, text_at, key_line, key_lines, name_line, heading};
+ghost use Rattle.guard_notes.specs.PolicyNotes.{entry_lines, lines_at, bad_key, bad_rule_lines, bad_name_lines};
+ghost use Rattle.guard_notes.specs.PolicyNotes.{is_of, number_of_rule, rule_lines, table_lines, unknown_key_lines};
+ghost use Rattle.guard_notes.specs.PolicyNotes.{message_lines, fault_lines};
 
 use crate::headers::line_of;
 use crate::marking::{columns, line_at, marked_line};
 use guard_model::OutOfMemory;
-use guard_policy::{Entry, Key, PolicyFault};
+use guard_policy::{Entry, Key, PolicyFault, is_anyone, is_name};
 use guard_syntax::end_of;
 use guard_tables::TableFault;
 use std::alloc::Global;
@@ -17,9 +22,6 @@ use toml::{Table, Value};
 
 /// The keys of a type.
 const TYPE_KEYS: [Key; 2] = [Key::Module, Key::TypeName];
-
-/// The keys at which a rule has names, besides its own.
-const NAME_KEYS: [Key; 3] = [Key::From, Key::To, Key::Message];
 
 /// The lines that are said of the fault of a policy with this text.
 pub fn policy_lines(alloc: Global, text: &[u8], fault: &PolicyFault) -> Result<String, OutOfMemory>
@@ -268,20 +270,61 @@ fn key_line(alloc: Global, key: &str, word: Option<&str>) -> Result<String, OutO
     }
 }
 
-/// The entry with its names.
+/// The entry that has a bad name.
 fn bad_name_lines(
     alloc: Global,
     text: &[u8],
     top: &Table,
     entry: Entry,
 ) -> Result<String, OutOfMemory>
-    ensures { IfOk result (λ lines. string_bytes lines
-        ≡ lines_at text.now (table_view top.now) entry (name_keys entry)) }
+    ensures { IfOk result (λ lines. string_bytes lines ≡ bad_name_lines text.now (table_view top.now) entry) }
 {
     match entry {
-        Entry::Top | Entry::Message(_) => lines_at(alloc, text, top, entry, &[]),
-        Entry::Rule(_) => lines_at(alloc, text, top, entry, &NAME_KEYS),
+        Entry::Top => Ok(String::new(alloc)),
+        Entry::Message(number) => entry_lines(alloc, text, top, Key::Message, number, &[]),
+        Entry::Rule(number) => {
+            let key = bad_key(entry_of(top, Key::Rule, number));
+            bad_rule_lines(alloc, text, top, number, key)
+        }
     }
+}
+
+/// A rule, and the key of its bad name.
+fn bad_rule_lines(
+    alloc: Global,
+    text: &[u8],
+    top: &Table,
+    number: usize,
+    bad: Option<Key>,
+) -> Result<String, OutOfMemory>
+    ensures { IfOk result (λ lines. string_bytes lines ≡ bad_rule_lines text.now (table_view top.now) number bad) }
+{
+    match bad {
+        Some(bad) => entry_lines(alloc, text, top, Key::Rule, number, &[bad]),
+        None => entry_lines(alloc, text, top, Key::Rule, number, &[]),
+    }
+}
+
+/// The key at which the rule has its bad name, of several the first. Its own name is shown anyway and counts as none.
+fn bad_key(rule: Option<&Value>) -> Option<Key>
+    ensures { result ≡ bad_key (option_map (λ value. view value.now) rule.entry) }
+{
+    if !is_name(text_at(rule, Key::Name).as_bytes()) {
+        None
+    } else if !is_party(text_at(rule, Key::From)) {
+        Some(Key::From)
+    } else if !is_party(text_at(rule, Key::To)) {
+        Some(Key::To)
+    } else {
+        Some(Key::Message)
+    }
+}
+
+/// Whether the text may be the sender or the receiver of a rule.
+fn is_party(text: &str) -> bool
+    ensures { result ≡ is_party text.now }
+{
+    is_name(text.as_bytes()) || is_anyone(text)
 }
 
 // ---- what `toml` has
@@ -294,6 +337,13 @@ fn word_at<'a>(entry: Option<&'a Value>, key: Key) -> Option<&'a str>
         Some(value) => value.as_str(),
         None => None,
     }
+}
+
+/// The text at a key of an entry, or an empty one.
+fn text_at<'a>(entry: Option<&'a Value>, key: Key) -> &'a str
+    ensures { result.now ≡ text_at key (option_map (λ value. view value.now) entry.entry) }
+{
+    word_at(entry, key).unwrap_or("")
 }
 
 fn value_at<'a>(entry: Option<&'a Value>, key: Key) -> Option<&'a Value>
@@ -322,7 +372,8 @@ fn listed<'a>(top: &'a Table, kind: Key) -> Option<&'a Value>
 
 /// The item at a place, from 0, of a list.
 pub fn item_at<'a>(list: Option<&'a Value>, place: usize) -> Option<&'a Value>
-    ensures { option_map (λ value. view value.now) result ≡ item_at place (option_map (λ value. view value.now) list.entry) }
+    ensures { option_map (λ value. view value.now) result
+        ≡ item_at place (option_map (λ value. view value.now) list.entry) }
 {
     match list {
         Some(list) => list.get(place),

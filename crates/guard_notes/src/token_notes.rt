@@ -1,10 +1,12 @@
 //! What more is said of a fault of a module, by the tokens of its text.
-ghost use Rattle.std.specs.Prelude.{◌≡◌, ◌&&◌, option_map, string_bytes, IfOk};
+ghost use Rattle.std.specs.Prelude.{◌≡◌, ◌&&◌, false, option_map, string_bytes, IfOk};
 ghost use Rattle.guard_syntax.specs.Lexemes.{octets_of};
-ghost use Rattle.guard_notes.specs.TokenNotes.{ByTokens, is_at, tokens_at, begins_with, is_near, is_type_name, near_name, undefined_line, undefined_lines, site_of_name, site_of_syntax};
+ghost use Rattle.guard_notes.specs.TokenNotes.{ByTokens, is_at, tokens_at, begins_with, begin_swapped, are_swapped};
+ghost use Rattle.guard_notes.specs.TokenNotes.{is_near, is_behind_imported, is_type_name, are_imports, near_name};
+ghost use Rattle.guard_notes.specs.TokenNotes.{undefined_line, undefined_lines, site_of_name, site_of_syntax};
 
 use crate::marking::columns;
-use guard_lexer::{LexFault, Mark, Token, TokenKind, tokens};
+use guard_lexer::{LexFault, Mark, Reserved, Token, TokenKind, tokens};
 use guard_model::{OutOfMemory, Site};
 use guard_names::NameFault;
 use guard_syntax::SyntaxFault;
@@ -75,7 +77,7 @@ fn undefined_line(alloc: Global, word: &[u8], other: Option<&[u8]>) -> Result<St
     }
 }
 
-/// The first name of a type before `::=` that is near to this one.
+/// The first name of a type that is assigned or imported and near to this one.
 fn near_name<'a>(
     alloc: Global,
     text: &'a [u8],
@@ -83,18 +85,16 @@ fn near_name<'a>(
     tokens: &[Token],
 ) -> Result<Option<&'a [u8]>, AllocError>
     ensures { IfOk result (λ found. option_map (λ other. other.now) found
-        ≡ near_name text.now word.now tokens.now) }
+        ≡ near_name text.now word.now false tokens.now) }
 {
+    let mut importing = false;
     for (place, token) in tokens.iter().enumerate() {
         let other = octets(text, token);
-        if is_near_type(
-            alloc,
-            word,
-            other,
-            is_type_name(token, &tokens[place + 1..]),
-        )? {
+        let is_type = is_type_name(importing, token, &tokens[place + 1..]);
+        if is_near_type(alloc, word, other, is_type)? {
             return Ok(Some(other));
         }
+        importing = are_imports(importing, token);
     }
     Ok(None)
 }
@@ -104,16 +104,72 @@ fn is_near_type(alloc: Global, word: &[u8], other: &[u8], is_type: bool) -> Resu
     ensures { IfOk result (λ near. near ≡ (is_type && is_near word.now other.now)) }
 {
     if is_type {
-        Ok(generic_levenshtein(alloc, word, other)? == 1)
+        is_near(alloc, word, other)
     } else {
         Ok(false)
     }
 }
 
-fn is_type_name(token: &Token, behind: &[Token]) -> bool
-    ensures { result ≡ is_type_name token.now behind.now }
+fn is_near(alloc: Global, word: &[u8], other: &[u8]) -> Result<bool, AllocError>
+    ensures { IfOk result (λ near. near ≡ is_near word.now other.now) }
 {
-    token.kind == TokenKind::UpperName && begins_with(behind, TokenKind::Mark(Mark::Assignment))
+    let distance = generic_levenshtein(alloc, word, other)?;
+    Ok(distance == 1 || are_swapped(word, other))
+}
+
+/// Whether two neighbours are the other way round, and else the octets are the same.
+fn are_swapped(word: &[u8], other: &[u8]) -> bool
+    ensures { result ≡ are_swapped word.now other.now }
+{
+    let mut left = word;
+    let mut right = other;
+    while let [first, more @ ..] = left {
+        let [second, others @ ..] = right else {
+            return false;
+        };
+        if first != second {
+            return begin_swapped(left, right);
+        }
+        left = more;
+        right = others;
+    }
+    false
+}
+
+fn begin_swapped(word: &[u8], other: &[u8]) -> bool
+    ensures { result ≡ begin_swapped word.now other.now }
+{
+    let [a, b, more @ ..] = word else {
+        return false;
+    };
+    let [c, d, others @ ..] = other else {
+        return false;
+    };
+    a == d && b == c && more == others
+}
+
+/// Whether the token is the name of a type that is assigned, or that is imported.
+fn is_type_name(importing: bool, token: &Token, behind: &[Token]) -> bool
+    ensures { result ≡ is_type_name importing token.now behind.now }
+{
+    token.kind == TokenKind::UpperName
+        && (begins_with(behind, TokenKind::Mark(Mark::Assignment))
+            || (importing && is_behind_imported(behind)))
+}
+
+fn is_behind_imported(tokens: &[Token]) -> bool
+    ensures { result ≡ is_behind_imported tokens.now }
+{
+    begins_with(tokens, TokenKind::Mark(Mark::Comma))
+        || begins_with(tokens, TokenKind::Reserved(Reserved::From))
+}
+
+/// Whether the tokens behind this one are in IMPORTS.
+fn are_imports(importing: bool, token: &Token) -> bool
+    ensures { result ≡ are_imports importing token.now }
+{
+    token.kind == TokenKind::Reserved(Reserved::Imports)
+        || (importing && token.kind != TokenKind::Mark(Mark::Semicolon))
 }
 
 fn begins_with(tokens: &[Token], kind: TokenKind) -> bool

@@ -14,7 +14,7 @@ use Rattle.guard_policy.specs.Loads as policy_text
 use Rattle.guard_policy.specs.Loads.{Loads}
 use Rattle.guard_policy.specs.Policies.{AbstractPolicy}
 use Rattle.guard_policy.specs.PolicyFaults as policy
-use Rattle.guard_frames.specs.Texts.{of_schema}
+use Rattle.guard_frames.specs.Texts.{SayPolicy, of_schema}
 use Rattle.guard_frames.proofs.OnePolicy.{schema_refused}
 use Rattle.derguard_program.specs.declared.fault.Fault.{Fault}
 use Rattle.derguard_program.specs.declared.fault.Fault.TheVariants.{Policy, NoMemory}
@@ -66,7 +66,9 @@ pub none_loaded : (told : Told) (path text : List ℕ) (modules : List (List ℕ
 none_loaded told path text modules are f (inl none) = inr (inl (text, modules, are, none))
 none_loaded told path text modules are f (inr e) = inr (inr e)
 
+pub said_policy : (modules : List (List ℕ)) (text : List ℕ) (l : AbstractLoaded) → SayLoaded modules text l → SayPolicy modules text l.policy
+said_policy modules text l (knows, loads) = (schema_of l.known, inl (l.known, knows, refl), loads)
+
 -- what is loaded has the policy that the texts say
 pub loaded_policy : (told : Told) (path : List ℕ) (l : AbstractLoaded) → IsLoadedAt told path l → IsPolicyAt told path l.policy
-loaded_policy told path l (text, modules, are, (knows, loads)) =
-    (text, modules, are, (schema_of l.known, inl (l.known, knows, refl), loads))
+loaded_policy told path l (text, modules, are, said) = (text, modules, are, said_policy modules text l said)

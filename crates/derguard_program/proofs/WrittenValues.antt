@@ -26,7 +26,7 @@ use Rattle.guard_values.specs.FirstFault.{IsFirstFault}
 use Rattle.derguard_program.specs.declared.fault.Fault.{Fault}
 use Rattle.derguard_program.specs.declared.fault.Fault.TheVariants.{BadHex, CannotRead, Schema, Policy, Run, NoMemory}
 use Rattle.derguard_program.specs.ValueTexts.{HaveNoTree, IsNoValue, IsWrittenAs, OfText}
-use Rattle.derguard_program.specs.inside.Assigned.{assigned, sites_around, AssignsOne, IsLexFault, IsSyntaxFault, IsUnexpected, IsValueFault, syntax_refusal, value_refusal}
+use Rattle.derguard_program.specs.inside.Assigned.{assigned, sites_around, AssignsOne, IsLexFault, IsSyntaxFault, IsUnexpected, IsValueFault, place_of, syntax_refusal, value_refusal}
 use Rattle.derguard_program.proofs.AssignedTrees.{module_of, module_written, one_assigned, value_assigned}
 
 -- the tree that the module assigns is written as the text
@@ -127,6 +127,13 @@ syntax_refused text tokens (trees.Unexpected site) h = λ tree g e. same_answer 
 syntax_refused text tokens (trees.Unsupported word site) h = λ tree g e. same_answer (h (module_of tree) (module_written tree (lexemes_of text tokens) g e)).1
 syntax_refused text tokens (trees.TooDeep site) h = λ tree g e. same_answer (h (module_of tree) (module_written tree (lexemes_of text tokens) g e)).1
 syntax_refused text tokens trees.OutOfMemory h = tt
+
+pub named_fault : (text : List ℕ) (tokens : List Token) (e : SyntaxFault) (site : Site) → place_of e ≡ Some site
+    → OfText (IsSyntaxFault text tokens) (syntax_refusal e) → HaveNoTree text tokens
+named_fault text tokens (trees.Unexpected at) site is h = h
+named_fault text tokens (trees.Unsupported word at) site is h = h
+named_fault text tokens (trees.TooDeep at) site is h = h
+named_fault text tokens trees.OutOfMemory site is h = absurd cc
 
 -- ---- one element
 

@@ -10,6 +10,10 @@ use Rattle.guard_frames.specs.declared.totals.Totals.{Totals}
 use Rattle.guard_frames.specs.Bodies.{AbstractBody}
 use Rattle.guard_frames.specs.Texts.{SayPolicy}
 use Rattle.guard_notes.specs.Sources.{AbstractSources, sources}
+use Rattle.guard_policy.specs.Documents.{IsDocument}
+use Rattle.guard_schema.specs.Accepts.{ReadsModules}
+use Rattle.guard_syntax.specs.Trees.{WrittenModule}
+use Rattle.toml.specs.Data.{Members}
 use Rattle.derguard_program.specs.declared.answer.Answer.{Answer}
 use Rattle.derguard_program.specs.declared.fault.Fault.{Fault}
 use Rattle.derguard_program.specs.declared.fault.Fault.TheVariants.{BadHex, NoMemory}
@@ -21,6 +25,7 @@ use Rattle.derguard_program.specs.Framing.{route_body}
 use Rattle.derguard_program.specs.Listing.{listing}
 use Rattle.derguard_program.specs.Reading.{IsPolicyAt, IsNoPolicyAt, SayNothing}
 use Rattle.derguard_program.specs.Reasons.{ExplainsVerdict}
+use Rattle.derguard_program.specs.RuleTypes.{AbstractGrounds}
 use Rattle.derguard_program.specs.Writing.{Writes, Tells}
 
 -- what goes to standard output, and the status
@@ -114,15 +119,23 @@ IsHeldDecided told path held a = (p : AbstractPolicy) × IsPolicyAt told path p 
 -- ---- decide, explained
 
 -- the text of the reason and a line feed, and what explains it below
-abbrev pub IsExplainedVerdict : AbstractSources → AbstractPolicy → AbstractRoute → List ℕ → AbstractAnswer → Type 0
-IsExplainedVerdict s p route octets a =
-    (w : AbstractVerdict) × (note : List ℕ) × IsReason p route octets w × ExplainsVerdict s p route octets w note
+abbrev pub IsExplainedVerdict : AbstractGrounds → AbstractPolicy → AbstractRoute → List ℕ → AbstractAnswer → Type 0
+IsExplainedVerdict g p route octets a =
+    (w : AbstractVerdict) × (note : List ℕ) × IsReason p route octets w × ExplainsVerdict g p route octets w note
     × (a.out ≡ verdict_octets p route w ++ codes "\n" ++ note) × (a.status ≡ verdict_status w)
 
--- under the policy that these texts say
+-- under this policy, over what its text has at its keys and these trees of the modules
+abbrev pub IsExplainedBy : AbstractSources → List ℕ → List WrittenModule → AbstractPolicy → Option AbstractBody
+    → AbstractAnswer → Type 0
+IsExplainedBy s text ms p held a =
+    (top : Members) × IsDocument text top
+    × OfHeld (IsExplainedVerdict (record { sources = s; top = top; modules = ms }) p) held a
+
+-- under the policy that these texts say, over the trees that those of the modules are
 abbrev pub IsExplainedOver : AbstractSources → List ℕ → Option AbstractBody → AbstractAnswer → Type 0
 IsExplainedOver s text held a =
-    (p : AbstractPolicy) × SayPolicy s.modules text p × OfHeld (IsExplainedVerdict s p) held a
+    (p : AbstractPolicy) × (ms : List WrittenModule) × SayPolicy s.modules text p × ReadsModules s.modules (Ok ms)
+    × IsExplainedBy s text ms p held a
 
 -- under the policy at the path, over the texts that say it
 abbrev pub IsHeldExplained : Told → List ℕ → Option AbstractBody → AbstractAnswer → Type 0

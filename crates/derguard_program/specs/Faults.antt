@@ -25,7 +25,7 @@ IsText (Policy f) text = Unit {0}
 IsText (Run f) text = Unit {0}
 IsText NoMemory text = text ≡ codes "no-memory"
 
--- Want of memory is the program's own, and each other fault of a policy stays one of the policy.
+-- That memory ran out is the program's own, and each other fault of a policy stays one of the policy.
 abbrev pub StandsForPolicy : PolicyFault → Fault → Type 0
 StandsForPolicy p f = MatchOption (policy.named p) (f ≡ NoMemory) (λ _. f ≡ Policy p)
 

@@ -33,6 +33,7 @@ pub mod Verbose
 pub mod Watching
 -- ---- what explains a fault or a verdict
 pub mod Explaining
+pub mod RuleTypes
 pub mod Reasons
 -- ---- what is listed of a policy, what is shown of a message
 pub mod Listing

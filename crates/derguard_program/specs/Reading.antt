@@ -88,7 +88,7 @@ SayNothing modules text (CannotRead file) = ⊥
 SayNothing modules text (Run f) = ⊥
 SayNothing modules text NoMemory = ⊥
 
--- Why there is no policy at the path: its texts are missing, or say none. Want of memory says nothing of either.
+-- Why there is no policy at the path: its texts are missing, or say none. That memory ran out says nothing of either.
 abbrev pub IsNoPolicyAt : Told → List ℕ → Fault → Type 0
 IsNoPolicyAt told path f =
     AreMissing told path f

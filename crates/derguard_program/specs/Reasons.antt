@@ -1,6 +1,6 @@
 -- What comes below the text of a verdict where it is to be explained: of each constraint that the value fails its line
--- with a mark, and the part that fails it; of a denying rule the lines of its type's constraints; of any other verdict
--- that stops a message a sentence; of a message that passes each rule that allows it.
+-- with a mark, and the part that fails it; of a denying rule its type, where that is assigned, and the lines of its
+-- constraints; of any other verdict that stops a message a sentence; of a message that passes each rule that allows it.
 use Rattle.std.specs.Prelude.{◌≡◌, ℕ, ◌&&◌, List, [], ◌∷◌, ◌++◌, codes, option_map, slice_get, Option, Some, None, IsTrue, if◌then◌else◌}
 use Rattle.guard_model.specs.declared.site.Site.{Site}
 use Rattle.guard_model.specs.declared.site.Step.{Step}
@@ -19,6 +19,7 @@ use Rattle.guard_notes.specs.Marking.{columns}
 use Rattle.guard_notes.specs.Sources.{AbstractSources, place_lines}
 use Rattle.guard_notes.specs.declared.notes.Place.TheVariants.{At}
 use Rattle.derguard_program.specs.Listing.{places_of}
+use Rattle.derguard_program.specs.RuleTypes.{AbstractGrounds, rule_type_lines}
 
 -- ---- the part of a value that fails a constraint
 
@@ -82,9 +83,12 @@ abbrev pub type_lines : AbstractSources → Option AbstractRule → List ℕ
 type_lines s None = []
 type_lines s (Some r) = lines_of_places s (places_of r.ty)
 
-abbrev pub denied_lines : AbstractSources → Option AbstractRule → List ℕ
-denied_lines s rule =
-    type_lines s rule ++ codes "  This denying rule has the value, so no allowing rule can let it pass.\n"
+-- of the rule of this number, from 0: its type, where that is assigned and constrained, and what follows for the value
+abbrev pub denied_lines : AbstractGrounds → ℕ → Option AbstractRule → List ℕ
+denied_lines g number rule =
+    rule_type_lines g number
+    ++ (type_lines g.sources rule
+    ++ codes "  This denying rule has the value, so no allowing rule can let it pass.\n")
 
 -- ---- a verdict
 
@@ -94,16 +98,16 @@ OfValue p message octets Says =
     (t : AbstractType) × (v : AbstractValue) × (declared_type p message ≡ Some t) × IsTrue (fits t v)
     × (der t v ≡ Some octets) × Says t v
 
-abbrev pub ExplainsVerdict : AbstractSources → AbstractPolicy → AbstractRoute → List ℕ → AbstractVerdict → List ℕ
+abbrev pub ExplainsVerdict : AbstractGrounds → AbstractPolicy → AbstractRoute → List ℕ → AbstractVerdict → List ℕ
     → Type 0
-ExplainsVerdict s p route octets pass note =
+ExplainsVerdict g p route octets pass note =
     OfValue p route.message octets (λ t v. note ≡ allowing_lines route v p.rules)
-ExplainsVerdict s p route octets unknown_message note = note ≡ codes "  The policy declares no message of this name.\n"
-ExplainsVerdict s p route octets (undecodable b) note =
+ExplainsVerdict g p route octets unknown_message note = note ≡ codes "  The policy declares no message of this name.\n"
+ExplainsVerdict g p route octets (undecodable b) note =
     note ≡ codes "  The octets are no DER encoding of a value of the declared type. docs/FAULTS.md has the breaches.\n"
-ExplainsVerdict s p route octets (outside_type w) note =
-    OfValue p route.message octets (λ t v. note ≡ violation_lines s t v w)
-ExplainsVerdict s p route octets (denied_by i) note = note ≡ denied_lines s (slice_get p.rules i)
-ExplainsVerdict s p route octets (not_allowed rs) note =
-    OfValue p route.message octets (λ t v. note ≡ shortfall_lines s t v rs)
-ExplainsVerdict s p route octets no_rule note = note ≡ codes "  No rule of the policy allows anything on this route.\n"
+ExplainsVerdict g p route octets (outside_type w) note =
+    OfValue p route.message octets (λ t v. note ≡ violation_lines g.sources t v w)
+ExplainsVerdict g p route octets (denied_by i) note = note ≡ denied_lines g i (slice_get p.rules i)
+ExplainsVerdict g p route octets (not_allowed rs) note =
+    OfValue p route.message octets (λ t v. note ≡ shortfall_lines g.sources t v rs)
+ExplainsVerdict g p route octets no_rule note = note ≡ codes "  No rule of the policy allows anything on this route.\n"

@@ -15,7 +15,8 @@ use guard_model::{OutOfMemory, Value};
 use guard_policy::{Effect, Policy, Route, SaidRule};
 use std::alloc::Global;
 
-/// A line for each rule that allows the value on the route, in the order of the file. It fails only where memory runs out.
+/// A line for each rule that allows the value on the route, in the order of the file. It fails only where memory runs
+/// out.
 pub fn allowing_lines(
     alloc: Global,
     policy: &Policy,

@@ -1,8 +1,10 @@
 //! Which frame the stream of a link has begun, and how much of it came.
-ghost use Rattle.std.specs.Prelude.{◌≡◌, ◌<◌, ◌≤◌, ◌≢◌, ◌+◌, ◌∷◌, ◌++◌, [], ℕ, List, true, false, length, take, IfOk, IfSome};
+ghost use Rattle.std.specs.Prelude.{◌≡◌, ◌<◌, ◌≤◌, ◌≢◌, ◌+◌, ◌∷◌, ◌++◌, [], ℕ, List};
+ghost use Rattle.std.specs.Prelude.{true, false, length, take, IfOk, IfSome};
 ghost use Rattle.std.specs.List.{All};
 ghost use Rattle.guard_frames.specs.Frames.{stated_length};
-ghost use Rattle.derguard_program.specs.inside.Begun.{IsSound, IsBegunAfter, GoesOn, IsNextIfWhole, IsFirst, BringsNoted};
+ghost use Rattle.derguard_program.specs.inside.Begun.{IsSound, IsBegunAfter, GoesOn, IsNextIfWhole};
+ghost use Rattle.derguard_program.specs.inside.Begun.{IsFirst, BringsNoted};
 
 use crate::frames::{LENGTH, LONGEST_BODY};
 use crate::seen::Seen;

@@ -1,9 +1,12 @@
 //! What a file of cases says, and what is wrong with it.
-ghost use Rattle.std.specs.Prelude.{◌≡◌, [], ◌∷◌, Some, None, is_some, codes, map, option_map, string_bytes, IfOk, IfErr, OnOk};
+ghost use Rattle.std.specs.Prelude.{◌≡◌, [], ◌∷◌, Some, None, is_some, codes, map, option_map};
+ghost use Rattle.std.specs.Prelude.{string_bytes, IfOk, IfErr, OnOk};
 ghost use Rattle.toml.specs.Data.{get_member, as_array};
 ghost use Rattle.toml.specs.View.{items_view, table_view, view};
 ghost use Rattle.guard_policy.specs.Documents.{IsDocument, IsNoDocument};
-ghost use Rattle.derguard_program.specs.Cases.{case_view, text_at, text_of, case_in, members_in, cases_at, case_text, unknown_text, missing_text, message_text, first_unknown, first_missing, required_keys, case_keys, has_one, case_fault, list_fault, cases_fault};
+ghost use Rattle.derguard_program.specs.Cases.{case_view, text_at, text_of, case_in, members_in, cases_at, case_text};
+ghost use Rattle.derguard_program.specs.Cases.{unknown_text, missing_text, message_text, first_unknown, first_missing};
+ghost use Rattle.derguard_program.specs.Cases.{required_keys, case_keys, has_one, case_fault, list_fault, cases_fault};
 ghost use Rattle.derguard_program.specs.declared.cases.Untested.TheVariants.{NoMemory};
 ghost use Rattle.derguard_program.specs.inside.Caseless.{Meets, OfFault};
 

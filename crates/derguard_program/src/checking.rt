@@ -132,7 +132,7 @@ fn read_beside<F: Files>(
 }
 
 /// The policy that the texts say; or why they say none, explained over them.
-pub fn said_explained(alloc: Global, path: &str, texts: &Texts) -> Result<Policy, Refusal>
+fn said_explained(alloc: Global, path: &str, texts: &Texts) -> Result<Policy, Refusal>
     ensures there { IfOk result (λ p. SayPolicy
         (map (λ text. text.items) texts.now.modules.items) texts.now.policy.items (policy_view p)) }
     ensures none { IfErr result (λ r.

@@ -1,7 +1,8 @@
 //! How often each reason is reported.
 ghost use Rattle.std.specs.Prelude.{◌≡◌, ◌≢◌, ◌<◌, ◌≤◌, ℕ, length, nat_eq, slice_index};
 ghost use Rattle.std.specs.List.{list_any};
-ghost use Rattle.derguard_program.specs.Counted.{first_word, after_word, reason_of, more, no_counts, count_one, counts_after};
+ghost use Rattle.derguard_program.specs.Counted.{first_word, after_word, reason_of, more};
+ghost use Rattle.derguard_program.specs.Counted.{no_counts, count_one, counts_after};
 ghost use Rattle.derguard_program.specs.Passing.{lines_of};
 
 use guard_notes::first_line;

@@ -5,26 +5,37 @@ ghost use Rattle.hex.specs.declared.error.FromHexError.{FromHexError};
 ghost use Rattle.guard_policy.specs.PolicyView.{policy_view, route_view};
 ghost use Rattle.guard_policy.specs.Verdicts.{verdict_view};
 ghost use Rattle.guard_frames.specs.Bodies.{body_view};
-ghost use Rattle.guard_notes.specs.Sources.{sources, sources_view};
-ghost use Rattle.derguard_program.specs.Answers.{answer_view, verdict_status, IsVerdict, IsDecided, IsUndecided, IsExplainedVerdict, IsHeldExplained, IsExplainedOver, IsDecidedExplained, OfHeld};
+ghost use Rattle.guard_policy.specs.Documents.{IsDocument};
+ghost use Rattle.guard_schema.specs.Accepts.{ReadsModules};
+ghost use Rattle.guard_schema.specs.Texts.{AreOfTexts};
+ghost use Rattle.guard_syntax.specs.ModuleViews.{module_view};
+ghost use Rattle.toml.specs.Data.{Members};
+ghost use Rattle.guard_notes.specs.Sources.{sources};
+ghost use Rattle.derguard_program.specs.Answers.{answer_view, verdict_status, IsVerdict, IsDecided, IsUndecided};
+ghost use Rattle.derguard_program.specs.Answers.{IsExplainedVerdict, IsHeldExplained, IsExplainedBy, IsExplainedOver};
+ghost use Rattle.derguard_program.specs.Answers.{IsDecidedExplained, OfHeld};
 ghost use Rattle.derguard_program.specs.Explaining.{IsExplained, IsUndecidedExplained, IsExplanation};
 ghost use Rattle.derguard_program.specs.Reading.{SayNothing};
+ghost use Rattle.derguard_program.specs.RuleTypes.{grounds_view};
+ghost use Rattle.derguard_program.specs.inside.Loading.{SayNoneLoaded};
 ghost use Rattle.derguard_program.specs.declared.fault.Fault.TheVariants.{BadHex, NoMemory};
 
 use crate::answer::Answer;
-use crate::checking::{load, read_explained, said_explained};
+use crate::checking::{load, read_explained};
 use crate::explaining::{Refusal, sources_of, sources_of_path};
 use crate::fault::Fault;
 use crate::files::Files;
 use crate::holding::{bad_header, body_of, route_in};
+use crate::loaded::Loaded;
 use crate::octets::add;
 use crate::reasons::verdict_note;
+use crate::rule_types::{Grounds, document_of};
 use crate::texts::Texts;
 use guard_frames::Body;
 use guard_model::OutOfMemory;
-use guard_notes::Sources;
 use guard_policy::{Policy, Route, Verdict};
 use guard_report::verdict_text;
+use guard_syntax::Module;
 use hex::FromHexError;
 use std::alloc::Global;
 
@@ -103,26 +114,96 @@ fn explain_over(
         (map (λ text. text.items) texts.now.modules.items)) texts.now.policy.items r.fault (string_bytes r.note))
         ⊎ ((r.fault ≡ NoMemory) × (string_bytes r.note ≡ []))) }
 {
-    let policy = said_explained(alloc, path, texts)?;
-    let sources = sources_of(path, texts);
-    match explained_answer(alloc, &sources, &policy, held) {
+    match explained_over(alloc, path, held, texts) {
         Ok(answer) => Ok(answer),
-        Err(_) => Err(Refusal::no_memory(alloc)),
+        Err(fault) => Err(Refusal::new(alloc, &sources_of(path, texts), &texts.policy, fault)),
     }
+}
+
+/// It, or why the texts say no policy.
+fn explained_over(
+    alloc: Global,
+    path: &str,
+    held: Option<Body>,
+    texts: &Texts,
+) -> Result<Answer, Fault>
+    ensures decided { IfOk result (λ a. IsExplainedOver
+        (sources path.now (map string_bytes texts.now.files.items)
+        (map (λ text. text.items) texts.now.modules.items))
+        texts.now.policy.items (option_map body_view held.entry) (answer_view a)) }
+    ensures undecided { IfErr result (SayNoneLoaded
+        (map (λ text. text.items) texts.now.modules.items) texts.now.policy.items) }
+{
+    match texts.trees(alloc) {
+        Ok(modules) => explained_within(alloc, path, held, texts, &modules),
+        Err(fault) => Err(fault),
+    }
+}
+
+/// It, where these are the modules.
+fn explained_within(
+    alloc: Global,
+    path: &str,
+    held: Option<Body>,
+    texts: &Texts,
+    modules: &[Module],
+) -> Result<Answer, Fault>
+    requires kept { AreOfTexts (map module_view modules.now) }
+    requires read { ReadsModules (map (λ text. text.items) texts.now.modules.items)
+        (Ok (map module_view modules.now)) }
+    ensures decided { IfOk result (λ a. IsExplainedOver
+        (sources path.now (map string_bytes texts.now.files.items)
+        (map (λ text. text.items) texts.now.modules.items))
+        texts.now.policy.items (option_map body_view held.entry) (answer_view a)) }
+    ensures undecided { IfErr result (SayNoneLoaded
+        (map (λ text. text.items) texts.now.modules.items) texts.now.policy.items) }
+{
+    match Loaded::of(alloc, modules, &texts.policy) {
+        Ok(loaded) => {
+            let answer = explained_by(alloc, path, held, texts, modules, &loaded.policy)?;
+            Ok(answer)
+        }
+        Err(fault) => Err(fault),
+    }
+}
+
+/// It, under this policy, whose text is a document.
+fn explained_by(
+    alloc: Global,
+    path: &str,
+    held: Option<Body>,
+    texts: &Texts,
+    modules: &[Module],
+    policy: &Policy,
+) -> Result<Answer, OutOfMemory>
+    requires { (top : Members) × IsDocument texts.now.policy.items top }
+    ensures { IfOk result (λ a. IsExplainedBy
+        (sources path.now (map string_bytes texts.now.files.items)
+        (map (λ text. text.items) texts.now.modules.items))
+        texts.now.policy.items (map module_view modules.now) (policy_view policy.now)
+        (option_map body_view held.entry) (answer_view a)) }
+{
+    let top = document_of(alloc, &texts.policy)?;
+    let grounds = Grounds {
+        sources: sources_of(path, texts),
+        top: &top,
+        modules,
+    };
+    explained_answer(alloc, &grounds, policy, held)
 }
 
 /// The explained verdict on a message that is held, under the policy.
 fn explained_answer(
     alloc: Global,
-    sources: &Sources,
+    grounds: &Grounds,
     policy: &Policy,
     held: Option<Body>,
 ) -> Result<Answer, OutOfMemory>
-    ensures { IfOk result (λ a. OfHeld (IsExplainedVerdict (sources_view sources.now) (policy_view policy.now))
+    ensures { IfOk result (λ a. OfHeld (IsExplainedVerdict (grounds_view grounds.now) (policy_view policy.now))
         (option_map body_view held.entry) (answer_view a)) }
 {
     match held {
-        Some(body) => explained_verdict(alloc, sources, policy, &route_in(&body), body.message),
+        Some(body) => explained_verdict(alloc, grounds, policy, &route_in(&body), body.message),
         None => bad_header(alloc),
     }
 }
@@ -130,16 +211,16 @@ fn explained_answer(
 /// The text of the verdict and a line feed, and what explains it, with status 1 where the message doesn't pass.
 fn explained_verdict(
     alloc: Global,
-    sources: &Sources,
+    grounds: &Grounds,
     policy: &Policy,
     route: &Route,
     octets: &[u8],
 ) -> Result<Answer, OutOfMemory>
-    ensures { IfOk result (λ a. IsExplainedVerdict (sources_view sources.now) (policy_view policy.now)
+    ensures { IfOk result (λ a. IsExplainedVerdict (grounds_view grounds.now) (policy_view policy.now)
         (route_view route.now) octets.now (answer_view a)) }
 {
     let verdict = policy.verdict(alloc, route, octets)?;
-    let note = verdict_note(alloc, sources, policy, route, octets, &verdict)?;
+    let note = verdict_note(alloc, grounds, policy, route, octets, &verdict)?;
     let mut text = verdict_text(alloc, &verdict, route, policy)?;
     add(&mut text, b"\n")?;
     add(&mut text, &note)?;

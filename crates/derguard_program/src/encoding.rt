@@ -1,5 +1,6 @@
 //! The DER encoding of a value that is written, or the frame that holds it.
-ghost use Rattle.std.specs.Prelude.{◌≡◌, ◌⊎◌, ◌++◌, ℕ, List, [], Some, None, Ok, codes, map, option_map, IfOk, IfErr, IfSome, IsTrue, string_bytes};
+ghost use Rattle.std.specs.Prelude.{◌≡◌, ◌⊎◌, ◌++◌, ℕ, List, [], Some, None, Ok, codes, map, option_map};
+ghost use Rattle.std.specs.Prelude.{IfOk, IfErr, IfSome, IsTrue, string_bytes};
 ghost use Rattle.hex.specs.Hex.{encode_upper};
 ghost use Rattle.guard_model.specs.TypeView.{type_view};
 ghost use Rattle.guard_model.specs.ValueView.{value_view};
@@ -14,7 +15,8 @@ ghost use Rattle.guard_syntax.specs.ModuleViews.{module_view};
 ghost use Rattle.derguard_program.specs.declared.fault.Fault.TheVariants.{NoMemory};
 ghost use Rattle.derguard_program.specs.declared.encoding.Unencoded.TheVariants.{NoValue};
 ghost use Rattle.derguard_program.specs.Devices.{source_of, device_of, IsUntouched};
-ghost use Rattle.derguard_program.specs.Encodes.{encoding_view, in_form, line_of_violation, violation_status, IsEncoded, EncodesText, EncodesGiven, EncodesUnder, Encodes};
+ghost use Rattle.derguard_program.specs.Encodes.{encoding_view, in_form, line_of_violation, violation_status};
+ghost use Rattle.derguard_program.specs.Encodes.{IsEncoded, EncodesText, EncodesGiven, EncodesUnder, Encodes};
 ghost use Rattle.derguard_program.specs.Framing.{IsPayload, HasNoPayload};
 ghost use Rattle.derguard_program.specs.Explaining.{TellsWith};
 ghost use Rattle.derguard_program.specs.Reading.{loaded_view};
@@ -58,9 +60,9 @@ pub struct Encoding<'a> {
 }
 
 /// Writes the octets of the value, or a frame that holds them, and answers the status: 0; 1 where the value is none of
-/// the declared type, whose line is on standard error, or no message of the name is declared; 2 where there is no policy
-/// at the path, the text writes no value, or no frame holds it; 3 where a device failed or memory ran out. Names in the
-/// text mean what they mean in the module of the declared type.
+/// the declared type, whose line is on standard error, or no message of the name is declared; 2 where there is no
+/// policy at the path, the text writes no value, or no frame holds it; 3 where a device failed or memory ran out. Names
+/// in the text mean what they mean in the module of the declared type.
 pub fn encode<F: Files, S: Source, O: Sink, E: Sink>(
     alloc: Global,
     asked: &Encoding,

@@ -15,11 +15,16 @@ use std::alloc::Global;
 
 /// The module that is built in.
 const MODULE: &str =
-    "First DEFINITIONS EXPLICIT TAGS ::= BEGIN\nLevel ::= INTEGER (0..100)\nLow ::= INTEGER (0..9)\nPing ::= SEQUENCE { level INTEGER (0..100), urgent BOOLEAN }\nEND\n";
+    "First DEFINITIONS EXPLICIT TAGS ::= BEGIN\nLevel ::= INTEGER (0..100)\nLow ::= INTEGER (0..9)\n\
+        Ping ::= SEQUENCE { level INTEGER (0..100), urgent BOOLEAN }\nEND\n";
 
 /// The policy that is built in.
 const POLICY: &str =
-    "modules = [\"first.asn1\"]\n[[message]]\nname = \"level\"\nmodule = \"First\"\ntype = \"Level\"\n[[message]]\nname = \"ping\"\nmodule = \"First\"\ntype = \"Ping\"\n[[rule]]\nname = \"low\"\neffect = \"allow\"\nfrom = \"a\"\nto = \"b\"\nmessage = \"level\"\nmodule = \"First\"\ntype = \"Low\"\n[[rule]]\nname = \"ping\"\neffect = \"allow\"\nfrom = \"a\"\nto = \"b\"\nmessage = \"ping\"\nmodule = \"First\"\ntype = \"Ping\"\n";
+    "modules = [\"first.asn1\"]\n[[message]]\nname = \"level\"\nmodule = \"First\"\ntype = \"Level\"\n[[message]]\n\
+        name = \"ping\"\nmodule = \"First\"\ntype = \"Ping\"\n[[rule]]\nname = \"low\"\neffect = \"allow\"\n\
+        from = \"a\"\nto = \"b\"\nmessage = \"level\"\nmodule = \"First\"\ntype = \"Low\"\n[[rule]]\n\
+        name = \"ping\"\neffect = \"allow\"\nfrom = \"a\"\nto = \"b\"\nmessage = \"ping\"\nmodule = \"First\"\n\
+        type = \"Ping\"\n";
 
 /// The lines for the four messages, with status 0.
 ///

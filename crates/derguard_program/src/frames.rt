@@ -1,5 +1,6 @@
 //! Reads the frames of a stream, one after another.
-ghost use Rattle.std.specs.Prelude.{◌≡◌, ◌≤◌, ◌<◌, ◌-◌, ◌+◌, List, ℕ, [], None, length, take, drop, IfOk, IfErr, IfSome, OnErr, true, ◌⊎◌};
+ghost use Rattle.std.specs.Prelude.{◌≡◌, ◌≤◌, ◌<◌, ◌-◌, ◌+◌, List, ℕ, [], None, length, take};
+ghost use Rattle.std.specs.Prelude.{drop, IfOk, IfErr, IfSome, OnErr, true, ◌⊎◌};
 ghost use Rattle.std.specs.Io.KnownBytes.{Consumes, IsAtEnd};
 ghost use Rattle.guard_frames.specs.Frames.{IsFrame};
 ghost use Rattle.guard_frames.specs.Totals.{WentUpBy};

@@ -28,8 +28,8 @@ impl From<OutOfMemory> for Unread {
     }
 }
 
-/// All that the source gives; of more than 1,048,576 octets the first 1,048,577. It is asked 2^40 times at most, and not
-/// at all where there is no memory.
+/// All that the source gives; of more than 1,048,576 octets the first 1,048,577. It is asked 2^40 times at most, and
+/// not at all where there is no memory.
 pub fn read_all<S: Source>(alloc: Global, source: &mut S) -> Result<Vec<u8>, Unread>
     ensures read { IfOk result (λ octets.
         IsRead (source_of S.tells S.takes S.has_failed source.old source.new) octets.items) }

@@ -54,8 +54,8 @@ pub fn law_loaded()
         → IsPolicyAt told path l.policy }
 {}
 
-/// What `show` prints of a value is encoded as the octets that were shown, and as no others, whatever names mean. Left out
-/// are values with a hidden character, and those whose text or encoding is longer than what is read.
+/// What `show` prints of a value is encoded as the octets that were shown, and as no others, whatever names mean. Left
+/// out are values with a hidden character, and those whose text or encoding is longer than what is read.
 pub fn law_shown_encodes()
     ensures there { (m : Meaning) (t : AbstractType) (octets : List ℕ) (v : AbstractValue) → IsTrue (is_sound t)
         → HasNames t → IsTrue (fits t v) → IsTrue (is_seen v) → IsTrue (is_short (der t v))

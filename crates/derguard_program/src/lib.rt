@@ -37,6 +37,7 @@
 //! | Which rules does no case reach? | `reached.rt`, `allowing.rt` | `specs/Reached.antt` |
 //! | What is all that a source gives? | `intake.rt` | `specs/Intake.antt` |
 //! | What is shown below a verdict where it is to be explained? | `reasons.rt`, `allowing.rt` | `specs/Reasons.antt` |
+//! | Which type has a rule, and where is it assigned? | `rule_types.rt` | `specs/RuleTypes.antt` |
 //! | Which line and status has a fault? | `fault.rt`, `outputs.rt` | `specs/Faults.antt`, `specs/Writing.antt` |
 //! | Which policy is built in? | `first_run.rt` | `specs/FirstRun.antt` |
 //! | What is printed for its messages? | `first_run.rt` | `specs/Printing.antt` |
@@ -83,6 +84,7 @@ mod reasons;
 mod records;
 mod reported;
 mod request;
+mod rule_types;
 mod saying;
 mod seen;
 mod sinks;

@@ -1,10 +1,12 @@
 //! The frame of a number, of those of one link in a stream of records.
-ghost use Rattle.std.specs.Prelude.{◌≡◌, ◌<◌, ◌≤◌, ◌+◌, ◌⊎◌, ◌++◌, ℕ, List, [], None, drop, length, take, IfOk, IfErr, IfSome, OnOk};
+ghost use Rattle.std.specs.Prelude.{◌≡◌, ◌<◌, ◌≤◌, ◌+◌, ◌⊎◌, ◌++◌, ℕ, List, [], None};
+ghost use Rattle.std.specs.Prelude.{drop, length, take, IfOk, IfErr, IfSome, OnOk};
 ghost use Rattle.guard_frames.specs.Frames.{IsFrame, IsTooLong, IsUnfinished};
 ghost use Rattle.derguard_program.specs.Devices.{source_of};
 ghost use Rattle.derguard_program.specs.Linked.{IsNthOfLink};
 ghost use Rattle.derguard_program.specs.inside.Headers.{record_of, IsGood};
-ghost use Rattle.derguard_program.specs.inside.Passed.{AreFrames, Completes, Holds, IsPassed, IsUnlinked, Refuses, of_stop};
+ghost use Rattle.derguard_program.specs.inside.Passed.{AreFrames, Completes, Holds, IsPassed};
+ghost use Rattle.derguard_program.specs.inside.Passed.{IsUnlinked, Refuses, of_stop};
 ghost use Rattle.derguard_program.specs.declared.linked.Unlinked.TheVariants as unlinked;
 
 use crate::frames::{LENGTH, LONGEST_BODY};

@@ -32,7 +32,8 @@ pub struct Links {
 }
 
 impl Links {
-    ghost use Rattle.std.specs.Prelude.{◌≡◌, ◌≤◌, ◌⊎◌, Option, List, [], ℕ, Bool, true, false, max, Err, IfOk, IfSome, OnOk, IfErr};
+    ghost use Rattle.std.specs.Prelude.{◌≡◌, ◌≤◌, ◌⊎◌, Option, List, [], ℕ, Bool, true};
+    ghost use Rattle.std.specs.Prelude.{false, max, Err, IfOk, IfSome, OnOk, IfErr};
     ghost use Rattle.std.specs.Io.KnownBytes.{Appends};
     ghost use Rattle.guard_frames.specs.Prefix.{IsProperPrefix};
     ghost use Rattle.derguard_program.specs.declared.stop.Stop.TheVariants.{WriteFailed, ErrorFailed};
@@ -44,7 +45,8 @@ impl Links {
     ghost use Rattle.derguard_program.specs.Saying.{IsUnreadNote};
     ghost use Rattle.derguard_program.specs.Turns.{link_status, renewed_note};
     ghost use Rattle.derguard_program.specs.inside.Begun.{IsSound, answer_lines};
-    ghost use Rattle.derguard_program.specs.inside.Doing.{IsReady, IsKept, mux_of, IsTaken, IsCut, Is, HadEnded, AreEnded, IsEndCut};
+    ghost use Rattle.derguard_program.specs.inside.Doing.{IsReady, IsKept, mux_of, IsTaken, IsCut};
+    ghost use Rattle.derguard_program.specs.inside.Doing.{Is, HadEnded, AreEnded, IsEndCut};
 
     /// Sixteen open links under this policy. Notes are asked for where something is seen.
     pub fn new(alloc: Global, policy: Policy, seen: Option<Seen>) -> Result<Links, OutOfMemory>
@@ -264,7 +266,8 @@ impl Links {
         requires { IfSome begun IsSound }
         ensures all { OnOk result (Appends (E.taken err.old) (E.taken err.new) (answer_lines begun link answer)) }
         ensures part { IfErr result (λ s. (s ≡ ErrorFailed) × (E.has_failed err.new ≡ true) × ((part : List ℕ)
-            × IsProperPrefix part (answer_lines begun link answer) × Appends (E.taken err.old) (E.taken err.new) part)) }
+            × IsProperPrefix part (answer_lines begun link answer)
+            × Appends (E.taken err.old) (E.taken err.new) part)) }
         ensures status { self.new.status ≡ max self.old.status (link_status [] answer) }
         ensures gateway { self.new.gateway ≡ self.old.gateway }
         ensures seen { self.new.seen ≡ self.old.seen }

@@ -5,7 +5,12 @@ ghost use Rattle.guard_model.specs.SameType.{same_site};
 ghost use Rattle.guard_model.specs.TypeView.{type_view, constraint_view, constraints_of};
 ghost use Rattle.guard_policy.specs.PolicyView.{policy_view, route_view, said_view};
 ghost use Rattle.guard_report.specs.Lines.{route_text};
-ghost use Rattle.derguard_program.specs.Listing.{places_in, begins, has_all_of, found_view, is_whole, found_rule, found_rules, denies_all_of, first_denier, may_let_pass, is_closed, effect_text, barren_text, denied_text, closed_text, denier_of, said_text, remarks, rule_line, line_of_message, rule_lines, unused_line, message_lines, messages_lines, has_remark, is_told, told_lines, listing, strict_remarks};
+ghost use Rattle.derguard_program.specs.Listing.{places_in, begins, has_all_of, found_view, is_whole, found_rule};
+ghost use Rattle.derguard_program.specs.Listing.{found_rules, denies_all_of, first_denier, may_let_pass, is_closed};
+ghost use Rattle.derguard_program.specs.Listing.{effect_text, barren_text, denied_text, closed_text, denier_of};
+ghost use Rattle.derguard_program.specs.Listing.{said_text, remarks, rule_line, line_of_message, rule_lines};
+ghost use Rattle.derguard_program.specs.Listing.{unused_line, message_lines, messages_lines, has_remark, is_told};
+ghost use Rattle.derguard_program.specs.Listing.{told_lines, listing, strict_remarks};
 
 use crate::octets::add;
 use crate::parties::{add_case_lines, parties};
@@ -15,7 +20,8 @@ use std::alloc::Global;
 
 /// What the remarks rest on.
 const LAST_LINE: &[u8] =
-    b"  Looked at: integers, sizes and the places of constraints. A rule without a remark may let nothing pass either.\n";
+    b"  Looked at: integers, sizes and the places of constraints. A rule without a remark may let nothing pass \
+        either.\n";
 
 /// A rule, and what is found of it by itself.
 #[derive(Clone, Copy)]

@@ -98,7 +98,8 @@ pub fn guard<F: Files, S: Source, O: Sink, E: Sink, T: Says>(
     ensures stops { IfErr result (λ s. (h : Stops s path.now (mux_of (F.told files.old) links.old)
         (source_of S.tells S.takes S.has_failed input.old input.new)
         (device_of O.taken O.has_failed out.old out.new)
-        (device_of E.taken E.has_failed err.old err.new)) × IsSeenBefore s path.now (mux_of (F.told files.old) links.old)
+        (device_of E.taken E.has_failed err.old err.new))
+        × IsSeenBefore s path.now (mux_of (F.told files.old) links.old)
         (source_of S.tells S.takes S.has_failed input.old input.new)
         (device_of O.taken O.has_failed out.old out.new)
         (device_of E.taken E.has_failed err.old err.new) h links.new.seen) }

@@ -5,7 +5,8 @@ ghost use Rattle.guard_frames.specs.Prefix.{IsProperPrefix};
 ghost use Rattle.derguard_program.specs.Devices.{device_of};
 ghost use Rattle.derguard_program.specs.Explaining.{TellsWith};
 ghost use Rattle.derguard_program.specs.Faults.{IsText};
-ghost use Rattle.derguard_program.specs.Writing.{line_of, IsFaultLine, TellsOctets, TellsLine, TellsNoMemory, TellsText, Tells, Writes};
+ghost use Rattle.derguard_program.specs.Writing.{line_of, IsFaultLine, TellsOctets, TellsLine};
+ghost use Rattle.derguard_program.specs.Writing.{TellsNoMemory, TellsText, Tells, Writes};
 ghost use Rattle.derguard_program.specs.Remarked.{WritesRemarked, remarked_view};
 
 use crate::answer::Remarked;

@@ -1,7 +1,8 @@
 //! Names of senders and receivers that differ in case alone.
 ghost use Rattle.std.specs.Prelude.{◌≡◌, ◌++◌, [], bytes_eq, map, option_map, IfOk, OnOk};
 ghost use Rattle.std.specs.List.{list_any};
-ghost use Rattle.derguard_program.specs.Listing.{found_view, parties, differ_in_case, case_line, first_alike, case_lines_at, case_lines};
+ghost use Rattle.derguard_program.specs.Listing.{found_view, parties, differ_in_case, case_line};
+ghost use Rattle.derguard_program.specs.Listing.{first_alike, case_lines_at, case_lines};
 
 use crate::listing::Found;
 use crate::octets::add;

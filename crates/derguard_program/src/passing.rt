@@ -1,5 +1,6 @@
 //! What goes out of a link, and what is said of it.
-ghost use Rattle.std.specs.Prelude.{◌≡◌, ◌++◌, ◌∷◌, ◌+◌, ◌<◌, ◌≤◌, ◌≢◌, ℕ, List, true, codes, decimal, length, slice_index, Err, OnOk, OnErr, IfSome};
+ghost use Rattle.std.specs.Prelude.{◌≡◌, ◌++◌, ◌∷◌, ◌+◌, ◌<◌, ◌≤◌, ◌≢◌, ℕ, List, true, codes, decimal};
+ghost use Rattle.std.specs.Prelude.{length, slice_index, Err, OnOk, OnErr, IfSome};
 ghost use Rattle.std.specs.Io.KnownBytes.{Appends};
 ghost use Rattle.std.specs.List.{All};
 ghost use Rattle.guard_frames.specs.Calls.{AsksLines};

@@ -1,6 +1,7 @@
 //! What is asked of one message.
 ghost use Rattle.std.specs.Prelude.{◌≡◌, option_map};
-ghost use Rattle.derguard_program.specs.Questions.{question_view, frame_spot, octets_place, place_by, decide_place, show_place, place_view, spot_view};
+ghost use Rattle.derguard_program.specs.Questions.{question_view, frame_spot, octets_place, place_by, decide_place};
+ghost use Rattle.derguard_program.specs.Questions.{show_place, place_view, spot_view};
 
 /// What the words give of one message: by which policy it is asked of, and where its octets are.
 #[derive(Clone, Copy, Debug, PartialEq, Eq)]

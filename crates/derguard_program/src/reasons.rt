@@ -10,14 +10,18 @@ ghost use Rattle.guard_policy.specs.Policies.{declared_type};
 ghost use Rattle.guard_policy.specs.PolicyView.{policy_view, route_view, said_view};
 ghost use Rattle.guard_policy.specs.Verdicts.{verdict_view};
 ghost use Rattle.guard_notes.specs.Sources.{place_lines, sources_view};
+ghost use Rattle.derguard_program.specs.RuleTypes.{grounds_view, rule_type_lines};
 ghost use Rattle.derguard_program.specs.Listing.{places_in};
 ghost use Rattle.guard_notes.specs.Marking.{columns};
-ghost use Rattle.derguard_program.specs.Reasons.{step_name, name_at, name_before, part_shown, part_line, violation_lines, shortfall_lines, allowing_lines, lines_of_places, type_lines, denied_lines, OfValue, ExplainsVerdict};
+ghost use Rattle.derguard_program.specs.Reasons.{step_name, name_at, name_before, part_shown, part_line};
+ghost use Rattle.derguard_program.specs.Reasons.{violation_lines, shortfall_lines, allowing_lines, lines_of_places};
+ghost use Rattle.derguard_program.specs.Reasons.{type_lines, denied_lines, OfValue, ExplainsVerdict};
 ghost use Rattle.guard_notes.specs.declared.notes.Place.TheVariants.{At};
 ghost use Rattle.derguard_program.specs.inside.Values.{HasValue};
 
 use crate::allowing::allowing_lines;
 use crate::octets::add;
+use crate::rule_types::{Grounds, rule_type_lines};
 use guard_der::{DecodeFault, decode};
 use guard_eval::Violation;
 use guard_model::{Cons, OutOfMemory, Site, Step, Ty, Value};
@@ -26,17 +30,18 @@ use guard_policy::{Policy, Route, SaidRule, Verdict};
 use guard_report::{part_text, type_at};
 use std::alloc::Global;
 
-/// What comes below the text of the verdict, which is the policy's on these octets. It fails only where memory runs out.
+/// What comes below the text of the verdict, which is the policy's on these octets. It fails only where memory runs
+/// out.
 pub fn verdict_note(
     alloc: Global,
-    sources: &Sources,
+    grounds: &Grounds,
     policy: &Policy,
     route: &Route,
     octets: &[u8],
     verdict: &Verdict,
 ) -> Result<Vec<u8>, OutOfMemory>
     requires { IsReason (policy_view policy.now) (route_view route.now) octets.now (verdict_view verdict.now) }
-    ensures { IfOk result (λ note. ExplainsVerdict (sources_view sources.now) (policy_view policy.now)
+    ensures { IfOk result (λ note. ExplainsVerdict (grounds_view grounds.now) (policy_view policy.now)
         (route_view route.now) octets.now (verdict_view verdict.now) note.items) }
 {
     match verdict {
@@ -50,11 +55,11 @@ pub fn verdict_note(
             "  The octets are no DER encoding of a value of the declared type. docs/FAULTS.md has the breaches.\n",
         ),
         Verdict::OutsideType(violation) => {
-            outside_note(alloc, sources, policy, route, octets, violation)
+            outside_note(alloc, &grounds.sources, policy, route, octets, violation)
         }
-        Verdict::DeniedBy(number) => denied_note(alloc, sources, policy.rule(*number)),
+        Verdict::DeniedBy(number) => denied_note(alloc, grounds, *number, policy.rule(*number)),
         Verdict::NotAllowed(shortfalls) => {
-            not_allowed_note(alloc, sources, policy, route, octets, shortfalls)
+            not_allowed_note(alloc, &grounds.sources, policy, route, octets, shortfalls)
         }
         Verdict::NoRule => sentence(
             alloc,
@@ -144,21 +149,37 @@ pub fn value_of<'a>(
     }
 }
 
-/// The lines of the constraints of the denying rule's type, and what follows for the value.
+/// The type of the denying rule of this number, where it is assigned and constrained, and what follows for the value.
 fn denied_note(
     alloc: Global,
-    sources: &Sources,
+    grounds: &Grounds,
+    number: usize,
     rule: Option<SaidRule>,
 ) -> Result<Vec<u8>, OutOfMemory>
     ensures { IfOk result (λ note. note.items
-        ≡ denied_lines (sources_view sources.now) (option_map said_view rule.entry)) }
+        ≡ denied_lines (grounds_view grounds.now) number (option_map said_view rule.entry)) }
 {
-    let mut note = type_lines(alloc, sources, rule)?;
+    let mut note = Vec::new(alloc);
+    add_type(alloc, &mut note, grounds, number)?;
+    let constraints = type_lines(alloc, &grounds.sources, rule)?;
+    add(&mut note, &constraints)?;
     add(
         &mut note,
         b"  This denying rule has the value, so no allowing rule can let it pass.\n",
     )?;
     Ok(note)
+}
+
+fn add_type(
+    alloc: Global,
+    note: &mut Vec<u8>,
+    grounds: &Grounds,
+    number: usize,
+) -> Result<(), OutOfMemory>
+    ensures { OnOk result (note.new.items ≡ note.old.items ++ rule_type_lines (grounds_view grounds.now) number) }
+{
+    let lines = rule_type_lines(alloc, grounds, number)?;
+    add(note, lines.as_bytes())
 }
 
 fn type_lines(

@@ -1,5 +1,6 @@
 //! The records of many links, in one stream.
-ghost use Rattle.std.specs.Prelude.{◌≡◌, ◌<◌, ◌≤◌, ◌⊎◌, ◌-◌, ℕ, List, [], true, length, take, drop, IfOk, IfErr, IfSome, OnErr, None};
+ghost use Rattle.std.specs.Prelude.{◌≡◌, ◌<◌, ◌≤◌, ◌⊎◌, ◌-◌, ℕ, List, [], true, length};
+ghost use Rattle.std.specs.Prelude.{take, drop, IfOk, IfErr, IfSome, OnErr, None};
 ghost use Rattle.std.specs.Io.KnownBytes.{Consumes, IsAtEnd};
 ghost use Rattle.guard_frames.specs.Totals.{WentUpBy};
 ghost use Rattle.derguard_program.specs.Records.{record_octets, IsBadHeader};

@@ -7,7 +7,7 @@ ghost use Rattle.derguard_program.specs.inside.Reported.{line_octets};
 
 use arrayvec::ArrayVec;
 use guard_frames::{Decide, read_body};
-use guard_policy::LastRoute;
+use guard_policy::{LastRoute, Passing};
 use itoa::Buffer;
 use std::alloc::Global;
 
@@ -44,13 +44,13 @@ pub fn line_of<D: Decide>(alloc: Global, policy: &D, number: u64, frame: &[u8]) 
     ensures ends { IfSome result (λ line. EndsLine (line_octets line)) }
 {
     let body = body_of(frame);
-    if policy.goes(body, &mut LastRoute::none()) {
+    let Passing::Stays(marks) = policy.goes(body, &mut LastRoute::none()) else {
         return None;
-    }
+    };
     let Some(names) = read_body(body) else {
         return Some(Line::Short(numbered(number, b" bad-header\n")));
     };
-    match policy.line(alloc, number, &names) {
+    match policy.line(alloc, number, &names, marks) {
         Ok(line) => Some(Line::Long(line)),
         Err(_) => Some(Line::Short(numbered(number, b" no-memory\n"))),
     }

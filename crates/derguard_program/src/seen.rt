@@ -1,7 +1,8 @@
 //! What is seen of a stream, and the notes that end it.
 ghost use Rattle.std.specs.Prelude.{◌≡◌, ◌++◌, ℕ, List, IfOk, OnOk, decimal};
 ghost use Rattle.derguard_program.specs.Faults.{IsText};
-ghost use Rattle.derguard_program.specs.Verbose.{nothing_seen, totals_line, count_line, count_lines, last_lines, frame_line, fault_line, fault_lines};
+ghost use Rattle.derguard_program.specs.Verbose.{nothing_seen, totals_line, count_line, count_lines};
+ghost use Rattle.derguard_program.specs.Verbose.{last_lines, frame_line, fault_line, fault_lines};
 ghost use Rattle.derguard_program.specs.Writing.{line_of};
 ghost use Rattle.derguard_program.specs.declared.fault.Fault.TheVariants.{Run};
 

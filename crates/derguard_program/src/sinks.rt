@@ -1,5 +1,6 @@
 //! A gateway over sinks in memory, which are emptied after each event.
-ghost use Rattle.std.specs.Prelude.{◌≡◌, ◌≤◌, Some, Err, List, ℕ, not, nat_eq, true, length, slice_get, OnOk, OnErr, IfOk, IfErr};
+ghost use Rattle.std.specs.Prelude.{◌≡◌, ◌≤◌, Some, Err, List, ℕ, not, nat_eq, true};
+ghost use Rattle.std.specs.Prelude.{length, slice_get, OnOk, OnErr, IfOk, IfErr};
 ghost use Rattle.std.specs.List.{All};
 ghost use Rattle.std.specs.Io.KnownBytes.{Appends};
 ghost use Rattle.guard_frames.specs.declared.seats.Ends.{Ends};

@@ -1,5 +1,6 @@
 //! Which cases that are kept beside a policy come out as they should.
-ghost use Rattle.std.specs.Prelude.{◌≡◌, ◌⊎◌, ◌++◌, ℕ, List, codes, map, option_map, string_bytes, Ok, Err, IfOk, IfErr, OnOk, IsTrue};
+ghost use Rattle.std.specs.Prelude.{◌≡◌, ◌⊎◌, ◌++◌, ℕ, List, codes, map, option_map, string_bytes};
+ghost use Rattle.std.specs.Prelude.{Ok, Err, IfOk, IfErr, OnOk, IsTrue};
 ghost use Rattle.hex.specs.Hex.{decode_of};
 ghost use Rattle.hex.specs.declared.error.FromHexError.{FromHexError};
 ghost use Rattle.toml.specs.Data.{Items};
@@ -17,7 +18,10 @@ ghost use Rattle.derguard_program.specs.Cases.{case_view, SaysCases, IsCasesFaul
 ghost use Rattle.derguard_program.specs.Devices.{device_of, IsUntouched};
 ghost use Rattle.derguard_program.specs.Files.{Told, IsLater};
 ghost use Rattle.derguard_program.specs.Reading.{AbstractLoaded, IsLoadedAt, IsNoPolicyAt, loaded_view};
-ghost use Rattle.derguard_program.specs.Testing.{AreTried, CameOfDigits, CameOfOctets, CameOfText, CameOfValue, IsCame, IsTested, TestsFile, TestsText, came_view, case_line, case_route, cases_path, differing_line, digits_in, failures, is_blank, is_wanted, last_text, name_text, only, tested_status};
+ghost use Rattle.derguard_program.specs.Testing.{AreTried, CameOfDigits, CameOfOctets, CameOfText, CameOfValue, IsCame};
+ghost use Rattle.derguard_program.specs.Testing.{IsTested, TestsFile, TestsText, came_view, case_line, case_route};
+ghost use Rattle.derguard_program.specs.Testing.{cases_path, differing_line, digits_in, failures, is_blank, is_wanted};
+ghost use Rattle.derguard_program.specs.Testing.{last_text, name_text, only, tested_status};
 ghost use Rattle.derguard_program.specs.Writing.{Tells};
 ghost use Rattle.derguard_program.specs.inside.Caseless.{OfFault};
 ghost use Rattle.derguard_program.specs.inside.Loading.{TestsOver};
@@ -46,9 +50,9 @@ use toml::Value;
 /// The file of cases, where none is given.
 const CASES: &str = "tests.toml";
 
-/// Writes a line for each case that doesn't come out as it should, how many there are, and to cover them a line for each
-/// rule that none reaches. It answers the status: 0; 1 where some cases don't; 2 where there is no policy at the path, or
-/// no cases at theirs; 3 where a device failed or memory ran out.
+/// Writes a line for each case that doesn't come out as it should, how many there are, and to cover them a line for
+/// each rule that none reaches. It answers the status: 0; 1 where some cases don't; 2 where there is no policy at the
+/// path, or no cases at theirs; 3 where a device failed or memory ran out.
 pub fn test<F: Files, O: Sink, E: Sink>(
     alloc: Global,
     path: &str,
@@ -234,7 +238,8 @@ fn answer_of(
     })
 }
 
-/// What comes of cases: the lines of those that fail, how many these are, and the numbers of the rules that are reached.
+/// What comes of cases: the lines of those that fail, how many these are, and the numbers of the rules that are
+/// reached.
 #[derive(Drop)]
 pub struct Outcome {
     pub lines: Vec<u8>,

@@ -60,8 +60,8 @@ impl Texts {
         Ok(slices)
     }
 
-    /// The trees of the modules. It refuses with Schema, by the first fault of tokens or grammar, or where there are too
-    /// many modules.
+    /// The trees of the modules. It refuses with Schema, by the first fault of tokens or grammar, or where there are
+    /// too many modules.
     pub fn trees(&self, alloc: Global) -> Result<Vec<Module<'_>>, Fault>
         ensures read { IfOk result (λ trees. ReadsModules (map (λ text. text.items) self.now.modules.items)
             (Ok (map module_view trees.items))) }

@@ -1,10 +1,14 @@
 //! The words of the command line. `clap` splits them.
 ghost use Rattle.std.specs.Prelude.{◌≡◌, ℕ, List, Some, None, codes, false, map, option_map, string_bytes, IfOk, IfErr};
-ghost use Rattle.clap.specs.Words.{HasKind, Row, Text, app_of, fault_of, first_of, found_of, rows_of, rule_of, shape_of, subcommand_rows_of};
+ghost use Rattle.clap.specs.Words.{HasKind, Row, Text, app_of, fault_of, first_of, found_of};
+ghost use Rattle.clap.specs.Words.{rows_of, rule_of, shape_of, subcommand_rows_of};
 ghost use Rattle.derguard_program.specs.Encodes.{encoding_view};
 ghost use Rattle.derguard_program.specs.Questions.{question_view};
 ghost use Rattle.derguard_program.specs.Requests.{AbstractRequest, request_view};
-ghost use Rattle.derguard_program.specs.Words.{AreFound, IsCommand, ask_shape, check_shape, decide_shape, encode_shape, flag_of, flag_rule, free_option_rule, free_place_rule, free_rule, mux_shape, option_rule, place_rule, required_rule, run_shape, show_shape, test_shape, the_app};
+ghost use Rattle.derguard_program.specs.Words.{AreFound, IsCommand, ask_shape, check_shape, decide_shape, encode_shape};
+ghost use Rattle.derguard_program.specs.Words.{flag_of, flag_rule, free_option_rule, free_place_rule, free_rule};
+ghost use Rattle.derguard_program.specs.Words.{mux_shape, option_rule, place_rule, required_rule, run_shape};
+ghost use Rattle.derguard_program.specs.Words.{show_shape, test_shape, the_app};
 
 use crate::encoding::Encoding;
 use crate::question::Question;
@@ -16,15 +20,20 @@ use std::alloc::{AllocError, Global};
 pub const VERSION: &str = "0.1.0";
 
 const ABOUT: &str =
-    "Lets through the DER messages that a policy over ASN.1 types allows, and says why it stops others. Without words it decides four messages that are built in.";
+    "Lets through the DER messages that a policy over ASN.1 types allows, and says why it stops others. Without \
+        words it decides four messages that are built in.";
 
-const EXAMPLE: &str =
-    "Example:\n  derguard check examples/orders.toml\n\nStatuses: 0 all passed, was accepted, shown or encoded; 1 something was stopped or remarked, show has no value, or encode's value is outside its type or its message isn't declared; 2 bad words, policy, modules, digits or text of a value, a file that can't be read, a message that is too long, or a frame that isn't there or can't be made; 3 a stream, link, record or device failed, or no memory.";
+const EXAMPLE: &str = "Example:\n  derguard check examples/orders.toml\n\n\
+        Statuses: 0 all passed, was accepted, shown or encoded; 1 something was stopped or remarked, show has no \
+        value, or encode's value is outside its type or its message isn't declared; 2 bad words, policy, modules, \
+        digits or text of a value, a file that can't be read, a message that is too long, or a frame that isn't \
+        there or can't be made; 3 a stream, link, record or device failed, or no memory.";
 
 const CHECK_EXAMPLE: &str = "Example:\n  derguard check examples/orders.toml --explain";
 
 const DECIDE_EXAMPLE: &str =
-    "Example:\n  derguard decide examples/orders.toml --from north --to south --message order 300B800105810101A403020107";
+    "Example:\n  derguard decide examples/orders.toml --from north --to south --message order \
+        300B800105810101A403020107";
 
 const SHOW_EXAMPLE: &str =
     "Example:\n  derguard show examples/orders.toml --message order 300B800105810101A403020107";
@@ -306,7 +315,8 @@ fn run<'a>(alloc: Global) -> Result<Command<'a>, AllocError>
 {
     Command::new(alloc, "run")
         .about(
-            "Guards a stream: frames from standard input, those that pass to standard output, a line for each other one to standard error.",
+            "Guards a stream: frames from standard input, those that pass to standard output, a line for each other \
+                one to standard error.",
         )
         .after_help(RUN_EXAMPLE)
         .arg(policy(alloc))?
@@ -318,7 +328,8 @@ fn ask<'a>(alloc: Global) -> Result<Command<'a>, AllocError>
 {
     Command::new(alloc, "ask")
         .about(
-            "Says of each frame what becomes of it: frames from standard input, a line for each to standard output before the next is read.",
+            "Says of each frame what becomes of it: frames from standard input, a line for each to standard output \
+                before the next is read.",
         )
         .after_help(ASK_EXAMPLE)
         .arg(policy(alloc))
@@ -329,7 +340,8 @@ fn mux<'a>(alloc: Global) -> Result<Command<'a>, AllocError>
 {
     Command::new(alloc, "mux")
         .about(
-            "Guards sixteen links in one stream of records: pieces and ends of links, and new policies, from standard input; what passes in records to standard output, lines to standard error.",
+            "Guards sixteen links in one stream of records: pieces and ends of links, and new policies, from \
+                standard input; what passes in records to standard output, lines to standard error.",
         )
         .after_help(MUX_EXAMPLE)
         .arg(policy(alloc))?

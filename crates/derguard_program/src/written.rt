@@ -1,7 +1,7 @@
 //! The value that a text alone writes, and its encoding.
 //!
-//! The grammar has values only where modules assign them. So the tokens of the text are read among those of a module
-//! that assigns their value and nothing else. The names of values in it are those of another module: that of the type.
+//! The grammar has values only within modules. So the tokens of the text are read among those of a module that assigns
+//! their value and nothing else. The names of values in it are those of another module: that of the type.
 ghost use Rattle.std.specs.Prelude.{◌≡◌, Some, List, IfOk, IfErr, IsTrue};
 ghost use Rattle.guard_model.specs.declared.site.Site.{Site};
 ghost use Rattle.guard_model.specs.TypeView.{type_view};
@@ -23,7 +23,9 @@ ghost use Rattle.guard_values.specs.Denotes.{Denotes};
 ghost use Rattle.reads_back.specs.ReadingBack.{IsReadAs};
 ghost use Rattle.derguard_program.specs.Encodes.{IsEncoding};
 ghost use Rattle.derguard_program.specs.ValueTexts.{IsNoValue, OfText};
-ghost use Rattle.derguard_program.specs.inside.Assigned.{assigned, sites_around, AssignsOne, IsLexFault, IsSyntaxFault, IsUnexpected, IsValueFault, syntax_refusal, value_refusal};
+ghost use Rattle.derguard_program.specs.inside.Assigned.{assigned, sites_around, AssignsOne, IsLexFault, IsSyntaxFault};
+ghost use Rattle.derguard_program.specs.inside.Assigned.{IsUnexpected, IsValueFault, place_of, syntax_refusal};
+ghost use Rattle.derguard_program.specs.inside.Assigned.{value_refusal};
 
 use crate::fault::Fault;
 use guard_der::{EncodeFault, encode};
@@ -38,11 +40,11 @@ use std::alloc::{AllocError, Global};
 /// The number of the text in a site.
 const PLACE: u32 = 1;
 
-/// The value of the message that the text writes, and its encoding. Names in it mean what they mean in the module of the
-/// message's type.
+/// The value of the message that the text writes, and its encoding. Names in it mean what they mean in the module of
+/// the message's type.
 ///
-/// It refuses with Schema where the text has no tokens (L1 to L7), the grammar has no value with them (P1 to P3), or the
-/// tree denotes no value of the type (V1 to V8).
+/// It refuses with Schema where the text has no tokens (L1 to L7), the grammar has no value with them (P1 to P3), or
+/// the tree denotes no value of the type (V1 to V8).
 pub fn encoded(
     alloc: Global,
     modules: &BuiltModules,
@@ -126,7 +128,7 @@ fn value_of(
     }
 }
 
-/// Want of memory is no fault of the text.
+/// That memory ran out is no fault of the text.
 fn refused_value(fault: ValueFault) -> Fault
     ensures { result ≡ value_refusal fault }
 {
@@ -141,7 +143,8 @@ fn refused_value(fault: ValueFault) -> Fault
 /// The module that assigns the value which the tokens of the text write.
 fn module_with<'a>(alloc: Global, text: &'a [u8], tokens: &[Token]) -> Result<Module<'a>, Fault>
     ensures written { IfOk result (λ m. IsWritten (module_view m) (assigned (lexemes_of text.now tokens.now))) }
-    ensures sites { IfOk result (λ m. (end : Site) × HasSites (module_view m) (sites_around (sites_of tokens.now) end)) }
+    ensures sites { IfOk result (λ m. (end : Site)
+        × HasSites (module_view m) (sites_around (sites_of tokens.now) end)) }
     ensures only { IfOk result (λ m. (w : WrittenModule) → IsWritten w (assigned (lexemes_of text.now tokens.now))
         → (ss : List Site) × (module_view m ≡ sited w ss)) }
     ensures none { IfErr result (OfText (IsSyntaxFault text.now tokens.now)) }
@@ -149,18 +152,92 @@ fn module_with<'a>(alloc: Global, text: &'a [u8], tokens: &[Token]) -> Result<Mo
     let around = tokens_around(alloc, text, tokens)?;
     match parse(alloc, PLACE, text, &around) {
         Ok(module) => Ok(module),
-        Err(fault) => Err(refused_syntax(fault)),
+        Err(fault) => Err(first_fault(alloc, text, tokens, fault)),
     }
 }
 
-/// Want of memory is no fault of the text.
-fn refused_syntax(fault: SyntaxFault) -> Fault
-    ensures { result ≡ syntax_refusal fault }
+/// The fault, or P1 at a token before it that stands behind a whole value. That memory ran out is no fault of the text.
+///
+/// Behind the value that it assigns a module may go on with END or with another assignment, so it may stop later than
+/// the first token there. Behind the default of a component it may go on with a comma or a brace alone.
+fn first_fault(alloc: Global, text: &[u8], tokens: &[Token], fault: SyntaxFault) -> Fault
+    requires { OfText (IsSyntaxFault text.now tokens.now) (syntax_refusal fault) }
+    ensures { OfText (IsSyntaxFault text.now tokens.now) result }
+{
+    match place_of(&fault) {
+        Some(site) => {
+            let first = first_of(stop_of_default(alloc, text, tokens), &site, fault);
+            Fault::Schema(SchemaFault::Syntax(first))
+        }
+        None => Fault::NoMemory,
+    }
+}
+
+/// P1 at the stop, where that comes before the site of the fault; or else the fault.
+fn first_of(stop: Option<Site>, site: &Site, fault: SyntaxFault) -> SyntaxFault {
+    match stop {
+        Some(stop) if is_before(&stop, site) => SyntaxFault::Unexpected(stop),
+        _ => fault,
+    }
+}
+
+fn place_of(fault: &SyntaxFault) -> Option<Site>
+    ensures { result ≡ place_of fault.now }
 {
     match fault {
-        SyntaxFault::OutOfMemory => Fault::NoMemory,
-        fault => Fault::Schema(SchemaFault::Syntax(fault)),
+        SyntaxFault::Unexpected(site) => Some(*site),
+        SyntaxFault::Unsupported(_, site) => Some(*site),
+        SyntaxFault::TooDeep(site) => Some(*site),
+        SyntaxFault::OutOfMemory => None,
     }
+}
+
+/// Whether the one place of the text comes before the other.
+fn is_before(one: &Site, other: &Site) -> bool {
+    one.line < other.line || (one.line == other.line && one.column < other.column)
+}
+
+/// Where a module stops in which the tokens of the text are the default of a component, if it has P1.
+fn stop_of_default(alloc: Global, text: &[u8], tokens: &[Token]) -> Option<Site> {
+    match tokens_of_default(alloc, text, tokens) {
+        Ok(around) => match parse(alloc, PLACE, text, &around) {
+            Err(SyntaxFault::Unexpected(site)) => Some(site),
+            _ => None,
+        },
+        Err(_) => None,
+    }
+}
+
+/// The tokens of that module. Those behind the text are where it ends.
+fn tokens_of_default(
+    alloc: Global,
+    text: &[u8],
+    tokens: &[Token],
+) -> Result<Vec<Token>, AllocError> {
+    let start = Site {
+        text: PLACE,
+        line: 1,
+        column: 1,
+    };
+    let before = [
+        token(TokenKind::UpperName, start),
+        token(TokenKind::Reserved(Reserved::Definitions), start),
+        token(TokenKind::Mark(Mark::Assignment), start),
+        token(TokenKind::Reserved(Reserved::Begin), start),
+        token(TokenKind::UpperName, start),
+        token(TokenKind::Mark(Mark::Assignment), start),
+        token(TokenKind::Reserved(Reserved::Sequence), start),
+        token(TokenKind::Mark(Mark::LeftBrace), start),
+        token(TokenKind::LowerName, start),
+        token(TokenKind::Reserved(Reserved::Null), start),
+        token(TokenKind::Reserved(Reserved::Default), start),
+    ];
+    let end = end_of(PLACE, text);
+    let mut around = Vec::from_slice(alloc, &before)?;
+    around.extend_from_slice(tokens)?;
+    around.push(token(TokenKind::Mark(Mark::RightBrace), end))?;
+    around.push(token(TokenKind::Reserved(Reserved::End), end))?;
+    Ok(around)
 }
 
 /// The tokens of that module. Those that aren't of the text have no octets there; the last is where the text ends.

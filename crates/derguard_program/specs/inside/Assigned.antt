@@ -1,5 +1,5 @@
 -- The module that assigns a written value, as the code makes it, and why a text has no value in it.
-use Rattle.std.specs.Prelude.{◌≡◌, ℕ, List, [], ◌∷◌, ◌++◌, Some}
+use Rattle.std.specs.Prelude.{◌≡◌, ℕ, List, [], ◌∷◌, ◌++◌, Option, Some, None}
 use Rattle.guard_model.specs.declared.site.Site.{Site}
 use Rattle.guard_model.specs.AbstractType.{AbstractType}
 use Rattle.guard_lexer.specs.Lexing.{FirstFault}
@@ -53,6 +53,13 @@ IsSyntaxFault text tokens _ = ⊥
 -- it names a token
 abbrev pub IsUnexpected : SchemaFault → Type 0
 IsUnexpected f = (site : Site) × (f ≡ Syntax (Unexpected site))
+
+-- the token that it names
+abbrev pub place_of : SyntaxFault → Option Site
+place_of (trees.Unexpected site) = Some site
+place_of (trees.Unsupported spelling site) = Some site
+place_of (trees.TooDeep site) = Some site
+place_of trees.OutOfMemory = None
 
 -- the tree denotes no value of the type, where names mean this
 abbrev pub IsValueFault : Meaning → AbstractType → WrittenValue → SchemaFault → Type 0

@@ -3,13 +3,13 @@ use Rattle.std.specs.Prelude.{IfOk}
 use Rattle.guard_policy.specs.Policies.{AbstractRoute}
 use Rattle.guard_policy.specs.PolicyView.{policy_view}
 use Rattle.derguard_program.specs.Answers.{answer_view, IsExplainedVerdict}
-use Rattle.guard_notes.specs.Sources.{sources_view}
+use Rattle.derguard_program.specs.RuleTypes.{grounds_view}
 use Rattle.derguard_program.proofs.deciding.explained_answer.Goals as goal
 
 pub returns-in-Some : goal.returns-in-Some
 returns-in-Some c =
     let p = policy_view c.args.policy.now in
-    let s = sources_view c.args.sources.now in
-    let decided = subst (λ (r : AbstractRoute). IfOk c.explained_verdict.result (λ a. IsExplainedVerdict s p r c.in-Some.body.message.now (answer_view a)))
+    let g = grounds_view c.args.grounds.now in
+    let decided = subst (λ (r : AbstractRoute). IfOk c.explained_verdict.result (λ a. IsExplainedVerdict g p r c.in-Some.body.message.now (answer_view a)))
     c.route_in.ensures c.explained_verdict.ensures in
     rw c.in-Some.is decided

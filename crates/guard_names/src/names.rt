@@ -35,8 +35,8 @@ pub struct Names<'m, 'a> {
     pub ghost meant: { (home name : List ℕ) →
         meaning_in meanings home name ≡ number_meant (map module_view modules.now) home name } by { Prim.hlevel props },
     pub ghost ordered: { IsOrder (length (definitions (map module_view modules.now)))
-        (Uses (map module_view modules.now)) order.items } by { IsOrder-prop (length (definitions (map module_view modules.now)))
-            (Uses (map module_view modules.now)) order.items },
+        (Uses (map module_view modules.now)) order.items } by { IsOrder-prop
+            (length (definitions (map module_view modules.now))) (Uses (map module_view modules.now)) order.items },
     pub ghost whole: { length places.items ≡ length (definitions (map module_view modules.now)) },
     pub ghost placed: { (number : ℕ) → number < length places.items →
         slice_get order.items (slice_index_or places.items number 0) ≡ Some number } by { Prim.hlevel props },

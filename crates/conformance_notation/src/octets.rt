@@ -3,6 +3,7 @@ use crate::unread::Unread;
 use conformance_rows::octets_in;
 use guard_model::Bits;
 use std::alloc::Global;
+use std::sync::ArcSlice;
 
 /// The octets that hexadecimal digits write, two for each, the last one filled with zeros; spaces are for reading.
 pub fn octets_of(alloc: Global, text: &str) -> Result<Vec<u8>, Unread> {
@@ -16,7 +17,7 @@ pub fn octets_of(alloc: Global, text: &str) -> Result<Vec<u8>, Unread> {
 pub fn bits_of_digits(alloc: Global, text: &str) -> Result<Bits, Unread> {
     let digits = text.chars().filter(|c| *c != ' ').count();
     Ok(Bits {
-        octets: octets_of(alloc, text)?,
+        octets: ArcSlice::from_vec(octets_of(alloc, text)?)?,
         unused: if digits % 2 == 0 { 0 } else { 4 },
     })
 }
@@ -51,5 +52,8 @@ pub fn bits_of(alloc: Global, text: &str) -> Result<Bits, Unread> {
     if unused > 0 {
         octets.push(octet)?;
     }
-    Ok(Bits { octets, unused })
+    Ok(Bits {
+        octets: ArcSlice::from_vec(octets)?,
+        unused,
+    })
 }

@@ -6,6 +6,7 @@ use crate::words::Words;
 use guard_model::{Bits, Comp, Kind, Named, Presence, Ty, Value};
 use std::alloc::Global;
 use std::str;
+use std::sync::{ArcSlice, ArcStr};
 
 /// The value that a text writes in the notation of a type. It need not fit the type.
 pub fn value_of(alloc: Global, ty: &Ty, text: &str) -> Result<Box<Value>, Unread> {
@@ -105,9 +106,9 @@ impl Words<'_> {
             Kind::Int(named) => Ok(Value::Int(self.number_of(named)?)),
             Kind::Enumerated(items) => Ok(Value::Enumerated(number_of(items, self.word())?)),
             Kind::Bits(_) => Ok(Value::Bits(self.bits(alloc)?)),
-            Kind::Octets => Ok(Value::Octets(self.octets(alloc)?)),
-            Kind::Oid => Ok(Value::Oid(self.arcs(alloc)?)),
-            Kind::Chars(_) => Ok(Value::Chars(self.characters(alloc)?)),
+            Kind::Octets => Ok(Value::Octets(ArcSlice::from_vec(self.octets(alloc)?)?)),
+            Kind::Oid => Ok(Value::Oid(ArcSlice::from_vec(self.arcs(alloc)?)?)),
+            Kind::Chars(_) => Ok(Value::Chars(ArcStr::from_string(self.characters(alloc)?)?)),
             _ => Err(Unread::Malformed),
         }
     }

@@ -20,6 +20,7 @@ use crate::integers::{fault_of_integer, twos_complement};
 use crate::object_id::object_identifier;
 use guard_model::{Bits, CharKind, Kind, Named, Path, Value};
 use std::alloc::Global;
+use std::sync::{ArcSlice, ArcStr};
 
 /// The value that contents octets of a simple kind say.
 pub fn value_of_simple(
@@ -36,7 +37,7 @@ pub fn value_of_simple(
         Kind::Bool => boolean(path, at, octets),
         Kind::Int(_) => integer(path, at, octets),
         Kind::Bits(names) => bit_string(alloc, path, names, at, octets),
-        Kind::Octets => Ok(Value::Octets(Vec::from_slice(alloc, octets)?)),
+        Kind::Octets => Ok(Value::Octets(ArcSlice::from_slice(alloc, octets)?)),
         Kind::Null => null(path, at, octets),
         Kind::Oid => object_identifier(alloc, path, at, octets),
         Kind::Enumerated(items) => enumerated(path, items, at, octets),
@@ -93,7 +94,7 @@ fn bit_string(
         return Err(fault_at(path, Code::TrailingZeroBit, at));
     }
     Ok(Value::Bits(Bits {
-        octets: Vec::from_slice(alloc, rest)?,
+        octets: ArcSlice::from_slice(alloc, rest)?,
         unused: *unused,
     }))
 }
@@ -110,7 +111,7 @@ fn text(
         (unless_fault at (characters_fault kind octets.now) (abstract.characters (characters_of kind octets.now))) }
 {
     match text_of(kind, octets) {
-        Some(text) => Ok(Value::Chars(String::from_str(alloc, text)?)),
+        Some(text) => Ok(Value::Chars(ArcStr::from_str(alloc, text)?)),
         None => Err(fault_at(path, Code::Characters, at)),
     }
 }

@@ -13,6 +13,7 @@ use crate::breach::Code;
 use crate::faults::{Fault, fault_at};
 use guard_model::{OutOfMemory, Path, Value};
 use std::alloc::Global;
+use std::sync::ArcSlice;
 
 /// From here on a number has no room for seven bits more.
 const FULL: u128 = 1 << 121;
@@ -48,7 +49,7 @@ pub fn object_identifier(
         }
     }
     if starts {
-        Ok(Value::Oid(arcs))
+        Ok(Value::Oid(ArcSlice::from_vec(arcs)?))
     } else {
         Err(fault_at(path, Code::ObjectIdContents, at))
     }

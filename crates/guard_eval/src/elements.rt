@@ -42,7 +42,7 @@ pub fn size_of(value: &Value) -> Option<i128>
     ensures { result ≡ option_map pos (size_of (value_view value.now)) }
 {
     match value {
-        Value::Bits(bits) => Some(count_bits(&bits.octets, bits.unused)),
+        Value::Bits(bits) => Some(count_bits(bits.octets.as_slice(), bits.unused)),
         Value::Octets(octets) => Some(octets.len() as i128),
         Value::Chars(text) => Some(count_characters(text) as i128),
         Value::Items(items) => Some(items.len() as i128),

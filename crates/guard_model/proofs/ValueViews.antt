@@ -1,13 +1,16 @@
 -- One level of the abstract value of a value.
-use Rattle.std.proofs.Common.{◌≡◌, List, [], ◌∷◌, Option, Some, None, ℕ, String, Global, string_bytes, refl, ap, sym, ◌∙◌, map}
+use Rattle.std.proofs.Common.{◌≡◌, List, [], ◌∷◌, Option, Some, None, ℕ, Global, refl, ap, sym, ◌∙◌, map}
+use Rattle.std.specs.Arc.{arc_str_bytes, arc_slice_items}
 use Rattle.std.specs.Global.{Vec, Box}
+use Rattle.std.specs.declared.sync.ArcSlice.{ArcSlice}
+use Rattle.std.specs.declared.sync.ArcStr.{ArcStr}
 use Rattle.std.specs.Str.{chars}
-use Rattle.guard_model.specs.AbstractValue.{AbstractValue, fields, items, chosen, characters, present, absent, fields_of}
+use Rattle.guard_model.specs.AbstractValue.{AbstractValue, object_identifier, fields, items, chosen, characters, present, absent, fields_of}
 use Rattle.guard_model.specs.ValueView.{value_view, value_step, fields_view, items_view}
 use Rattle.guard_model.specs.declared.value.Value.{Value}
 use Rattle.guard_model.specs.declared.value.Value.TheFolds.{fold-roll-Value}
 use Rattle.guard_model.specs.declared.value.Value.TheVariants as variant
-use Rattle.guard_model.specs.declared.value.Value.TheVariants.{rolls-Fields, rolls-Items, rolls-Chosen, rolls-Chars}
+use Rattle.guard_model.specs.declared.value.Value.TheVariants.{rolls-Oid, rolls-Fields, rolls-Items, rolls-Chosen, rolls-Chars}
 use Rattle.guard_model.specs.declared.value.Value.TheOpen.{Value-F}
 
 fields_folded : (inside : Option Value → Option AbstractValue) → inside None ≡ None → ((v : Value) → inside (Some v) ≡ Some (value_view v)) → (vs : List (Option Value)) → fields_of (map inside vs) ≡ fields_view vs
@@ -18,8 +21,11 @@ fields_folded inside none some (Some v ∷ vs) = rw (some v) (ap (present (value
 pub value_view_fields : (vs : Vec (Option Value)) → value_view (variant.Fields vs) ≡ fields (fields_view vs.items)
 value_view_fields vs = ap value_view (sym (rolls-Fields vs)) ∙ fold-roll-Value AbstractValue value_step (Value-F.Fields vs) ∙ ap fields (fields_folded _ refl (λ v. refl) vs.items)
 
-pub value_view_characters : (text : String Global) → value_view (variant.Chars text) ≡ characters (chars (string_bytes text))
+pub value_view_characters : (text : ArcStr Global) → value_view (variant.Chars text) ≡ characters (chars (arc_str_bytes text))
 value_view_characters text = ap value_view (sym (rolls-Chars text)) ∙ fold-roll-Value AbstractValue value_step (Value-F.Chars text)
+
+pub value_view_object_identifier : (arcs : ArcSlice ℕ Global) → value_view (variant.Oid arcs) ≡ object_identifier (arc_slice_items arcs)
+value_view_object_identifier arcs = ap value_view (sym (rolls-Oid arcs)) ∙ fold-roll-Value AbstractValue value_step (Value-F.Oid arcs)
 
 pub value_view_items : (vs : Vec Value) → value_view (variant.Items vs) ≡ items (items_view vs.items)
 value_view_items vs = ap value_view (sym (rolls-Items vs)) ∙ fold-roll-Value AbstractValue value_step (Value-F.Items vs)

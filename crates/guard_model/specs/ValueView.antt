@@ -1,5 +1,6 @@
 -- The abstract value of a value of the code.
-use Rattle.std.specs.Prelude.{List, map, Option, Some, None, string_bytes, chars}
+use Rattle.std.specs.Prelude.{List, map, Option, Some, None, chars}
+use Rattle.std.specs.Arc.{arc_slice_items, arc_str_bytes}
 use Rattle.guard_model.specs.AbstractValue as abstract
 use Rattle.guard_model.specs.AbstractValue.{AbstractValue, Fields, Items, fields_of, items_of}
 use Rattle.guard_model.specs.declared.value.Value.{Value, fold-Value}
@@ -11,10 +12,10 @@ value_step (Value-F.Bool b) = abstract.boolean b
 value_step (Value-F.Int z) = abstract.integer z
 value_step (Value-F.Enumerated z) = abstract.enumerated z
 value_step Value-F.Null = abstract.null
-value_step (Value-F.Bits b) = abstract.bit_string b.octets.items b.unused
-value_step (Value-F.Octets v) = abstract.octet_string v.items
-value_step (Value-F.Oid v) = abstract.object_identifier v.items
-value_step (Value-F.Chars s) = abstract.characters (chars (string_bytes s))
+value_step (Value-F.Bits b) = abstract.bit_string (arc_slice_items b.octets) b.unused
+value_step (Value-F.Octets v) = abstract.octet_string (arc_slice_items v)
+value_step (Value-F.Oid v) = abstract.object_identifier (arc_slice_items v)
+value_step (Value-F.Chars s) = abstract.characters (chars (arc_str_bytes s))
 value_step (Value-F.Fields v) = abstract.fields (fields_of v.items)
 value_step (Value-F.Items v) = abstract.items (items_of v.items)
 value_step (Value-F.Chosen n b) = abstract.chosen n b.value

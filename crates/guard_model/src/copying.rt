@@ -1,5 +1,6 @@
 //! Copies of values and types. A copy means what its source means, and a call fails only where memory runs out.
 ghost use Rattle.std.specs.Prelude.{◌≡◌, map, IfOk};
+ghost use Rattle.std.specs.Arc.{arc_slice_items};
 ghost use Rattle.guard_model.specs.TypeView.{type_view, kind_view, presence_view, component_view};
 ghost use Rattle.guard_model.specs.TypeView.{constraint_view, element_view, part_view};
 ghost use Rattle.guard_model.specs.ValueView.{value_view, field_view};
@@ -20,10 +21,10 @@ impl Value {
             Value::Int(number) => Ok(Value::Int(*number)),
             Value::Enumerated(number) => Ok(Value::Enumerated(*number)),
             Value::Null => Ok(Value::Null),
-            Value::Bits(bits) => Ok(Value::Bits(bits.copy(alloc)?)),
-            Value::Octets(octets) => Ok(Value::Octets(Vec::from_slice(alloc, octets)?)),
-            Value::Oid(arcs) => Ok(Value::Oid(Vec::from_slice(alloc, arcs)?)),
-            Value::Chars(text) => Ok(Value::Chars(String::from_str(alloc, text)?)),
+            Value::Bits(bits) => Ok(Value::Bits(bits.share()?)),
+            Value::Octets(octets) => Ok(Value::Octets(octets.clone()?)),
+            Value::Oid(arcs) => Ok(Value::Oid(arcs.clone()?)),
+            Value::Chars(text) => Ok(Value::Chars(text.clone()?)),
             Value::Fields(fields) => Ok(Value::Fields(copy_of_fields(alloc, fields)?)),
             Value::Items(items) => Ok(Value::Items(copy_of_items(alloc, items)?)),
             Value::Chosen(at, value) => Ok(Value::Chosen(*at, value.boxed_copy(alloc)?)),
@@ -39,12 +40,12 @@ impl Value {
 }
 
 impl Bits {
-    fn copy(&self, alloc: Global) -> Result<Bits, OutOfMemory>
-        ensures octets { IfOk result (λ copy. copy.octets.items ≡ self.now.octets.items) }
-        ensures unused { IfOk result (λ copy. copy.unused ≡ self.now.unused) }
+    fn share(&self) -> Result<Bits, OutOfMemory>
+        ensures octets { IfOk result (λ share. arc_slice_items share.octets ≡ arc_slice_items self.now.octets) }
+        ensures unused { IfOk result (λ share. share.unused ≡ self.now.unused) }
     {
         Ok(Bits {
-            octets: Vec::from_slice(alloc, &self.octets)?,
+            octets: self.octets.clone()?,
             unused: self.unused,
         })
     }

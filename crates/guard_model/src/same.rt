@@ -1,5 +1,6 @@
 //! Equality of values.
 ghost use Rattle.std.specs.Prelude.{◌≡◌, ◌&&◌, nat_eq};
+ghost use Rattle.std.specs.Arc.{arc_slice_items};
 ghost use Rattle.std.specs.Bool.{Decides};
 ghost use Rattle.guard_model.specs.Same.{same, same_fields, same_items, same_numbers};
 ghost use Rattle.guard_model.specs.ValueView.{value_view, fields_view, items_view};
@@ -39,7 +40,8 @@ impl Value {
 impl Bits {
     fn is_same(&self, other: &Bits) -> bool
         ensures { result
-            ≡ (nat_eq self.now.unused other.now.unused && same_numbers self.now.octets.items other.now.octets.items) }
+            ≡ (nat_eq self.now.unused other.now.unused
+            && same_numbers (arc_slice_items self.now.octets) (arc_slice_items other.now.octets)) }
     {
         self.unused == other.unused && self.octets == other.octets
     }

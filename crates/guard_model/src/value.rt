@@ -1,4 +1,6 @@
-//! Values.
+//! Values. What a string of any kind and an object identifier hold is shared, so that no copy of a value copies it.
+
+use std::sync::{ArcSlice, ArcStr};
 
 /// A value of a type. It has no names of named numbers, items and alternatives: the type says what a number means.
 #[derive(Debug, Drop)]
@@ -9,11 +11,11 @@ pub enum Value {
     Enumerated(i128),
     Null,
     Bits(Bits),
-    Octets(Vec<u8>),
+    Octets(ArcSlice<u8>),
     /// The subidentifiers' arcs: the first arc, the second, and so on (X.680 clause 32).
-    Oid(Vec<u128>),
+    Oid(ArcSlice<u128>),
     /// Of any kind of character string.
-    Chars(String),
+    Chars(ArcStr),
     /// One place for each component of a SEQUENCE or SET in written order; None for an OPTIONAL one that is left out.
     Fields(Vec<Option<Value>>),
     /// The elements of a SEQUENCE OF or SET OF; of a SET OF in ascending order of their encodings.
@@ -26,7 +28,7 @@ pub enum Value {
 #[derive(Debug, Drop)]
 pub struct Bits {
     /// The bits from the highest of the first octet on.
-    pub octets: Vec<u8>,
+    pub octets: ArcSlice<u8>,
     /// How many of the lowest bits of the last octet don't belong to the string, 0 to 7.
     pub unused: u8,
 }

@@ -1,5 +1,6 @@
 //! Strings of octets and bits.
 ghost use Rattle.std.specs.Prelude.{◌≡◌, ◌++◌, ◌<◌, OnOk, IfOk, map, option_map};
+ghost use Rattle.std.specs.Arc.{arc_slice_items};
 ghost use Rattle.guard_model.specs.TypeView.{named_view};
 ghost use Rattle.guard_report.specs.Strings.{digit, two_digits, hexadecimal, eight_bits, bits_of, binary};
 ghost use Rattle.guard_report.specs.Strings.{bits_as_digits};
@@ -50,13 +51,13 @@ pub(crate) fn add_bits(
     bits: &Bits,
 ) -> Result<(), OutOfMemory>
     ensures { OnOk result (text.new.items
-        ≡ text.old.items ++ bits_text (map named_view names.now) bits.now.octets.items bits.now.unused) }
+        ≡ text.old.items ++ bits_text (map named_view names.now) (arc_slice_items bits.now.octets) bits.now.unused) }
 {
     let list = bits_of(alloc, bits)?;
     if !names.is_empty() && are_named(names, &list) {
         add_names(text, names, &list)
     } else if bits.unused == 0 {
-        add_hexadecimal(text, &bits.octets)
+        add_hexadecimal(text, bits.octets.as_slice())
     } else {
         add_binary(text, &list)
     }
@@ -64,10 +65,10 @@ pub(crate) fn add_bits(
 
 /// The bits, each as 0 or 1.
 fn bits_of(alloc: Global, bits: &Bits) -> Result<Vec<u8>, OutOfMemory>
-    ensures { IfOk result (λ list. list.items ≡ bits_of bits.now.octets.items bits.now.unused) }
+    ensures { IfOk result (λ list. list.items ≡ bits_of (arc_slice_items bits.now.octets) bits.now.unused) }
 {
     let mut list = Vec::new(alloc);
-    for octet in &bits.octets {
+    for octet in bits.octets.as_slice() {
         list.extend_from_slice(&eight_bits(*octet))?;
     }
     let kept = list.len().saturating_sub(usize::from(bits.unused));

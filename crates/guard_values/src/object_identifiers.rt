@@ -14,6 +14,7 @@ use guard_lexer::magnitude;
 use guard_model::{Site, Value};
 use guard_syntax::ArcTree;
 use std::alloc::Global;
+use std::sync::ArcSlice;
 
 /// The object identifier whose first token is at the site.
 pub fn object_identifier(alloc: Global, site: Site, trees: &[ArcTree]) -> Result<Value, ValueFault>
@@ -25,7 +26,7 @@ pub fn object_identifier(alloc: Global, site: Site, trees: &[ArcTree]) -> Result
     if !are_arcs(&arcs) {
         return Err(ValueFault::BadObjectId(site));
     }
-    Ok(Value::Oid(arcs))
+    Ok(Value::Oid(ArcSlice::from_vec(arcs)?))
 }
 
 /// The arcs, each of at most 128 bits.

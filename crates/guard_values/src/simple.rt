@@ -20,6 +20,7 @@ use crate::strings::{binary_digits, bit_string, hexadecimal_bits, octets_of_bits
 use guard_model::{CharKind, Kind, Named, Site, Value};
 use guard_syntax::{ArcTree, NumberTree, StringKind};
 use std::alloc::Global;
+use std::sync::{ArcSlice, ArcStr};
 
 /// TRUE or FALSE.
 pub fn boolean(kind: &Kind, site: Site, truth: bool) -> Result<Value, ValueFault>
@@ -107,7 +108,8 @@ fn octets(alloc: Global, spelling: &[u8]) -> Result<Value, ValueFault>
         (Ok (octet_string (written.octets_of_bits (written.binary_digits spelling.now)))) }
 {
     let bits = binary_digits(alloc, spelling)?;
-    Ok(Value::Octets(octets_of_bits(alloc, &bits)?))
+    let octets = octets_of_bits(alloc, &bits)?;
+    Ok(Value::Octets(ArcSlice::from_vec(octets)?))
 }
 
 fn hexadecimal_octets(alloc: Global, spelling: &[u8]) -> Result<Value, ValueFault>
@@ -115,7 +117,8 @@ fn hexadecimal_octets(alloc: Global, spelling: &[u8]) -> Result<Value, ValueFaul
         (Ok (octet_string (written.octets_of_bits (written.hexadecimal_bits spelling.now)))) }
 {
     let bits = hexadecimal_bits(alloc, spelling)?;
-    Ok(Value::Octets(octets_of_bits(alloc, &bits)?))
+    let octets = octets_of_bits(alloc, &bits)?;
+    Ok(Value::Octets(ArcSlice::from_vec(octets)?))
 }
 
 /// A string in double quotes, of characters of the kind's alphabet.
@@ -129,7 +132,7 @@ fn characters(
         (answered (ValueFault.BadCharacter site) (characters_value kind (written.quoted spelling.now))) }
 {
     match text_of(kind, quoted(alloc, spelling)?) {
-        Some(text) => Ok(Value::Chars(text)),
+        Some(text) => Ok(Value::Chars(ArcStr::from_string(text)?)),
         None => Err(ValueFault::BadCharacter(site)),
     }
 }

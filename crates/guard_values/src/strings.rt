@@ -11,6 +11,7 @@ ghost use Rattle.guard_values.specs.Strings.{filled, packed, octets_of_bits, quo
 use crate::fault::ValueFault;
 use guard_model::{Bits, Value};
 use std::alloc::{AllocError, Global};
+use std::sync::ArcSlice;
 
 /// The bits of a string of bits, in written order.
 pub fn binary_digits(alloc: Global, spelling: &[u8]) -> Result<Vec<u8>, AllocError>
@@ -106,7 +107,7 @@ pub fn bit_string(alloc: Global, bits: &[u8]) -> Result<Value, ValueFault>
     requires { All (λ d. d < 2) bits.now }
     ensures { Gives value_view named result (Ok (bits_value bits.now)) }
 {
-    let octets = octets_of_bits(alloc, bits)?;
+    let octets = ArcSlice::from_vec(octets_of_bits(alloc, bits)?)?;
     let unused = ((8 - bits.len() % 8) % 8) as u8;
     Ok(Value::Bits(Bits { octets, unused }))
 }

@@ -3,13 +3,6 @@ use Rattle.std.proofs.Common.{◌≡◌, ℕ, ◌+◌, ◌-◌, ◌*◌, ◌%◌
 use Rattle.std.specs.Prelude.{◌&&◌, not}
 use Rattle.std.proofs.lemmas.Bool.{cond-true, cond-false, le-ltb, lt-ltb, and_parts, and_from, and_left, true≢false}
 use Rattle.std.proofs.lemmas.List.{append-nil}
-use Rattle.std.specs.Global.{Vec}
-use Rattle.guard_model.specs.AbstractValue.{AbstractValue, object_identifier}
-use Rattle.guard_model.specs.ValueView.{value_view, value_step}
-use Rattle.guard_model.specs.declared.value.Value.TheFolds.{fold-roll-Value}
-use Rattle.guard_model.specs.declared.value.Value.TheOpen.{Value-F}
-use Rattle.guard_model.specs.declared.value.Value.TheVariants as variant
-use Rattle.guard_model.specs.declared.value.Value.TheVariants.{rolls-Oid}
 use Rattle.guard_der.specs.declared.breach.Code.{Code}
 use Rattle.guard_der.specs.declared.breach.Code.TheVariants as code
 use Rattle.guard_der.specs.Fits.{all_below}
@@ -124,6 +117,3 @@ pub all_read : (octets arcs : List ℕ) (starts : Bool) (number : ℕ) → eqb (
 all_read octets arcs starts number some read is =
     let all : read.ended ≡ subidentifiers 0 octets = sym (append-nil read.ended) ∙ read.all in
     (code_is octets true true some (sym read.form ∙ is) (ap (λ (ns : List ℕ). all_below (2 ^ 128) ns) (sym all) ∙ read.below), read.arcs_are ∙ ap arcs_of all)
-
-pub value_view_object_identifier : (arcs : Vec ℕ) → value_view (variant.Oid arcs) ≡ object_identifier arcs.items
-value_view_object_identifier arcs = ap value_view (sym (rolls-Oid arcs)) ∙ fold-roll-Value AbstractValue value_step (Value-F.Oid arcs)

@@ -1,5 +1,6 @@
 //! Contents octets of the simple kinds.
 ghost use Rattle.std.specs.Prelude.{◌≡◌, ◌∷◌, [], chars, IfOk, IsTrue};
+ghost use Rattle.std.specs.Arc.{arc_slice_items};
 ghost use Rattle.guard_der.specs.Octets.{signed_octets};
 ghost use Rattle.guard_der.specs.Contents.{boolean_octet, arcs_octets, character_octets};
 ghost use Rattle.guard_der.specs.Fits.{fits_arcs};
@@ -29,11 +30,11 @@ pub fn integer(alloc: Global, number: i128) -> Result<Vec<u8>, OutOfMemory>
 
 /// The count of unused bits, then the octets (X.690 8.6).
 pub fn bit_string(alloc: Global, bits: &Bits) -> Result<Vec<u8>, OutOfMemory>
-    ensures { IfOk result (λ v. v.items ≡ bits.now.unused ∷ bits.now.octets.items) }
+    ensures { IfOk result (λ v. v.items ≡ bits.now.unused ∷ arc_slice_items bits.now.octets) }
 {
     let mut out = Vec::new(alloc);
     out.push(bits.unused)?;
-    out.extend_from_slice(&bits.octets)?;
+    out.extend_from_slice(bits.octets.as_slice())?;
     Ok(out)
 }
 

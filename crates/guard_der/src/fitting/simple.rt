@@ -1,5 +1,6 @@
 //! Which values the simple kinds have.
 ghost use Rattle.std.specs.Prelude.{◌≡◌, ◌&&◌, map};
+ghost use Rattle.std.specs.Arc.{arc_slice_items};
 ghost use Rattle.guard_model.specs.TypeView.{named_view};
 ghost use Rattle.guard_der.specs.Fits.{all_below, fits_arcs, fits_bits, ends_as_named, is_item, fits_first_arcs};
 ghost use Rattle.guard_model.specs.Limits.{fits_128_bits};
@@ -25,13 +26,14 @@ pub fn are_octets(octets: &[u8]) -> bool
 /// At most seven bits are unused, none where there are no octets (X.690 8.6.2); the unused bits are zero (11.2.1).
 /// Where bits are named, the last one isn't (11.2.2).
 pub fn bits_fit(names: &[Named], bits: &Bits) -> bool
-    ensures { result ≡ (fits_bits bits.now.octets.items bits.now.unused
-        && ends_as_named (map named_view names.now) bits.now.octets.items bits.now.unused) }
+    ensures { result ≡ (fits_bits (arc_slice_items bits.now.octets) bits.now.unused
+        && ends_as_named (map named_view names.now) (arc_slice_items bits.now.octets) bits.now.unused) }
 {
-    are_octets(&bits.octets)
-        && has_proper_end(&bits.octets, bits.unused)
-        && has_zero_end(&bits.octets, bits.unused)
-        && ends_as_named(names, &bits.octets, bits.unused)
+    let octets = bits.octets.as_slice();
+    are_octets(octets)
+        && has_proper_end(octets, bits.unused)
+        && has_zero_end(octets, bits.unused)
+        && ends_as_named(names, octets, bits.unused)
 }
 
 /// X.660 has three first arcs, 0, 1 and 2, and 40 arcs each under 0 and 1; in this profile no subidentifier has more

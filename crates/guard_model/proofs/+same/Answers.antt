@@ -12,7 +12,7 @@ same::are_same_items-returns-then-items-others t c = items_apart c.args.items.no
 
 pub value::Value::equals-returns-in-Chars-Chars : goal.value::Value::equals-returns-in-Chars-Chars
 value::Value::equals-returns-in-Chars-Chars t c =
-    rw (c.in-Chars-Chars.is-0, c.in-Chars-Chars.is-1) (rw (value_view_characters c.in-Chars-Chars.one, value_view_characters c.in-Chars-Chars.two) (c.eq-in-Chars-Chars.ensures ∙ same_characters _ _ (IsUtf8-string_bytes c.in-Chars-Chars.one) (IsUtf8-string_bytes c.in-Chars-Chars.two)))
+    rw (c.in-Chars-Chars.is-0, c.in-Chars-Chars.is-1) (rw (value_view_characters c.in-Chars-Chars.one, value_view_characters c.in-Chars-Chars.two) (c.eq-in-Chars-Chars.ensures ∙ same_characters _ _ (IsUtf8-string_bytes c.in-Chars-Chars.one.text.value) (IsUtf8-string_bytes c.in-Chars-Chars.two.text.value)))
 
 pub value::Value::equals-returns-in-Fields-Fields : goal.value::Value::equals-returns-in-Fields-Fields
 value::Value::equals-returns-in-Fields-Fields t c =

@@ -3,14 +3,8 @@ use Rattle.std.proofs.Common.{◌≡◌, ℕ, Bool, true, false, List, [], ◌�
 use Rattle.std.specs.Option.{option_or}
 use Rattle.guard_model.specs.Answer.{◌>>=◌, Refuses}
 use Rattle.guard_model.specs.inside.Each.{each}
-use Rattle.guard_model.specs.AbstractValue.{AbstractValue, object_identifier}
-use Rattle.guard_model.specs.ValueView.{value_view, value_step}
+use Rattle.guard_model.specs.AbstractValue.{object_identifier}
 use Rattle.guard_model.specs.declared.site.Site.{Site}
-use Rattle.guard_model.specs.declared.value.Value.TheFolds.{fold-roll-Value}
-use Rattle.guard_model.specs.declared.value.Value.TheVariants as variant
-use Rattle.guard_model.specs.declared.value.Value.TheVariants.{rolls-Oid}
-use Rattle.guard_model.specs.declared.value.Value.TheOpen.{Value-F}
-use Rattle.std.specs.Global.{Vec}
 use Rattle.guard_syntax.specs.Trees.{WrittenArc}
 use Rattle.guard_values.specs.declared.fault.ValueFault.{ValueFault}
 use Rattle.guard_values.specs.declared.fault.ValueFault.TheVariants.{BadObjectId}
@@ -60,6 +54,3 @@ too_few site l (Some large) ns u none h e = absurd cc
 pub enough_arcs : (site : Site) (l s : Option Site) (ns : List ℕ) (u : Unit {0}) → l ≡ None → unless_large s ≡ Ok u → are_arcs ns ≡ true → limited_arcs site (option_or l s) ns ≡ Ok (object_identifier ns)
 enough_arcs site l None ns u none h e = rw (none, e) refl
 enough_arcs site l (Some large) ns u none h e = absurd cc
-
-pub value_view_object_identifier : (arcs : Vec ℕ) → value_view (variant.Oid arcs) ≡ object_identifier arcs.items
-value_view_object_identifier arcs = ap value_view (sym (rolls-Oid arcs)) ∙ fold-roll-Value AbstractValue value_step (Value-F.Oid arcs)

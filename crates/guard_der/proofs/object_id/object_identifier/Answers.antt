@@ -2,7 +2,8 @@ use Rattle.std.proofs.Common.{ℕ, List, None, refl, ◌∙◌, ◌+◌, ◌*◌
 use Rattle.std.proofs.lemmas.List.{drop_more, drop_all, take_all, length-drop}
 use Rattle.guard_model.specs.AbstractValue as abstract
 use Rattle.guard_der.specs.Reading.{unless_fault}
-use Rattle.guard_der.proofs.Simple.ObjectIdentifiers.{goes_on, ends, too_long, all_read, value_view_object_identifier}
+use Rattle.guard_model.proofs.ValueViews.{value_view_object_identifier}
+use Rattle.guard_der.proofs.Simple.ObjectIdentifiers.{goes_on, ends, too_long, all_read}
 use Rattle.guard_der.proofs.object_id.object_identifier.Goals as goal
 use Rattle.guard_der.proofs.object_id.object_identifier.Goals.{then-starts+in_ok-push_arcs, else-starts}
 
@@ -30,9 +31,9 @@ loop-index-preserved c =
           goes_on os c.loop-index.arcs.items c.loop-index.starts c.loop-index.number (get_or os i 0) (drop (i + 1) os) octet now fine c.if-starts.arcs.items c.if-starts.number w.if-starts.false (ap (λ v. v.items) w.arcs-is) (w.number-is ∙ ap (λ (n : ℕ). c.loop-index.number * 128 + n) c.from.ensures)
     ]
 
-pub returns-then-starts-2 : goal.returns-then-starts-2
-returns-then-starts-2 c =
+pub returns-in_ok-from_vec : goal.returns-in_ok-from_vec
+returns-in_ok-from_vec c =
     let os = c.args.octets.now in
     let read = rw (drop_all c.loop-index.index os c.loop-index-test.false) at c.loop-index.invariant in
     let all = all_read os c.loop-index.arcs.items c.loop-index.starts c.loop-index.number (sym c.is_empty.ensures ∙ c.if-is_empty.false) read c.if-starts-2.true in
-    rw (all.0, value_view_object_identifier c.loop-index.arcs) (ap (λ (xs : List ℕ). unless_fault c.args.at None (abstract.object_identifier xs)) (sym all.1))
+    rw (all.0, value_view_object_identifier c.in_ok-from_vec.field-0) (ap (λ (xs : List ℕ). unless_fault c.args.at None (abstract.object_identifier xs)) (sym (c.in_ok-from_vec.ensures ∙ all.1)))

@@ -1,9 +1,10 @@
 use Rattle.std.proofs.Common.{map, sym, ◌∙◌}
 use Rattle.std.proofs.lemmas.Result.{err_from_is_err_and}
+use Rattle.guard_model.proofs.ValueViews.{value_view_object_identifier}
 use Rattle.guard_syntax.specs.Views.{arc_view}
 use Rattle.guard_values.specs.ObjectIdentifiers.{arc_numbers, large_arc, large_second}
 use Rattle.guard_values.specs.Views.{named}
-use Rattle.guard_values.proofs.SingleValues.ArcsInTurn.{are_read, arc_stops, second_stops, too_few, enough_arcs, value_view_object_identifier}
+use Rattle.guard_values.proofs.SingleValues.ArcsInTurn.{are_read, arc_stops, second_stops, too_few, enough_arcs}
 use Rattle.guard_values.proofs.object_identifiers.object_identifier.Goals as goal
 
 pub returns-in_err-arcs : goal.returns-in_err-arcs
@@ -30,5 +31,5 @@ pub returns : goal.returns
 returns c =
     let trees = map arc_view c.args.trees.now in
     let read = are_read trees c.in_ok-arcs.arcs.items c.in_ok-arcs.ensures in
-    rw (value_view_object_identifier c.in_ok-arcs.arcs, read.0) (enough_arcs c.args.site (large_arc trees) (large_second trees) (arc_numbers trees) c.in_ok-check_second.field-0 read.1 c.in_ok-check_second.ensures
+    rw (value_view_object_identifier c.in_ok-from_vec.field-0, c.in_ok-from_vec.ensures, read.0) (enough_arcs c.args.site (large_arc trees) (large_second trees) (arc_numbers trees) c.in_ok-check_second.field-0 read.1 c.in_ok-check_second.ensures
     (rw (c.deref-2.ensures.value, read.0) at (sym c.are_arcs.ensures ∙ c.if-not-are_arcs.false)))

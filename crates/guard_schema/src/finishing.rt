@@ -2,9 +2,10 @@
 //!
 //! The type is taken by value and handed back: nothing is copied. A list of components moves once into a list of its
 //! own length.
-ghost use Rattle.std.specs.Prelude.{◌≡◌, ◌≤◌, [], length, map, IfOk, IsTrue, option_map};
+ghost use Rattle.std.specs.Prelude.{◌≡◌, ◌≤◌, [], length, map, Some, IfOk, IsTrue};
 ghost use Rattle.std.specs.Arc.{arc_str_bytes};
 ghost use Rattle.guard_der.specs.Sound.{is_sound};
+ghost use Rattle.guard_model.specs.AbstractType.{AbstractType};
 ghost use Rattle.guard_model.specs.Counts.{component_count};
 ghost use Rattle.guard_model.specs.TypeView as model;
 ghost use Rattle.guard_model.specs.TypeView.{type_view, kind_view, component_view, presence_view};
@@ -407,22 +408,15 @@ fn fill_from(
 
 /// Those of the type of this name are taken over as they are.
 fn reference_taken_over(scope: Scope, name: &[u8], filling: Filling) -> Result<Filling, SchemaFault>
+    requires known { (t : AbstractType) × ((visible_in scope).types name.now ≡ Some t) }
     requires enough { finishing.count_of_meant ((visible_in scope).types name.now) ≤ length filling.left.items }
     ensures { Answers filling_view named result (Is (in_turn.taken_over
         (finishing.count_of_meant ((visible_in scope.entry).types name.now)) (filling_view filling))) }
 {
-    let count = put_in(scope.type_named(name));
-    Ok(taken_over(filling, count)?)
-}
-
-/// How many components COMPONENTS OF the type puts in.
-fn put_in(ty: Option<&Ty>) -> usize
-    ensures { result ≡ finishing.count_of_meant (option_map (λ t. type_view t.now) ty.entry) }
-{
-    match ty {
-        None => 0,
-        Some(ty) => part_count(ty),
-    }
+    let Some(ty) = scope.type_named(name) else {
+        unreachable!()
+    };
+    Ok(taken_over(filling, part_count(ty))?)
 }
 
 fn part_count(ty: &Ty) -> usize

@@ -4,9 +4,9 @@ use Rattle.std.proofs.Common.{IsTrue, arith}
 use Rattle.std.proofs.lemmas.List.{length-map}
 use Rattle.std.specs.Global.{Box, Vec}
 use Rattle.guard_model.proofs.TypeViews.{type_view_is, kind_view_choice}
-use Rattle.guard_model.specs.AbstractType.{AbstractKind, type_of}
+use Rattle.guard_model.specs.AbstractType.{AbstractType, AbstractKind, type_of}
 use Rattle.guard_model.specs.Kinds.{kind_of}
-use Rattle.guard_model.specs.TypeView.{type_view, kind_view, component_view, components_of}
+use Rattle.guard_model.specs.TypeView.{OneComponent, type_view, kind_view, component_view, components_of}
 use Rattle.guard_model.specs.declared.ty.Comp.{Comp}
 use Rattle.guard_model.specs.declared.ty.Kind.{Kind, Choice}
 use Rattle.guard_model.specs.declared.ty.Kind.TheViews.{out-Ty}
@@ -129,6 +129,16 @@ reference_is name =
     ap written.base_view (sym (rolls-Reference name))
     ∙ fold-roll-BaseTree WrittenBase WrittenComponentForm WrittenAlternative WrittenComponent WrittenType base_step
     component_form_step alternative_step component_step type_step (BaseTree-F.Reference name)
+
+pub meant_there : (names : Visible) (base : BaseTree) (name : NameTree) → base ≡ base_form.Reference name
+    → (left : List OneComponent) → ArePutInNext names (written.base_view base) left
+    → (t : AbstractType) × (names.types name.name.now ≡ Some t)
+meant_there names base name is left h = of_name
+    (subst (λ (b : WrittenBase). ArePutInNext names b left) (ap written.base_view is ∙ reference_is name) h)
+  where
+    of_name : ArePutInNext names (named_type name.site name.name.now) left
+        → (t : AbstractType) × (names.types name.name.now ≡ Some t)
+    of_name (taken, ((t, there, same), shaped), begins) = (t, there)
 
 pub enough_there : (names : Visible) (base : BaseTree) (name : NameTree) → base ≡ base_form.Reference name
     → (left : List Comp) → ArePutInNext names (written.base_view base) (map component_view left)

@@ -6,8 +6,9 @@ use Rattle.guard_model.specs.declared.site.Site.{Site}
 use Rattle.guard_model.specs.AbstractType as type
 use Rattle.guard_model.specs.AbstractType.{AbstractType, AbstractKind, Components, type_of}
 use Rattle.guard_model.specs.TypeView.{OneComponent, components_of}
-use Rattle.guard_syntax.specs.Trees.{WrittenPresence, mandatory, WrittenType, type_node, WrittenBase, structure, choice}
-use Rattle.guard_syntax.specs.Trees.{of_type, named_type, WrittenComponents, no_components, component, components_from}
+use Rattle.guard_syntax.specs.Trees.{WrittenPresence, mandatory, WrittenType, type_node, WrittenBase, plain, numbers}
+use Rattle.guard_syntax.specs.Trees.{named_bits, enumerated, structure, choice, of_type, named_type}
+use Rattle.guard_syntax.specs.Trees.{WrittenComponents, no_components, component, components_from}
 use Rattle.guard_syntax.specs.Trees.{WrittenAlternatives, no_alternatives, alternative, WrittenAlternative}
 use Rattle.guard_syntax.specs.Trees.{WrittenComponentForm, named, components_of_type, WrittenAssignment}
 use Rattle.guard_names.specs.Declarations.{Definition, definitions}
@@ -95,7 +96,11 @@ module _ (names : Visible) where
     KindInTurn (structure k cs) kind = ListInTurn (FillsInTurn cs) kind
     KindInTurn (choice others) kind = ChoiceInTurn (OthersInTurn others) kind
     KindInTurn (of_type k c t) kind = ElementInTurn (FinishesInTurn t) kind
-    KindInTurn base kind = Is kind
+    KindInTurn (plain p) kind = Is kind
+    KindInTurn (numbers ns) kind = Is kind
+    KindInTurn (named_bits ns) kind = Is kind
+    KindInTurn (enumerated items) kind = Is kind
+    KindInTurn (named_type site name) kind = Is kind
 
     pub FillsInTurn : WrittenComponents → Filling → Outcome Filling → Type 0
     FillsInTurn no_components f = Is f

@@ -17,7 +17,7 @@ use Rattle.guard_schema.proofs.Filled.Steps.{list_finished, choice_finished, par
 use Rattle.guard_schema.proofs.Filled.Steps.{element_finished, taken_in, filling_refused, all_filled, one_refused}
 use Rattle.guard_schema.proofs.Filled.Steps.{component_refused, component_finished}
 use Rattle.guard_schema.proofs.Filled.Kinds.{kind_ready, list_ready, choice_ready, element_ready, choice_refused}
-use Rattle.guard_schema.proofs.Filled.Kinds.{enough_there}
+use Rattle.guard_schema.proofs.Filled.Kinds.{enough_there, meant_there}
 use Rattle.guard_schema.proofs.Filled.Moves.{next_filled, next_ready, never_none}
 use Rattle.guard_schema.proofs.Sound.InTurn.{part_sound}
 use Rattle.guard_schema.proofs.finishing.+finishing.Goals as goal
@@ -337,6 +337,8 @@ finished_component-returns t c =
 
 pub fill_from-reference_taken_over-requires : goal.fill_from-reference_taken_over-requires
 fill_from-reference_taken_over-requires t c = record {
+  known = meant_there (visible_in c.args.scope) c.args.base.now c.in-Reference.name c.in-Reference.is
+      (map component_view c.args.filling.left.items) c.requires.next;
   enough = enough_there (visible_in c.args.scope) c.args.base.now c.in-Reference.name c.in-Reference.is
       c.args.filling.left.items
       c.requires.next;

@@ -60,9 +60,9 @@ fn sizes_of_some(alloc: Global, constraints: &[Cons]) -> Result<IntSet, OutOfMem
         → holds set z ≡ (fits_128_bits z && some_may_have_size
         (constraints_of (map constraint_view constraints.now)) z)) }
 {
-    let mut found = IntSet::none(alloc);
+    let mut sets = Vec::new(alloc);
     for constraint in constraints {
-        found = found.union(alloc, &sizes_of(alloc, constraint)?)?;
+        sets.push(sizes_of(alloc, constraint)?)?;
     }
-    Ok(found)
+    IntSet::union_of(alloc, &sets)
 }

@@ -15,10 +15,7 @@ use Rattle.std.proofs.Crossing.{Vec-send, Vec-sync, frees, crosses}
 use Rattle.std.proofs.Crossing as crossing
 use Rattle.std.proofs.string.String.TheSendSync as strings
 use Rattle.guard_model.specs.contracts.ty.Ty as ty
-use Rattle.guard_model.specs.contracts.value.Value as value
-use Rattle.guard_model.proofs.ty.Kind.TheLaws.TheKnot as types
-use Rattle.guard_model.proofs.value.Bits.TheSendSync as bits
-use Rattle.guard_model.proofs.value.Value.TheLaws.TheKnot as values
+use Rattle.guard_model.proofs.Sent.{ty_send, ty_sync}
 use Rattle.guard_model.specs.contracts.tag.Tag as tag
 use Rattle.guard_model.proofs.tag.Tag.TheSendSync as tags
 use Rattle.guard_tables.specs.contracts.kept_types.KeptTypes as kept_types
@@ -67,18 +64,6 @@ form_send = as_row_send form.the_field (search (forms.crosses, crosses, sendable
 
 form_sync : IsSync form.the_row
 form_sync = as_row_sync form.the_field (search (forms.crosses, crosses, sendable) depth 30 fits 20000)
-
-value_send : IsSend (value.the_field).row
-value_send = search (values.crosses, bits.the_field_send, crosses, sendable) depth 30 fits 20000
-
-value_sync : IsSync (value.the_field).row
-value_sync = search (values.crosses, bits.the_field_sync, crosses, sendable) depth 30 fits 20000
-
-ty_send : IsSend ty.the_row
-ty_send = as_row_send ty.the_field (search (types.crosses, value_send, value_sync, crosses, sendable) depth 30 fits 20000)
-
-ty_sync : IsSync ty.the_row
-ty_sync = as_row_sync ty.the_field (search (types.crosses, value_send, value_sync, crosses, sendable) depth 30 fits 20000)
 
 -- ---- tables
 

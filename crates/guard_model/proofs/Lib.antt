@@ -9,6 +9,8 @@ pub mod TypeViews
 pub mod ValueViews
 pub mod Components
 pub mod Characters
+-- ---- for all crates: threads
+pub mod Sent
 -- ---- equality of values and of types
 pub mod Sameness
 pub mod SameTypes

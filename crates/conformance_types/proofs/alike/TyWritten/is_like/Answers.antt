@@ -1,7 +1,7 @@
 use denote.Param.Send.{sendable}
 use Rattle.std.proofs.Crossing.{crosses}
 use Rattle.guard_model.proofs.ty.Kind.TheLaws.TheKnot as types
-use Rattle.conformance_types.proofs.Sent.{value_send, value_sync}
+use Rattle.guard_model.proofs.Sent.{value_send, value_sync}
 use Rattle.conformance_types.proofs.alike.TyWritten.is_like.Goals as goal
 
 pub may_go_to_another_thread-requires-send-T : goal.may_go_to_another_thread-requires-send-T

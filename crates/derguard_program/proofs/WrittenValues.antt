@@ -128,13 +128,6 @@ syntax_refused text tokens (trees.Unsupported word site) h = λ tree g e. same_a
 syntax_refused text tokens (trees.TooDeep site) h = λ tree g e. same_answer (h (module_of tree) (module_written tree (lexemes_of text tokens) g e)).1
 syntax_refused text tokens trees.OutOfMemory h = tt
 
-pub named_fault : (text : List ℕ) (tokens : List Token) (e : SyntaxFault) (site : Site) → place_of e ≡ Some site
-    → OfText (IsSyntaxFault text tokens) (syntax_refusal e) → HaveNoTree text tokens
-named_fault text tokens (trees.Unexpected at) site is h = h
-named_fault text tokens (trees.Unsupported word at) site is h = h
-named_fault text tokens (trees.TooDeep at) site is h = h
-named_fault text tokens trees.OutOfMemory site is h = absurd cc
-
 -- ---- one element
 
 alone : {A : Type 0} (x : A) (zs : List A) → length zs ≡ 1 → x ≡ get_or zs 0 x → zs ≡ x ∷ []

@@ -165,10 +165,10 @@ fn first_fault(alloc: Global, text: &[u8], tokens: &[Token], fault: SyntaxFault)
     ensures { OfText (IsSyntaxFault text.now tokens.now) result }
 {
     match place_of(&fault) {
-        Some(site) => {
-            let first = first_of(stop_of_default(alloc, text, tokens), &site, fault);
-            Fault::Schema(SchemaFault::Syntax(first))
-        }
+        Some(site) => match stop_of_default(alloc, text, tokens) {
+            Ok(stop) => Fault::Schema(SchemaFault::Syntax(first_of(stop, &site, fault))),
+            Err(OutOfMemory) => Fault::NoMemory,
+        },
         None => Fault::NoMemory,
     }
 }
@@ -198,13 +198,16 @@ fn is_before(one: &Site, other: &Site) -> bool {
 }
 
 /// Where a module stops in which the tokens of the text are the default of a component, if it has P1.
-fn stop_of_default(alloc: Global, text: &[u8], tokens: &[Token]) -> Option<Site> {
-    match tokens_of_default(alloc, text, tokens) {
-        Ok(around) => match parse(alloc, PLACE, text, &around) {
-            Err(SyntaxFault::Unexpected(site)) => Some(site),
-            _ => None,
-        },
-        Err(_) => None,
+fn stop_of_default(
+    alloc: Global,
+    text: &[u8],
+    tokens: &[Token],
+) -> Result<Option<Site>, OutOfMemory> {
+    let around = tokens_of_default(alloc, text, tokens)?;
+    match parse(alloc, PLACE, text, &around) {
+        Err(SyntaxFault::Unexpected(site)) => Ok(Some(site)),
+        Err(SyntaxFault::OutOfMemory) => Err(OutOfMemory),
+        Err(SyntaxFault::Unsupported(_, _)) | Err(SyntaxFault::TooDeep(_)) | Ok(_) => Ok(None),
     }
 }
 

@@ -19,7 +19,7 @@ use Rattle.guard_model.specs.declared.ty.Limit.{Limit}
 use Rattle.guard_model.specs.declared.ty.Limit.TheVariants.{Free, At, Past}
 use Rattle.guard_model.specs.declared.ty.Word.{Word}
 use Rattle.guard_model.specs.declared.ty.Word.TheVariants.{Present, Absent, Optional}
-use Rattle.guard_model.proofs.Tags.{equal_tags, same_tag_itself}
+use Rattle.guard_model.proofs.Tags.{tag_Decides}
 use Rattle.guard_model.proofs.Sameness.{equal_values, same_itself, equal_truth, same_truth_itself}
 
 number_itself : (n : ℕ) → nat_eq n n ≡ true
@@ -38,9 +38,6 @@ word_of_rank Present Present h = refl
 word_of_rank Absent Absent h = refl
 word_of_rank Optional Optional h = refl
 word_of_rank _ _ h = absurd (omega arith)
-
-tag_Decides : (a b : Tag) → Decides (same_tag a b) (a ≡ b)
-tag_Decides a b = (equal_tags a b, λ e. rw e (same_tag_itself b))
 
 equal_sites : (a b : Site) → same_site a b ≡ true → a ≡ b
 equal_sites a b h =

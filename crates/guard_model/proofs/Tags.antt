@@ -1,5 +1,6 @@
 -- Tags that are the same are equal.
 use Rattle.std.proofs.Common.{◌≡◌, ℕ, eqb, refl, ap, ◌∙◌, arith}
+use Rattle.std.specs.Bool.{Decides}
 use Rattle.std.proofs.lemmas.Bool.{and_parts, and_from, eqb-true, eq-eqb}
 use Rattle.guard_model.specs.Tags.{class_rank, same_tag}
 use Rattle.guard_model.specs.declared.tag.Class.{Class}
@@ -23,3 +24,6 @@ equal_tags a b e =
 
 pub same_tag_itself : (a : Tag) → same_tag a a ≡ true
 same_tag_itself a = and_from (eqb (class_rank a.class) (class_rank a.class)) (eqb a.number a.number) (eq-eqb (class_rank a.class) (class_rank a.class) refl) (eq-eqb a.number a.number refl)
+
+pub tag_Decides : (a b : Tag) → Decides (same_tag a b) (a ≡ b)
+tag_Decides a b = (equal_tags a b, λ e. rw e (same_tag_itself b))

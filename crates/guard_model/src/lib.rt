@@ -39,6 +39,6 @@ pub use limits::{DEEPEST_NESTING, GREATEST_TAG_NUMBER, MOST_COMPONENTS};
 pub use memory::OutOfMemory;
 pub use site::{Path, PathText, Site, Step};
 pub use slots::{absent_fields, set_field};
-pub use tag::{Class, Tag};
+pub use tag::{Class, Tag, are_same_tags};
 pub use ty::{CharKind, Comp, Cons, Kind, Limit, Named, Part, Presence, Rule, Ty, Word};
 pub use value::{Bits, Value};

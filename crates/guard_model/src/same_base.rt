@@ -8,7 +8,6 @@ ghost use Rattle.guard_model.specs.SameBase.{HasSameBase, bare_names};
 ghost use Rattle.guard_model.specs.SameType.{same_base, same_components, same_constraint, same_constraints};
 ghost use Rattle.guard_model.specs.SameType.{same_element, same_kind, same_limit, same_named, same_parts};
 ghost use Rattle.guard_model.specs.SameType.{same_presence, same_range, same_site, same_type};
-ghost use Rattle.guard_model.specs.Tags.{same_tag};
 ghost use Rattle.guard_model.specs.TypeView.{component_view, constraint_view, element_view, kind_view};
 ghost use Rattle.guard_model.specs.TypeView.{named_view, part_view, presence_view, type_view};
 ghost use Rattle.std.specs.Bool.{Decides};
@@ -16,7 +15,7 @@ ghost use Rattle.std.specs.Cmp.Lexicographic.{pointwise};
 ghost use Rattle.std.specs.Prelude.{◌≡◌, map};
 
 use crate::site::Site;
-use crate::tag::Tag;
+use crate::tag::are_same_tags;
 use crate::ty::{Comp, Cons, Kind, Limit, Named, Part, Presence, Rule, Ty};
 
 impl Ty {
@@ -48,12 +47,6 @@ impl Ty {
             && are_same_tags(&self.tags, &other.tags)
             && self.kind.is_same(&other.kind, whole)
     }
-}
-
-fn are_same_tags(tags: &[Tag], others: &[Tag]) -> bool
-    ensures { result ≡ pointwise same_tag tags.now others.now }
-{
-    tags == others
 }
 
 impl Kind {

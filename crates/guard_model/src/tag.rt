@@ -1,6 +1,7 @@
 //! Tags (X.680 clause 8).
+ghost use Rattle.std.specs.Cmp.Lexicographic.{pointwise};
 ghost use Rattle.std.specs.Prelude.{◌≡◌};
-ghost use Rattle.guard_model.specs.Tags.{tag_order};
+ghost use Rattle.guard_model.specs.Tags.{same_tag, tag_order};
 
 use std::cmp::Ordering;
 
@@ -28,4 +29,11 @@ impl Tag {
     {
         self.cmp(other)
     }
+}
+
+/// Whether the tags are the same, one by one.
+pub fn are_same_tags(tags: &[Tag], others: &[Tag]) -> bool
+    ensures { result ≡ pointwise same_tag tags.now others.now }
+{
+    tags == others
 }

@@ -1,9 +1,9 @@
 //! The constraints that are written at a type, put after those that it has.
-ghost use Rattle.std.specs.Prelude.{◌≡◌, map, None, IsTrue, IfOk};
+ghost use Rattle.std.specs.Prelude.{◌≡◌, map, Some, None, IsTrue, IfOk};
 ghost use Rattle.guard_der.specs.ProperConstraints.{takes_size};
 ghost use Rattle.guard_der.specs.Sound.{is_sound};
 ghost use Rattle.guard_model.specs.AbstractType as abstract;
-ghost use Rattle.guard_model.specs.AbstractType.{type_of};
+ghost use Rattle.guard_model.specs.AbstractType.{AbstractType, type_of};
 ghost use Rattle.guard_model.specs.Kinds.{kind_of};
 ghost use Rattle.guard_model.specs.TypeView.{type_view, kind_view, constraint_view, constraints_of};
 ghost use Rattle.guard_syntax.specs.SetViews as sets;
@@ -16,14 +16,14 @@ ghost use Rattle.guard_schema.specs.LongValues.{first_long};
 ghost use Rattle.guard_schema.specs.Readings.{HasShortValues};
 ghost use Rattle.guard_schema.specs.inside.InTurn.{ConstrainsWritten};
 ghost use Rattle.guard_schema.specs.Pairs.{AreBuilt};
-ghost use Rattle.guard_schema.specs.inside.Ready.{IsPart, IsWrittenPart};
+ghost use Rattle.guard_schema.specs.inside.Ready.{IsPart, IsWrittenPart, IsShortAsMeant, tags_on};
 ghost use Rattle.guard_schema.specs.Outcomes.{Answers, Is, Then};
 ghost use Rattle.guard_schema.specs.Views.{before_view};
 
 use crate::fault::SchemaFault;
 use crate::long_values::check_values;
 use crate::readings::read_constraint;
-use guard_model::{Cons, Kind, Rule, Site, Tag, Ty};
+use guard_model::{Cons, Kind, Rule, Site, Tag, Ty, are_same_tags};
 use guard_syntax::{BaseTree, ConsTree, OfConsTree, TypeTree};
 use guard_values::Scope;
 use std::alloc::{AllocError, Global};
@@ -31,7 +31,7 @@ use std::alloc::{AllocError, Global};
 /// The type that is written so, whose parts are finished, with its constraints: those that it has before those after
 /// it, and these.
 pub fn with_written(alloc: Global, scope: Scope, tree: &TypeTree, ty: Ty) -> Result<Ty, SchemaFault>
-    requires part { IsWrittenPart (written.type_view tree.now) (type_view ty) }
+    requires part { IsWrittenPart (visible_in scope) (written.type_view tree.now) (type_view ty) }
     requires known { AreBuilt scope.known.now }
     ensures constrained { Answers type_view named result
         (ConstrainsWritten (visible_in scope.entry) (written.type_view tree.now) (type_view ty)) }
@@ -102,7 +102,7 @@ fn constrained_before(
     base: &BaseTree,
     ty: Ty,
 ) -> Result<Ty, SchemaFault>
-    requires part { IsPart (written.base_view base.now) (type_view ty) }
+    requires part { IsPart (visible_in scope) (written.base_view base.now) (type_view ty) }
     requires known { AreBuilt scope.known.now }
     ensures constrained { Answers type_view named result
         (ConstrainsBefore (visible_in scope.entry) (written.base_view base.now) (type_view ty)) }
@@ -110,18 +110,33 @@ fn constrained_before(
 {
     match base {
         BaseTree::Of(_, Some(before), _) => by_one(alloc, scope, before, ty),
-        BaseTree::Reference(_) => with_short_values(alloc, ty),
+        BaseTree::Reference(name) => with_short_values(alloc, scope, name.name, ty),
         _ => Ok(ty),
     }
 }
 
-/// The type, where the values in its constraints are short enough.
-fn with_short_values(alloc: Global, ty: Ty) -> Result<Ty, SchemaFault>
+/// The type of this name under these tags, where the values in its constraints are short enough. Under the tags that
+/// the name means they are, so those aren't looked at again.
+fn with_short_values(alloc: Global, scope: Scope, name: &[u8], ty: Ty) -> Result<Ty, SchemaFault>
+    requires meant { IsShortAsMeant (visible_in scope) name.now (type_view ty) }
     ensures passed { Answers type_view named result (Then (HasShortValues (type_view ty)) (λ _. Is (type_view ty))) }
     ensures short { IfOk result (λ _. first_long (type_view ty) ≡ None) }
 {
-    check_values(alloc, &ty)?;
+    if !are_tags_of(scope, name, &ty.tags) {
+        check_values(alloc, &ty)?;
+    }
     Ok(ty)
+}
+
+/// Whether the type that a name means has these tags.
+fn are_tags_of(scope: Scope, name: &[u8], tags: &[Tag]) -> bool
+    ensures { IsTrue result → (u : AbstractType) × ((visible_in scope.entry).types name.now ≡ Some u)
+        × (tags.now ≡ tags_on u) }
+{
+    match scope.type_named(name) {
+        Some(ty) => are_same_tags(tags, &ty.tags),
+        None => false,
+    }
 }
 
 fn by_one(alloc: Global, scope: Scope, before: &OfConsTree, ty: Ty) -> Result<Ty, SchemaFault>

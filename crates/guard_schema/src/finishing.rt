@@ -56,7 +56,7 @@ pub fn finished(alloc: Global, scope: Scope, tree: &TypeTree, bare: Ty) -> Resul
 fn with_parts(alloc: Global, scope: Scope, base: &BaseTree, bare: Ty) -> Result<Ty, SchemaFault>
     requires known { AreBuilt scope.known.now }
     requires ready { ready.IsReadyBase (visible_in scope) (written.base_view base.now) (type_view bare) }
-    ensures part { IfOk result (λ t. ready.IsPart (written.base_view base.now) (type_view t)) }
+    ensures part { IfOk result (λ t. ready.IsPart (visible_in scope.entry) (written.base_view base.now) (type_view t)) }
     ensures filled { Answers type_view named result
         (in_turn.PartsInTurn (visible_in scope.entry) (written.base_view base.now) (type_view bare)) }
 {

@@ -1,8 +1,6 @@
 //! Tables.
-ghost use Rattle.std.specs.Cmp.Lexicographic.{pointwise};
 ghost use Rattle.std.specs.Prelude.{◌≡◌, ◌≤◌, ◌&&◌, ◌∷◌, None, Some, All, length, map, slice_get};
 ghost use Rattle.std.specs.Prelude.{option_map, IsTrue, IfOk, OnOk, IfErr, IfSome};
-ghost use Rattle.guard_model.specs.Tags.{same_tag};
 ghost use Rattle.guard_model.specs.TypeView.{type_view};
 ghost use Rattle.guard_der.specs.Sound.{is_sound};
 ghost use Rattle.guard_tables.specs.Alike.{AreConsistent};
@@ -16,7 +14,7 @@ use crate::layout::lay_nodes;
 use crate::node_list::Nodes;
 use crate::nodes::has_crowded_node;
 use crate::sharing::{demands_of, share};
-use guard_model::{OutOfMemory, Tag, Ty};
+use guard_model::{OutOfMemory, Ty, are_same_tags};
 use std::alloc::Global;
 
 /// How many rules a message may have.
@@ -153,12 +151,6 @@ fn is_match(declared: &Ty, rule: &Ty) -> bool
     ensures { result ≡ is_match (type_view declared.now) (type_view rule.now) }
 {
     are_same_tags(&declared.tags, &rule.tags) && declared.same_base(rule)
-}
-
-fn are_same_tags(tags: &[Tag], others: &[Tag]) -> bool
-    ensures { result ≡ pointwise same_tag tags.now others.now }
-{
-    tags == others
 }
 
 fn copy_of_types(alloc: Global, types: &[&Ty]) -> Result<Vec<Ty>, OutOfMemory>

@@ -21,6 +21,7 @@ use Rattle.guard_syntax.specs.SetViews as sets
 use Rattle.guard_syntax.specs.Trees.{WrittenConstraint, WrittenPresence, WrittenTag, WrittenType, type_node}
 use Rattle.guard_syntax.specs.Trees.{WrittenBase, of_type, WrittenComponentForm, components_of_type, WrittenComponent}
 use Rattle.guard_syntax.specs.Trees.{WrittenAlternative}
+use Rattle.guard_model.specs.declared.tag.Tag.{Tag}
 use Rattle.guard_syntax.specs.Trees as trees
 use Rattle.guard_syntax.specs.TypeViews as written
 use Rattle.guard_syntax.specs.TypeViews.{base_step, component_form_step, alternative_step, component_step, type_step}
@@ -49,7 +50,8 @@ use Rattle.guard_schema.specs.inside.InTurn.{Filling, ConstrainsWritten, Finishe
 use Rattle.guard_schema.specs.inside.InTurn.{ElementInTurn, PartsInTurn, OneInTurn, WithPresence, FillsAll, FillsOne}
 use Rattle.guard_schema.specs.inside.InTurn.{FromBaseInTurn, EntryInTurn, ListInTurn, ChoiceInTurn, FillsInTurn}
 use Rattle.guard_schema.specs.inside.InTurn.{OthersInTurn}
-use Rattle.guard_schema.specs.inside.Ready.{listed, IsReady, IsReadyBase, IsPart, IsWrittenPart}
+use Rattle.guard_schema.specs.inside.Ready.{tags_on, listed, IsReady, IsReadyBase, IsPart, IsWrittenPart}
+use Rattle.guard_schema.specs.inside.Ready.{IsShortAsMeant}
 use Rattle.guard_schema.proofs.Filled.Lists.{listed_of}
 use Rattle.guard_schema.specs.declared.finishing.Filling as code
 use Rattle.guard_schema.specs.Views.{filling_view}
@@ -83,11 +85,13 @@ module _ (names : Visible) (tree : TypeTree) (t : AbstractType) where
       (λ (v : AbstractType). Adds names (map sets.constraint_view (out-TypeTree tree).cons.items) v) type_view named u h
       result k)
 
-  pub part_there : IsWrittenPart (written.type_view tree) t → IsPart (written.base_view (out-TypeTree tree).base) t
-  part_there h = subst (λ (w : WrittenType). IsWrittenPart w t) (type_is tree) h
+  pub part_there : IsWrittenPart names (written.type_view tree) t
+      → IsPart names (written.base_view (out-TypeTree tree).base) t
+  part_there h = subst (λ (w : WrittenType). IsWrittenPart names w t) (type_is tree) h
 
-  pub part_written : IsPart (written.base_view (out-TypeTree tree).base) t → IsWrittenPart (written.type_view tree) t
-  part_written h = subst (λ (w : WrittenType). IsWrittenPart w t) (sym (type_is tree)) h
+  pub part_written : IsPart names (written.base_view (out-TypeTree tree).base) t
+      → IsWrittenPart names (written.type_view tree) t
+  part_written h = subst (λ (w : WrittenType). IsWrittenPart names w t) (sym (type_is tree)) h
 
   pub ready_there : IsReady names (written.type_view tree) t
       → IsReadyBase names (written.base_view (out-TypeTree tree).base) t
@@ -101,6 +105,12 @@ constraints_there ty found expected h e =
     let all = constraints_of (map model.constraint_view (out-Ty ty).cons.items) in
     ap first_long (type_view_is ty) ∙ ap (λ (t : AbstractType). long_in_all t all) (sym (type_view_is ty))
     ∙ sym h ∙ e
+
+-- under the tags that the name means its values are short
+pub short_as_meant : (names : Visible) (name : List ℕ) (ty : Ty) → IsShortAsMeant names name (type_view ty)
+    → (tags : List Tag) → tags ≡ (out-Ty ty).tags.items
+    → (u : AbstractType) × (names.types name ≡ Some u) × (tags ≡ tags_on u) → first_long (type_view ty) ≡ None
+short_as_meant names name ty h tags is (u, there, same) = h u there (ap tags_on (type_view_is ty) ∙ sym is ∙ same)
 
 -- ---- its parts, and then its constraints
 

@@ -3,6 +3,7 @@ use Rattle.std.proofs.Common.{◌≡◌, inl, inr, ℕ, Bool, true, false, ◌&&
 use Rattle.std.proofs.Common.{refl, sym, ap, subst, ◌∙◌}
 use Rattle.std.specs.Prelude.{nat_le}
 use Rattle.std.proofs.lemmas.Bool.{and_parts, and_from}
+use Rattle.std.proofs.lemmas.Option.{same_Some}
 use Rattle.guard_model.proofs.Results.{same_Ok}
 use Rattle.guard_model.specs.declared.tag.Tag.{Tag}
 use Rattle.guard_model.specs.AbstractType as type
@@ -39,7 +40,7 @@ use Rattle.guard_schema.specs.Finishing.{with_constraint, put_before, AddsOne, A
 use Rattle.guard_schema.specs.Finishing.{ConstrainsElements}
 use Rattle.guard_schema.specs.Finishing.{ConstrainsBefore, FillsPresence, FinishesComponent, Finishes, FinishesKind}
 use Rattle.guard_schema.specs.Finishing.{Fills, FillsFrom, FillsFromBase, FillsOthers}
-use Rattle.guard_schema.specs.inside.Ready.{constraints_on, is_shaped, are_shaped, IsFresh, IsMadeUp, IsMadeUpBase}
+use Rattle.guard_schema.specs.inside.Ready.{tags_on, constraints_on, is_shaped, are_shaped, IsFresh, IsMadeUp, IsMadeUpBase}
 use Rattle.guard_schema.specs.inside.Ready.{AreMadeUp, IsPutIn, IsPutInBase, AreMadeUpOthers, IsReady, IsPart}
 use Rattle.guard_schema.proofs.OneAnswer.Steps.{one_structure, one_choice, one_element, one_join}
 use Rattle.guard_schema.proofs.Filled.OneConstraint.{sound_with}
@@ -48,6 +49,7 @@ use Rattle.guard_schema.proofs.Sound.Shapes.{shape_of_kind, shape_of_parts, kind
 use Rattle.guard_schema.proofs.Sound.Shapes.{count_shape}
 use Rattle.guard_schema.proofs.Sound.Shaped.{structure_shaped, choice_shaped, element_shaped, shaped_join, shaped_same}
 use Rattle.guard_schema.proofs.Sound.Retagged.{all_again, proper_join}
+use Rattle.guard_schema.proofs.Sound.Short.{sound_short}
 
 inside_proper : (t : AbstractType) → IsTrue (is_proper t) → IsTrue (is_proper_kind (kind_of t))
 inside_proper (type_of tags kind cons) h =
@@ -161,10 +163,10 @@ module _ (names : Visible) (fit : AreFitting names.values)
   elements_sound None t u s takes e = kept t u s e
   elements_sound (Some c) t u s takes h = by_one_sound c c.size t u s takes h
 
-  before_sound : (base : WrittenBase) (t u : AbstractType) → IsPart base t → ConstrainsBefore names base t (Ok u)
+  before_sound : (base : WrittenBase) (t u : AbstractType) → IsPart names base t → ConstrainsBefore names base t (Ok u)
       → IsTrue (is_sound u)
   before_sound (of_type k c w) t u s h = elements_sound c t u s.0 s.1 h
-  before_sound (named_type site name) t u s (inl (x, short, e)) = kept t u (s short) e
+  before_sound (named_type site name) t u s (inl (x, short, e)) = kept t u (s.0 short) e
   before_sound (named_type site name) t u s (inr (f, short, e)) = absurd cc
   before_sound base t u s e = kept t u s e
 
@@ -255,6 +257,17 @@ module _ (names : Visible) (fit : AreFitting names.values)
           (subst (λ (x : AbstractKind). IsTrue (are_proper_constraints cons (type_of us x uc))) (sym a)
           (subst (λ (x : Constraints). IsTrue (are_proper_constraints x (type_of us uk uc))) (sym b) old)) short
 
+  -- under its own tags a type that a name means has no long value
+  meant_short : (name : List ℕ) (ts : List Tag) (kind : AbstractKind) (cons : Constraints) (u v : AbstractType)
+      → names.types name ≡ Some u → kind ≡ kind_of u → cons ≡ constraints_on u → names.types name ≡ Some v
+      → ts ≡ tags_on v → first_long (type_of ts kind cons) ≡ None
+  meant_short name ts kind cons (type_of us uk uc) v is e f here same =
+      let tags : ts ≡ us = same ∙ ap tags_on (same_Some v (type_of us uk uc) (sym here ∙ is)) in
+      subst (λ (x : AbstractKind). first_long (type_of ts x cons) ≡ None) (sym e)
+      (subst (λ (x : Constraints). first_long (type_of ts uk x) ≡ None) (sym f)
+      (subst (λ (x : List Tag). first_long (type_of x uk uc) ≡ None) (sym tags)
+      (sound_short (type_of us uk uc) (sound name (type_of us uk uc) is))))
+
   -- ---- types
 
   mutual
@@ -268,7 +281,7 @@ module _ (names : Visible) (fit : AreFitting names.values)
     pub kind_part : (base : WrittenBase) (ts : List Tag) (kind k : AbstractKind) (cons : Constraints)
         → IsTrue (is_tagged ts kind && are_low ts) × IsMadeUpBase names base kind cons
         → IsTrue (is_shaped (type_of ts kind cons)) → FinishesKind names base kind (Ok k)
-        → IsPart base (type_of ts k cons)
+        → IsPart names base (type_of ts k cons)
     kind_part (plain p) ts kind k cons m shaped e = fresh_sound ts kind k cons e m.0 m.1 shaped
     kind_part (numbers ns) ts kind k cons m shaped e = fresh_sound ts kind k cons e m.0 m.1 shaped
     kind_part (named_bits ns) ts kind k cons m shaped e = fresh_sound ts kind k cons e m.0 m.1 shaped
@@ -320,11 +333,15 @@ module _ (names : Visible) (fit : AreFitting names.values)
           ap takes_size final ∙ of_takes_size c u,
         )
     kind_part (of_type c o w) ts kind k cons m shaped (bare, is, inr (f, h, e)) = absurd cc
-    kind_part (named_type site name) ts kind k cons (tagged, inl fresh) shaped e =
-        λ short. fresh_sound ts kind k cons e tagged fresh shaped
+    kind_part (named_type site name) ts kind k cons (tagged, inl fresh) shaped e = (
+      λ short. fresh_sound ts kind k cons e tagged fresh shaped,
+      λ u there same. subst (λ (x : Constraints). first_long (type_of ts k x) ≡ None) (sym fresh.0) refl,
+    )
     kind_part (named_type site name) ts kind k cons (tagged, inr (u, there, a, b)) shaped e =
-        subst (λ (x : AbstractKind). first_long (type_of ts x cons) ≡ None → IsTrue (is_sound (type_of ts x cons)))
-        (sym (same_Ok k kind e)) (λ short. named_sound name ts kind cons u there a b tagged shaped short)
+        subst (λ (x : AbstractKind). IsPart names (named_type site name) (type_of ts x cons)) (sym (same_Ok k kind e)) (
+          λ short. named_sound name ts kind cons u there a b tagged shaped short,
+          λ v here same. meant_short name ts kind cons u v there a b here same,
+        )
 
     list_proper : (cs : WrittenComponents) (bare parts : Components) → AreMadeUp names cs bare
         → IsTrue (are_shaped bare) → Fills names cs bare (Ok parts) → IsTrue (are_proper parts)

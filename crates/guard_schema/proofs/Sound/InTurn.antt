@@ -20,12 +20,12 @@ pub part_sound : (scope : Scope) → AreBuilt scope.known.now → (base : Writte
     → IsReadyBase (visible_in scope) base (type_view bare) → (k : AbstractKind)
     → KindInTurn (visible_in scope) base (kind_view (out-Ty bare).kind) (Ok k) → (t : AbstractType)
     → t ≡ type_of (out-Ty bare).tags.items k (constraints_of (map constraint_view (out-Ty bare).cons.items))
-    → IsPart base t
+    → IsPart (visible_in scope) base t
 part_sound scope known base bare ready k h t is =
     let cons = constraints_of (map constraint_view (out-Ty bare).cons.items) in
     let kind = kind_view (out-Ty bare).kind in
     let here = subst (λ (u : AbstractType). IsReadyBase (visible_in scope) base u) (type_view_is bare) ready in
-    subst (λ (u : AbstractType). IsPart base u) (sym is)
+    subst (λ (u : AbstractType). IsPart (visible_in scope) base u) (sym is)
     (kind_part (visible_in scope) (visible_fit scope.names.now scope.known.now scope.id known.1)
     (visible_sound scope.names.now scope.known.now scope.id known.0) base (out-Ty bare).tags.items kind k cons here.0
     here.1 (kind_filled (visible_in scope) base kind cons here.0.1 (Ok k) h))

@@ -1,6 +1,7 @@
 -- What the code knows of a bare type before it is finished: the written type has it by its tags, so it is of the kind
 -- that is written, and its parts are those that are written; tags tell these apart, and no limit is broken.
 use Rattle.std.specs.Prelude.{◌≡◌, ◌⊎◌, ℕ, Bool, true, ◌&&◌, List, [], ◌∷◌, ◌++◌, Some, None, IsTrue, nat_le}
+use Rattle.guard_model.specs.declared.tag.Tag.{Tag}
 use Rattle.guard_model.specs.AbstractType as type
 use Rattle.guard_model.specs.AbstractType.{AbstractType, AbstractKind, Components, Constraints, type_of}
 use Rattle.guard_model.specs.Counts.{component_count}
@@ -21,6 +22,10 @@ use Rattle.guard_constraints.specs.Visible.{Visible}
 use Rattle.guard_schema.specs.LongValues.{first_long}
 
 -- ---- a type by itself
+
+-- its own tags
+abbrev pub tags_on : AbstractType → List Tag
+tags_on (type_of tags kind cons) = tags
 
 -- its own constraints
 abbrev pub constraints_on : AbstractType → Constraints
@@ -155,16 +160,21 @@ module _ (names : Visible) where
 
 -- ---- with its parts finished, before its constraints
 
--- It is sound, but for long values in the constraints of a type that is referred to; an OF type can have SIZE.
-abbrev pub IsPart : WrittenBase → AbstractType → Type 0
-IsPart (plain p) t = IsTrue (is_sound t)
-IsPart (numbers ns) t = IsTrue (is_sound t)
-IsPart (named_bits ns) t = IsTrue (is_sound t)
-IsPart (enumerated items) t = IsTrue (is_sound t)
-IsPart (structure k cs) t = IsTrue (is_sound t)
-IsPart (choice others) t = IsTrue (is_sound t)
-IsPart (of_type k c u) t = IsTrue (is_sound t) × IsTrue (takes_size (kind_of t))
-IsPart (named_type site name) t = first_long t ≡ None → IsTrue (is_sound t)
+module _ (names : Visible) where
+  -- of a type that a name means: the values in its constraints are short enough under its own tags
+  abbrev pub IsShortAsMeant : List ℕ → AbstractType → Type 0
+  IsShortAsMeant name t = (u : AbstractType) → names.types name ≡ Some u → tags_on t ≡ tags_on u → first_long t ≡ None
 
-abbrev pub IsWrittenPart : WrittenType → AbstractType → Type 0
-IsWrittenPart (type_node site tags base cs) t = IsPart base t
+  -- It is sound, but for long values in the constraints of a type that is referred to; an OF type can have SIZE.
+  abbrev pub IsPart : WrittenBase → AbstractType → Type 0
+  IsPart (plain p) t = IsTrue (is_sound t)
+  IsPart (numbers ns) t = IsTrue (is_sound t)
+  IsPart (named_bits ns) t = IsTrue (is_sound t)
+  IsPart (enumerated items) t = IsTrue (is_sound t)
+  IsPart (structure k cs) t = IsTrue (is_sound t)
+  IsPart (choice others) t = IsTrue (is_sound t)
+  IsPart (of_type k c u) t = IsTrue (is_sound t) × IsTrue (takes_size (kind_of t))
+  IsPart (named_type site name) t = (first_long t ≡ None → IsTrue (is_sound t)) × IsShortAsMeant name t
+
+  abbrev pub IsWrittenPart : WrittenType → AbstractType → Type 0
+  IsWrittenPart (type_node site tags base cs) t = IsPart base t

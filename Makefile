@@ -1,7 +1,7 @@
 # Proves and builds the program, and installs it with its manual pages, completions, documents and examples.
 #
-#   make                                          proves the program's crates, as many at a time as there are processors
-#                                                 and memory for, and builds it; README says how long that takes
+#   make                                          proves the program's crates, and builds it; README says how long
+#                                                 that takes
 #   make library                                  proves and builds the library for C
 #   make install [PREFIX=/usr/local] [DESTDIR=]   puts everything below DESTDIR/PREFIX, the library where it was built
 #   make uninstall                                takes away what `make install` with the same words put there

@@ -69,7 +69,7 @@ enum derguard_status {
     DERGUARD_NO_LINK = 4,        /* the handle holds no link */
     DERGUARD_BAD_NAMES = 5,      /* the names are no route */
     DERGUARD_TOO_SMALL = 6,      /* the buffer is too short */
-    DERGUARD_FRAME_TOO_LONG = 7, /* a frame is longer than 1,048,576 octets, and the link is closed */
+    DERGUARD_FRAME_TOO_LONG = 7, /* a frame's body is longer than 1,048,576 octets; the link is closed */
     DERGUARD_WRITE_FAILED = 8,   /* memory ran out for what a piece adds, and the link is closed */
     DERGUARD_CLOSED = 9,         /* the link was closed before */
     DERGUARD_TORN_FRAME = 10     /* the stream ended within a frame */
@@ -81,11 +81,13 @@ uint32_t derguard_version(uint8_t *out, size_t out_length, size_t *needed);
 /* ---- policies */
 
 /* Loads the policy that `text` says over the ASN.1 modules that the other texts are, one module each, in place of what
- * the handle held. The texts are those of the files that the program reads; the policy's key `modules` isn't looked at.
+ * the handle held. The texts are those of the files that the program reads. The policy's key `modules` must be there,
+ * as a list of texts; which files it names makes no difference.
  *
  * DERGUARD_OK: the handle holds the policy.
- * DERGUARD_REFUSED: the texts say none. `fault` has the text of their first fault, as the program prints it after
- *     "derguard: ", with its number and place; as much of it as fits, and `*needed` is how long it is.
+ * DERGUARD_REFUSED: the texts say none. `fault` has the text of their first fault, the modules' before the policy's, as
+ *     the program prints it after "derguard: ", with its number and place; as much of it as fits, and `*needed` is how
+ *     long it is.
  * DERGUARD_OUT_OF_MEMORY may be answered for any texts.
  *
  * Unless it answers DERGUARD_OK, the handle holds what it held: a policy that is in force stays in force. */
@@ -131,7 +133,7 @@ void derguard_free(derguard_policy *policy);
 
 /* Opens a new link, in place of what the handle held: it has had no octets yet, and its frames are numbered from 1.
  *
- * DERGUARD_OK: the handle holds it. It takes 1 MiB of memory, room for the longest frame.
+ * DERGUARD_OK: the handle holds it. It takes memory for the longest frame, 1 MiB and four octets.
  * DERGUARD_OUT_OF_MEMORY: the handle stays as it was. */
 uint32_t derguard_link_open(derguard_link *link);
 

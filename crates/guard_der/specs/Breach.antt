@@ -23,7 +23,7 @@ use Rattle.guard_model.specs.Tags.{same_tag}
 use Rattle.guard_model.specs.Counts.{item_count}
 use Rattle.guard_tagcheck.specs.Search.{is_mandatory}
 
--- offset and path count from where what is spoken of begins
+-- A fault, and where it is. The offset and the path begin at the element or the contents that are spoken of.
 pub record AbstractBreach : Type 0 where
   pub code : Code
   pub at : ℕ
@@ -32,11 +32,11 @@ pub record AbstractBreach : Type 0 where
 abbrev pub here : Code → AbstractBreach
 here c = record { code = c; at = 0; path = [] }
 
--- seen from so many octets before
+-- the breach, its offset counted from so many octets before
 abbrev pub after : ℕ → AbstractBreach → AbstractBreach
 after n b = record { code = b.code; at = n + b.at; path = b.path }
 
--- seen from the value round it
+-- the breach of a value inside, its path counted from the value round it
 abbrev pub below : Step → AbstractBreach → AbstractBreach
 below step b = record { code = b.code; at = b.at; path = step ∷ b.path }
 
@@ -106,7 +106,8 @@ abbrev pub one_with : ℕ → Components → Tag → Option ℕ
 one_with i no_components tag = None
 one_with i (component name t presence rest) tag = if begins_with t tag then Some i else one_with (suc i) rest tag
 
--- the same in a SEQUENCE, where only components that can be absent are passed over
+-- the first of these components of a SEQUENCE to which an element with this tag belongs, if all before it can be
+-- absent; the first of all is component i
 abbrev pub next_with : ℕ → Components → Tag → Option ℕ
 next_with i no_components tag = None
 next_with i (component name t presence rest) tag =
@@ -124,7 +125,7 @@ first_components zero cs = no_components
 first_components (suc i) no_components = no_components
 first_components (suc i) (component name t presence cs) = component name t presence (first_components i cs)
 
--- the components after them
+-- the components after the first i
 abbrev pub other_components : ℕ → Components → Components
 other_components zero cs = cs
 other_components (suc i) no_components = no_components
@@ -209,9 +210,9 @@ SetFault cs Sent fs ps octets b =
     -- an element comes there that is of no component
     ⊎ ((c : Code) × (octets ≢ []) × NotDue (λ tag. is_found (one_with 0 cs tag)) octets c × (b ≡ here c))
     ⊎ ((h : Head) × (j : ℕ) × (head_of octets ≡ Ok h) × (one_with 0 cs h.tag ≡ Some j)
-    -- its tag doesn't ascend
+    -- the tag of an element doesn't ascend
     × (((is_after h.tag ps ≡ false) × (b ≡ below (Component j) (here code.SetOrder)))
-    -- its component was there before
+    -- the component of an element was there before
     ⊎ ((is_after h.tag ps ≡ true) × (is_sent j cs fs ≡ true) × (b ≡ here code.UnexpectedTag))
     -- the element of a component is at fault
     ⊎ ((c : AbstractBreach) × (is_after h.tag ps ≡ true) × (is_sent j cs fs ≡ false)

@@ -213,7 +213,8 @@ item_alone ordered wanted read before at octets =
     then Err (fault code.SetOfOrder at)
     else Ok (v, h.size + h.contents)
 
--- the same of element i, faults seen from the value round it
+-- element i after one with these octets: its value, and how many octets it takes; the path of a fault begins at the
+-- value that has the element
 unfoldable pub item_at : Bool → (Tag → Bool) → Reader → ℕ → List ℕ → ℕ → List ℕ
     → Result (AbstractValue × ℕ) AbstractBreach
 item_at ordered wanted read i before at octets = inside (Element i) (item_alone ordered wanted read before at octets)

@@ -6,14 +6,15 @@ ghost use Rattle.guard_der.specs.Fits.{has_no_trailing_zero, ends_as_named};
 
 use guard_model::Named;
 
-/// At most seven bits are unused, and without octets none (X.690 8.6.2).
+/// Whether at most seven bits are unused, and none where there are no octets (X.690 8.6.2).
 pub fn has_proper_end(octets: &[u8], unused: u8) -> bool
     ensures { result ≡ has_proper_end octets.now unused }
 {
     unused <= 7 && (unused == 0 || !octets.is_empty())
 }
 
-/// The unused bits are zero (X.690 11.2.1).
+/// Whether the unused bits, the lowest of the last octet, are zero (X.690 11.2.1); true where there are no octets.
+/// Condition: at most seven bits are unused.
 pub fn has_zero_end(octets: &[u8], unused: u8) -> bool
     requires { unused ≤ 7 }
     ensures { result ≡ has_zero_end octets.now unused }
@@ -21,7 +22,8 @@ pub fn has_zero_end(octets: &[u8], unused: u8) -> bool
     last_octet(octets) % power_of_two(unused) == 0
 }
 
-/// Where bits are named the last bit is one, or there are none (X.680 22.7, X.690 11.2.2).
+/// Whether no bits are named, or the last bit is one, or there are no octets (X.680 22.7, X.690 11.2.2). Condition: at
+/// most seven bits are unused.
 pub fn ends_as_named(names: &[Named], octets: &[u8], unused: u8) -> bool
     requires { unused ≤ 7 }
     ensures { result ≡ ends_as_named (map named_view names.now) octets.now unused }
@@ -32,7 +34,7 @@ pub fn ends_as_named(names: &[Named], octets: &[u8], unused: u8) -> bool
     }
 }
 
-/// The last bit is one, or there are no bits.
+/// Whether the last bit is one, or there are no octets and so no bits. Condition: at most seven bits are unused.
 pub fn has_no_trailing_zero(octets: &[u8], unused: u8) -> bool
     requires { unused ≤ 7 }
     ensures { result ≡ has_no_trailing_zero octets.now unused }
@@ -43,7 +45,7 @@ pub fn has_no_trailing_zero(octets: &[u8], unused: u8) -> bool
     }
 }
 
-/// How many bits there are, as SIZE counts them.
+/// How many bits there are, as SIZE counts them (X.680 51.5): eight for each octet, without the unused ones.
 pub fn count_bits(octets: &[u8], unused: u8) -> i128
     ensures { result ≡ pos (8 * length octets.now - unused) }
 {

@@ -5,7 +5,7 @@ use guard_model::{Path, PathText};
 use std::fmt;
 use thiserror::Error;
 
-/// What is wrong.
+/// What is wrong with octets that are no encoding, in the terms of X.690.
 #[derive(Clone, Copy, Debug, PartialEq, Eq)]
 pub enum Code {
     /// The octets end before the element does.
@@ -60,7 +60,7 @@ pub enum Code {
 impl Code {
     ghost use Rattle.guard_der.specs.Names.{breach_name};
 
-    /// As it is reported, without its number.
+    /// The name as it is reported, without its number: `Truncated`.
     pub fn name(self) -> &'static str
         ensures { result.now ≡ breach_name self }
     {
@@ -92,30 +92,32 @@ impl Code {
     }
 }
 
-/// With its number: `E1 Truncated`.
+/// Prints the number and the name: `E1 Truncated`.
 impl fmt::Display for Code {
     fn fmt<W: fmt::Write>(&self, f: &mut fmt::Formatter<W>) -> fmt::Result {
         write!(f, "E{} {}", *self as u8 + 1, self.name())
     }
 }
 
-/// The first place that breaks the rules. Printed, its path counts components and elements from 0:
-/// `E9 BooleanContents 5 $.1[0]`.
+/// The first place in octets that breaks the rules. A breach prints as its number, its name, the offset and the path,
+/// in which components and elements count from 0: `E9 BooleanContents 5 $.1[0]`.
 #[derive(Debug, Drop, Error)]
 #[error("{code} {at} {way}", way = PathText(.path))]
 pub struct Breach {
     pub code: Code,
-    /// The offset in the message, from 0.
+    /// The offset of the place in the message, from 0; at most the message's length.
     pub at: usize,
     /// The way to the value that the breach concerns.
     pub path: Path,
 }
 
-/// Why there is no value.
+/// Why octets give no value.
 #[derive(Debug, Drop, Error)]
 pub enum DecodeFault {
+    /// The octets are the encoding of no value of the type.
     #[error("{0}")]
     Breach(Breach),
+    /// A growth was refused. This may be answered instead of anything else.
     #[error("OutOfMemory")]
     OutOfMemory,
 }

@@ -22,7 +22,8 @@ use guard_model::{Bits, CharKind, Kind, Named, Path, Value};
 use std::alloc::Global;
 use std::sync::{ArcSlice, ArcStr};
 
-/// The value that contents octets of a simple kind say.
+/// The value that contents octets of a simple kind say, or what is wrong with them, at the offset `at`. The path of a
+/// fault is made empty.
 pub fn value_of_simple(
     alloc: Global,
     path: &mut Path,
@@ -46,7 +47,7 @@ pub fn value_of_simple(
     }
 }
 
-/// FALSE is 00, TRUE is FF (X.690 8.2, 11.1).
+/// The value of a BOOLEAN: FALSE is 00, TRUE is FF (X.690 8.2, 11.1).
 fn boolean(path: &mut Path, at: usize, octets: &[u8]) -> Result<Value, Fault>
     ensures { Gives value_view (fault_of path.new.items) result
         (unless_fault at (boolean_fault octets.now) (abstract.boolean (boolean_of octets.now))) }
@@ -58,7 +59,7 @@ fn boolean(path: &mut Path, at: usize, octets: &[u8]) -> Result<Value, Fault>
     }
 }
 
-/// A NULL has no contents (X.690 8.8.2).
+/// The value of a NULL, which has no contents (X.690 8.8.2).
 fn null(path: &mut Path, at: usize, octets: &[u8]) -> Result<Value, Fault>
     ensures { Gives value_view (fault_of path.new.items) result
         (unless_fault at (null_fault octets.now) abstract.null) }
@@ -69,8 +70,8 @@ fn null(path: &mut Path, at: usize, octets: &[u8]) -> Result<Value, Fault>
     }
 }
 
-/// The first octet is the count of unused bits, which are zero (X.690 8.6.2, 11.2.1); where bits are named, the last
-/// one isn't (11.2.2).
+/// The value of a BIT STRING. The first octet is the count of unused bits, which are zero (X.690 8.6.2, 11.2.1); where
+/// bits are named, the last one isn't (11.2.2).
 fn bit_string(
     alloc: Global,
     path: &mut Path,
@@ -99,7 +100,7 @@ fn bit_string(
     }))
 }
 
-/// UTF-8 for UTF8String, else one octet a character (X.690 8.23).
+/// The value of a character string: UTF-8 for UTF8String, else one octet a character (X.690 8.23).
 fn text(
     alloc: Global,
     path: &mut Path,
@@ -126,7 +127,7 @@ fn integer(path: &mut Path, at: usize, octets: &[u8]) -> Result<Value, Fault>
     }
 }
 
-/// An INTEGER that is the number of an item (X.690 8.4).
+/// The value of an ENUMERATED: an INTEGER that is the number of an item (X.690 8.4).
 fn enumerated(path: &mut Path, items: &[Named], at: usize, octets: &[u8]) -> Result<Value, Fault>
     ensures { Gives value_view (fault_of path.new.items) result (unless_fault at
         (enumerated_fault (map named_view items.now) octets.now) (abstract.enumerated (twos_read octets.now))) }

@@ -35,9 +35,11 @@ use guard_model::{Comp, Kind, Path, Presence, Step, Tag, Ty, Value, absent_field
 use guard_tagcheck::begins_with;
 use std::alloc::Global;
 
-/// The value of the type that the octets encode, all of them; or their breach.
+/// The value of the type whose encoding (X.690 clauses 8, 10 and 11) the octets are, all of them. Constraints aren't
+/// looked at. Condition: the type is sound, which `sound` tests.
 ///
-/// The breach is the first place that is at fault, reading from left to right.
+/// Where the octets encode no value of the type, the error is their breach: the first place at fault from left to
+/// right, with one of the codes of `Code`. OutOfMemory may come in place of any answer.
 pub fn decode(alloc: Global, ty: &Ty, octets: &[u8]) -> Result<Value, DecodeFault>
     requires { IsTrue (is_sound (type_view ty.now)) }
     // What is answered fits the type, and the octets are its encoding.

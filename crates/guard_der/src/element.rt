@@ -5,6 +5,7 @@ use guard_model::Tag;
 #[derive(Clone, Copy, Debug, PartialEq, Eq)]
 pub struct Header {
     pub tag: Tag,
+    /// Bit 6 of the identifier: whether the contents are encodings themselves.
     pub constructed: bool,
     /// The offset of the first contents octet, which is `end` where there is none.
     pub contents: usize,

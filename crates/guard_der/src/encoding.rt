@@ -21,22 +21,23 @@ use guard_model::{Kind, Tag, Ty, Value};
 use std::alloc::{AllocError, AllocFailed, Global};
 use thiserror::Error;
 
-/// Why there is no encoding.
+/// Why a value gives no encoding.
 #[derive(Clone, Copy, Debug, PartialEq, Eq, Error)]
 pub enum EncodeFault {
-    /// It would have more than 1,048,576 octets.
+    /// The encoding would have more than 1,048,576 octets, or a length in it would need more than four.
     #[error("TooLong")]
     TooLong,
-    /// A growth was refused.
+    /// A growth was refused. This may be answered instead of anything else.
     #[error("OutOfMemory")]
     OutOfMemory,
 }
 
-/// The most octets that an encoding may have.
+/// The most octets that an encoding made by `encode` may have.
 const LONGEST: usize = 1_048_576;
 
-/// The encoding of the value (X.690), which must be one of the type's, constraints aside. TooLong exactly where it has
-/// more than 1,048,576 octets, or a length in it would need more than four; OutOfMemory where a growth is refused.
+/// The encoding of the value (X.690 clauses 8, 10 and 11). Condition: the value is one of the type's, constraints
+/// aside, which `fits` tests. TooLong exactly where the encoding has more than 1,048,576 octets, or a length in it
+/// would need more than four; OutOfMemory where a growth is refused.
 pub fn encode(alloc: Global, ty: &Ty, value: &Value) -> Result<Vec<u8>, EncodeFault>
     requires { IsTrue (fits (type_view ty.now) (value_view value.now)) }
     // The octets of the value's encoding where it is short enough, else TooLong, unless memory runs out.
@@ -49,8 +50,9 @@ pub fn encode(alloc: Global, ty: &Ty, value: &Value) -> Result<Vec<u8>, EncodeFa
     Ok(octets)
 }
 
-/// The contents octets of a value of this kind (X.690 8.1.4). TooLong exactly where a length in them would need more
-/// than four octets; OutOfMemory where a growth is refused.
+/// The contents octets of a value (X.690 8.1.4), without a limit on how many they are. Condition: the value is one of
+/// the kind's, constraints aside. TooLong exactly where a length in them would need more than four octets; OutOfMemory
+/// where a growth is refused.
 pub fn encode_contents(alloc: Global, kind: &Kind, value: &Value) -> Result<Vec<u8>, EncodeFault>
     requires { IsTrue (fits_kind (kind_view kind.now) (value_view value.now)) }
     ensures exact { Gives (λ v. v.items) refusal result

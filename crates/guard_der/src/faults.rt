@@ -28,7 +28,7 @@ impl Fault {
     ghost use Rattle.guard_der.specs.Breach.{below};
     ghost use Rattle.guard_der.specs.inside.Faults.{fault_of};
 
-    /// The fault of a value inside, seen from the value round it.
+    /// The fault of a value inside, with the path from the value round it. Condition: the path has room for a step.
     pub fn below(self, path: &mut Path, step: Step) -> Fault
         requires { IfSome (fault_of path.old.items self) (λ b. length b.path < 32) }
         ensures { fault_of path.new.items result ≡ option_map (below step) (fault_of path.old.items self) }
@@ -67,6 +67,7 @@ impl<T: Drop> From<AllocFailed<T>> for Fault {
     }
 }
 
+/// The header at the front of the octets, or its fault, at the offset `at` and with an empty path.
 pub fn header_at_front(path: &mut Path, at: usize, octets: &[u8]) -> Result<Head, Fault>
     ensures { Gives head_view (fault_of path.new.items) result (located at (head_of octets.now)) }
 {
@@ -76,7 +77,7 @@ pub fn header_at_front(path: &mut Path, at: usize, octets: &[u8]) -> Result<Head
     }
 }
 
-/// Where no element is due.
+/// Ok where there are no octets, since no element is due; else the fault of the header there, or UnexpectedTag.
 #[tactic(auto, unfolding(crate::specs::Reading::end_at, crate::specs::Reading::due_at))]
 pub fn end(path: &mut Path, at: usize, octets: &[u8]) -> Result<(), Fault>
     ensures { Gives (λ x. no_fields) (fault_of path.new.items) result (end_at at octets.now) }
@@ -88,6 +89,7 @@ pub fn end(path: &mut Path, at: usize, octets: &[u8]) -> Result<(), Fault>
     Err(fault_at(path, Code::UnexpectedTag, at))
 }
 
+/// The fault of this code at this offset, with an empty path.
 pub fn fault_at(path: &mut Path, code: Code, at: usize) -> Fault
     ensures { fault_of path.new.items result ≡ Some (fault code at) }
 {
@@ -95,6 +97,7 @@ pub fn fault_at(path: &mut Path, code: Code, at: usize) -> Fault
     Fault::Breach(code, at)
 }
 
+/// The fault that an element is primitive in place of constructed, or the other way round, with an empty path.
 pub fn wrong_form(path: &mut Path, at: usize) -> Fault
     ensures { fault_of path.new.items result ≡ Some (fault WrongForm at) }
 {

@@ -19,7 +19,8 @@ const MOST_ITEMS: usize = 4_294_967_295;
 
 /// Whether the value is one of the type's, constraints aside: it is of the kind and within its limits, has a value at
 /// each component that isn't OPTIONAL, and all that is inside it fits. The elements of a SET OF have encodings, none of
-/// which descends to the next (X.690 11.6). It fails only where memory runs out.
+/// which descends to the next (X.690 11.6). There is no condition: the type need not be sound. OutOfMemory is the only
+/// error.
 #[cycle(fitting)]
 pub fn fits(alloc: Global, ty: &Ty, value: &Value) -> Result<bool, OutOfMemory>
     ensures exact { IfOk result (λ b. b ≡ fits (type_view ty.now) (value_view value.now)) }
@@ -53,7 +54,7 @@ fn kind_fits(alloc: Global, kind: &Kind, value: &Value) -> Result<bool, OutOfMem
     }
 }
 
-/// A fitting value at each component, or none at an OPTIONAL one.
+/// Whether there is a fitting value at each component, or none at an OPTIONAL one.
 #[cycle(fitting)]
 fn fields_fit(alloc: Global, comps: &[Comp], fields: &[Option<Value>]) -> Result<bool, OutOfMemory>
     ensures { IfOk result
@@ -113,7 +114,7 @@ fn alternative_fits(
     fits(alloc, &alternatives[at].ty, value)
 }
 
-/// Few enough elements, each of them fitting.
+/// Whether there are at most 4,294,967,295 elements, each of them fitting.
 #[cycle(fitting)]
 fn items_fit(alloc: Global, ty: &Ty, items: &[Value]) -> Result<bool, OutOfMemory>
     ensures { IfOk result (λ b. b ≡ fits_items (fits (type_view ty.now)) (items_view items.now)) }
@@ -136,7 +137,7 @@ fn all_fit(alloc: Global, ty: &Ty, items: &[Value]) -> Result<bool, OutOfMemory>
     Ok(true)
 }
 
-/// Of a SET OF also the encodings ascend.
+/// Whether the elements of a SET OF fit, few enough, and their encodings ascend.
 #[cycle(fitting)]
 fn set_fits(alloc: Global, ty: &Ty, items: &[Value]) -> Result<bool, OutOfMemory>
     ensures { IfOk result

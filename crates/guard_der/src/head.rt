@@ -15,17 +15,19 @@ use guard_model::{Class, Path, Tag};
 #[derive(Clone, Copy, Debug)]
 pub struct Head {
     pub tag: Tag,
+    /// Bit 6 of the identifier: whether the contents are encodings themselves.
     pub constructed: bool,
     /// How many octets the header has.
     pub size: usize,
-    /// How many octets of contents follow it.
+    /// How many octets of contents follow the header.
     pub contents: usize,
 }
 
-/// The header of the element that begins at an offset. Its contents must not reach past the end of the octets.
+/// The header of the element that begins at the offset `at`, from 0 (X.690 8.1.2, 8.1.3, 10.1). Condition: `at` is at
+/// most the number of octets.
 ///
-/// Refusals are breaches at that offset, their path empty: Truncated, TagForm, IndefiniteLength, NonMinimalLength and
-/// LengthTooLarge, the first that holds from left to right.
+/// The errors are breaches at that offset, with an empty path: Truncated, also where the contents reach past the end of
+/// the octets, TagForm, IndefiniteLength, NonMinimalLength and LengthTooLarge, the first that holds from left to right.
 pub fn header(octets: &[u8], at: usize) -> Result<Header, Breach>
     requires { at ≤ length octets.now }
     // What is answered is there, spelled as X.690 spells it.
@@ -57,6 +59,7 @@ fn placed_header(octets: &[u8], at: usize) -> Result<Header, Breach>
     }
 }
 
+/// The header of the element at the front of the octets, or the first fault in it from left to right.
 #[tactic(auto, unfolding(crate::specs::Head::head_of))]
 pub fn head_at_front(octets: &[u8]) -> Result<Head, Code>
     ensures { Gives head_view Some result (head_of octets.now) }

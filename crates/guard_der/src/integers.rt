@@ -5,8 +5,8 @@ ghost use Rattle.guard_der.specs.Simple.{integer_fault, nine_equal};
 
 use crate::breach::Code;
 
-/// What is wrong with the contents octets of an INTEGER, if anything: they are the shortest two's complement, of at
-/// most sixteen octets (X.690 8.3).
+/// What is wrong with the contents octets of an INTEGER (X.690 8.3): IntegerContents where there are none or the first
+/// nine bits are equal, else IntegerTooLong where there are more than sixteen; None where nothing is wrong.
 pub fn fault_of_integer(octets: &[u8]) -> Option<Code>
     ensures { result ≡ integer_fault octets.now }
 {
@@ -19,7 +19,7 @@ pub fn fault_of_integer(octets: &[u8]) -> Option<Code>
     }
 }
 
-/// A superfluous first octet: the first nine bits are equal (X.690 8.3.2).
+/// Whether the first octet is superfluous: the first nine bits are equal (X.690 8.3.2).
 fn has_nine_equal_bits(octets: &[u8]) -> bool
     ensures { result ≡ nine_equal octets.now }
 {
@@ -31,7 +31,8 @@ fn has_nine_equal_bits(octets: &[u8]) -> bool
     }
 }
 
-/// The number that the contents octets of an INTEGER spell (X.690 8.3.3).
+/// The number that the contents octets of an INTEGER spell, -2^127 to 2^127-1 (X.690 8.3.3). Condition: nothing is
+/// wrong with them, that is `fault_of_integer` answers None.
 #[tactic(auto, unfolding(crate::specs::Octets::twos_complement))]
 pub fn twos_complement(octets: &[u8]) -> i128
     requires { integer_fault octets.now ≡ None }

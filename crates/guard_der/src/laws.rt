@@ -52,7 +52,7 @@ pub fn law_distinct_tags()
     ensures { (t : AbstractType) → IsTrue (has_distinct_tags t) ↔ Distinct t }
 {}
 
-/// The octets of an integer within signed 128 bits are the shortest list whose two's complement value it is: they spell
+/// The octets of an integer within signed 128 bits are the shortest list whose two's complement value it is. They spell
 /// it, and whatever else spells it is longer (X.690 8.3.2).
 pub fn law_shortest_integer()
     ensures back { (z : ℤ) → IsTrue (fits_128_bits z) → SpellInteger z (signed_octets z) }

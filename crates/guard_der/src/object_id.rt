@@ -18,7 +18,9 @@ use std::sync::ArcSlice;
 /// From here on a number has no room for seven bits more.
 const FULL: u128 = 1 << 121;
 
-/// The arcs, read octet by octet. Bit 8 is set on each octet of a subidentifier but its last, and its first is not 80.
+/// The arcs that contents octets of an OBJECT IDENTIFIER say (X.690 8.19), or what is wrong with them, at the offset
+/// `at`: ObjectIdContents, else ObjectIdTooLong. Bit 8 is set on each octet of a subidentifier but its last, and its
+/// first is not 80.
 pub fn object_identifier(
     alloc: Global,
     path: &mut Path,
@@ -55,7 +57,7 @@ pub fn object_identifier(
     }
 }
 
-/// A subidentifier may not begin with 80, seven bits that are all zero.
+/// Whether a subidentifier begins here and does so with 80, seven bits that are all zero, as none may.
 fn is_padding(starts: bool, octet: u8) -> bool
     ensures { result ≡ (starts && nat_eq octet 128) }
 {

@@ -2,7 +2,8 @@
 ghost use Rattle.std.specs.Prelude.{◌≡◌, slice_index};
 ghost use Rattle.guard_der.specs.Fits.{descends};
 
-/// The first descends to the second, octet by octet, the shorter one padded with zero octets.
+/// Whether the first encoding must come after the second one in a SET OF (X.690 11.6): at the first place where they
+/// differ, the shorter one padded with zero octets, the first has the greater octet. False where they differ nowhere.
 pub fn descends(octets: &[u8], next: &[u8]) -> bool
     ensures { result ≡ descends octets.now next.now }
 {

@@ -13,7 +13,8 @@ use crate::faults::Fault;
 use guard_model::{Presence, Value};
 use std::alloc::Global;
 
-/// A component whose value is its default is not sent (X.690 11.5).
+/// Whether a component of this presence and value is left out of the encoding: it has a default, and the value is that
+/// default (X.690 11.5).
 pub fn is_left_out(presence: &Presence, value: &Value) -> bool
     ensures { result ≡ left_out (presence_view presence.now) (value_view value.now) }
 {
@@ -25,7 +26,8 @@ pub fn is_left_out(presence: &Presence, value: &Value) -> bool
     }
 }
 
-/// What a component is that isn't sent; or this fault, if it is mandatory.
+/// What a component has that isn't sent: its default, or no value; or this fault, if it is mandatory. Condition: the
+/// fault isn't that memory ran out.
 pub fn not_sent(alloc: Global, presence: &Presence, fault: Fault) -> Result<Option<Value>, Fault>
     requires named { fault_of [] fault ≢ None }
     ensures { (steps : List Step) (b : AbstractBreach) → fault_of steps fault ≡ Some b →

@@ -34,7 +34,7 @@ use std::alloc::Global;
 /// and inside SIZE to INTEGER; single values are as defaults, contained types sound and of the same base, and parts
 /// that are named by their places exist (51.2 to 51.8). So components and alternatives are distinguished by their tags
 /// in contained types too, at every depth: of each `law_distinct_tags` says that the test is true exactly where all
-/// tags that must differ do. It fails only where memory runs out.
+/// tags that must differ do. OutOfMemory is the only error.
 pub fn sound(alloc: Global, ty: &Ty) -> Result<bool, OutOfMemory>
     ensures exact { IfOk result (λ b. b ≡ is_sound (type_view ty.now)) }
     // Of a sound type all tags that must differ do.
@@ -86,7 +86,7 @@ fn is_proper_kind(alloc: Global, kind: &Kind) -> Result<bool, OutOfMemory>
     }
 }
 
-/// Of a SEQUENCE, SET or CHOICE.
+/// Whether the components or alternatives of a SEQUENCE, SET or CHOICE are few enough and each as it should be.
 #[cycle(proper)]
 fn list_is_proper(alloc: Global, comps: &[Comp]) -> Result<bool, OutOfMemory>
     ensures { IfOk result (λ b. b ≡ (nat_le (component_count (components_of (map component_view comps.now)))
@@ -147,7 +147,7 @@ fn are_proper_constraints(alloc: Global, constraints: &[Cons], ty: &Ty) -> Resul
     Ok(true)
 }
 
-/// Each element applies to the type's kind.
+/// Whether each element of the constraint applies to the type's kind.
 #[cycle(proper)]
 fn is_proper_constraint(alloc: Global, constraint: &Cons, ty: &Ty) -> Result<bool, OutOfMemory>
     ensures { IfOk result (λ b. b ≡ is_proper_constraint (constraint_view constraint.now) (type_view ty.now)) }
@@ -172,7 +172,7 @@ fn is_proper_constraint(alloc: Global, constraint: &Cons, ty: &Ty) -> Result<boo
     }
 }
 
-/// A contained type has the base of the type that it constrains, and is sound.
+/// Whether a contained type has the base of the type that it constrains, and is sound.
 #[cycle(proper)]
 fn is_proper_inside(alloc: Global, contained: &Ty, ty: &Ty) -> Result<bool, OutOfMemory>
     ensures { IfOk result
@@ -196,7 +196,7 @@ fn is_proper_size(alloc: Global, size: &Cons, ty: &Ty) -> Result<bool, OutOfMemo
     is_proper_constraint(alloc, size, &number)
 }
 
-/// WITH COMPONENT.
+/// Whether WITH COMPONENT may constrain the type: it has elements, and the constraint inside is one on their type.
 #[cycle(proper)]
 fn is_proper_each(alloc: Global, each: &Cons, ty: &Ty) -> Result<bool, OutOfMemory>
     ensures { IfOk result (λ b. b
@@ -233,7 +233,7 @@ fn are_proper_parts(alloc: Global, parts: &[Part], ty: &Ty) -> Result<bool, OutO
     Ok(true)
 }
 
-/// The component or alternative exists, and its constraint is one on its type.
+/// Whether the component or alternative of a part exists, and its constraint is one on its type.
 #[cycle(proper)]
 fn is_proper_part(alloc: Global, part: &Part, kind: &Kind) -> Result<bool, OutOfMemory>
     ensures { IfOk result (λ b. b ≡ is_proper_part (part_view part.now) (kind_view kind.now)) }
@@ -256,7 +256,7 @@ fn is_proper_within(alloc: Global, within: &Option<Cons>, ty: &Ty) -> Result<boo
 
 // ---- values that are written in a type
 
-/// The value is one of the type's, and its encoding isn't too long.
+/// Whether the value is one of the type's, and its encoding has at most 1,048,576 octets.
 fn may_stand_in(alloc: Global, ty: &Ty, value: &Value) -> Result<bool, OutOfMemory>
     ensures { IfOk result (λ b. b ≡ may_stand_in (type_view ty.now) (value_view value.now)) }
 {
@@ -266,7 +266,7 @@ fn may_stand_in(alloc: Global, ty: &Ty, value: &Value) -> Result<bool, OutOfMemo
     is_short(alloc, ty, value)
 }
 
-/// The value's encoding isn't too long.
+/// Whether the value's encoding has at most 1,048,576 octets.
 fn is_short(alloc: Global, ty: &Ty, value: &Value) -> Result<bool, OutOfMemory>
     requires { IsTrue (fits (type_view ty.now) (value_view value.now)) }
     ensures { IfOk result (λ b. b ≡ is_short (der (type_view ty.now) (value_view value.now))) }

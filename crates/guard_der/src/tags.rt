@@ -25,7 +25,8 @@ pub fn begins_in(tags: &[Tag], kind: &Kind, tag: Tag) -> bool
     }
 }
 
-/// The place of the first component with this tag.
+/// The place, from 0, of the first component of whose type an encoding may begin with this tag; None where there is
+/// none. Condition: there are at most 64 components.
 pub fn one_with(comps: &[Comp], tag: Tag) -> Option<usize>
     requires { length comps.now ≤ 64 }
     ensures place { result ≡ place_with 0 (components_of (map component_view comps.now)) tag }
@@ -39,7 +40,7 @@ pub fn one_with(comps: &[Comp], tag: Tag) -> Option<usize>
     None
 }
 
-/// The tag comes after that of the element before, where there is one (X.690 10.3).
+/// Whether the tag comes after that of the element before it; true where there is none before (X.690 10.3).
 pub fn follows(before: Option<Tag>, tag: Tag) -> bool
     ensures { result ≡ comes_after before tag }
 {

@@ -7,7 +7,7 @@ ghost use Rattle.guard_eval.specs.Elements.{is_above, is_under, is_between, size
 use guard_der::bits::count_bits;
 use guard_model::{Limit, Value};
 
-/// The value is an integer between the ends (X.680 51.4).
+/// Whether the value is an integer between the ends (X.680 51.4).
 pub fn is_between(low: &Limit, high: &Limit, value: &Value) -> bool
     ensures { result ≡ is_between low.now high.now (value_view value.now) }
 {
@@ -37,7 +37,7 @@ fn is_under(high: &Limit, number: i128) -> bool
     }
 }
 
-/// The size in bits, octets, characters or elements (X.680 51.5), for the kinds that have one.
+/// The size of a value in bits, octets, characters or elements (X.680 51.5); None where its kind has none.
 pub fn size_of(value: &Value) -> Option<i128>
     ensures { result ≡ option_map pos (size_of (value_view value.now)) }
 {
@@ -56,7 +56,7 @@ fn count_characters(text: &str) -> usize
     text.chars().count()
 }
 
-/// The value is a string all of whose characters are in one of the ranges (X.680 51.7).
+/// Whether the value is a string all of whose characters are in one of the ranges (X.680 51.7).
 pub fn is_spelled_in(ranges: &[(u32, u32)], value: &Value) -> bool
     ensures { result ≡ is_spelled_in ranges.now (value_view value.now) }
 {
@@ -66,7 +66,7 @@ pub fn is_spelled_in(ranges: &[(u32, u32)], value: &Value) -> bool
     }
 }
 
-/// All characters of the text are in one of the ranges.
+/// Whether the code of each character of the text is in one of the ranges, both ends in (X.680 51.7).
 pub fn are_permitted(ranges: &[(u32, u32)], text: &str) -> bool
     ensures { result ≡ list_all (is_in_some ranges.now) (chars text.now) }
 {
@@ -78,7 +78,7 @@ pub fn are_permitted(ranges: &[(u32, u32)], text: &str) -> bool
     true
 }
 
-/// The code is in one of the ranges, both ends in.
+/// Whether the code is in one of the ranges, both ends in (X.680 51.7).
 pub fn is_in_some(ranges: &[(u32, u32)], code: u32) -> bool
     ensures { result ≡ is_in_some ranges.now code }
 {

@@ -7,7 +7,7 @@ ghost use Rattle.guard_eval.specs.inside.Failures.{found_by, under};
 
 use guard_model::{DEEPEST_NESTING, Path, Site, Step};
 
-/// In the value itself.
+/// The site of a constraint that the value itself fails; the path is made empty.
 pub fn here(path: &mut Path, site: Site) -> Site
     ensures { found_by path.new.items (Some result) ≡ here site }
 {
@@ -15,14 +15,14 @@ pub fn here(path: &mut Path, site: Site) -> Site
     site
 }
 
-/// Blamed where it doesn't hold.
+/// The site of a constraint, with an empty path, where it doesn't hold; None where it holds.
 pub fn unless(path: &mut Path, holds: bool, site: Site) -> Option<Site>
     ensures { found_by path.new.items result ≡ unless holds site }
 {
     if holds { None } else { Some(here(path, site)) }
 }
 
-/// With the path from the value of which this is the component or alternative at this place.
+/// The site, with the path from the value whose component or alternative at this place fails the constraint.
 pub fn under_component(path: &mut Path, site: Site, at: usize) -> Site
     ensures { found_by path.new.items (Some result) ≡ under (Component at) (found_by path.old.items (Some site)) }
 {
@@ -30,7 +30,7 @@ pub fn under_component(path: &mut Path, site: Site, at: usize) -> Site
     site
 }
 
-/// With the path from the list of which this is the element at this place.
+/// The site, with the path from the list whose element at this place fails the constraint.
 pub fn under_element(path: &mut Path, site: Site, at: usize) -> Site
     ensures { found_by path.new.items (Some result) ≡ under (Element at) (found_by path.old.items (Some site)) }
 {
@@ -38,7 +38,8 @@ pub fn under_element(path: &mut Path, site: Site, at: usize) -> Site
     site
 }
 
-/// A path has room for the deepest nesting, so that in types within the limits nothing is cut off.
+/// Puts a step in front of the path, which has room for the deepest nesting, so that in types within the limits nothing
+/// is cut off.
 fn step_before(path: &mut Path, step: Step)
     ensures { path.new.items ≡ step ∷ take 31 path.old.items }
 {

@@ -11,7 +11,8 @@ ghost use Rattle.guard_eval.specs.Member.{holds, is_member};
 use super::search::{failure, failure_by};
 use guard_model::{Cons, Kind, Path, Ty, Value};
 
-/// Whether a constraint that this type may have allows the value, which fits the type (X.680 clauses 49 to 51).
+/// Whether a constraint allows the value (X.680 clauses 49 to 51). Conditions: the constraint is one that this type may
+/// have, as each constraint of a sound type is, and the value fits the type.
 pub fn holds(cons: &Cons, ty: &Ty, value: &Value) -> bool
     requires proper { IsTrue (is_proper_constraint (constraint_view cons.now) (type_view ty.now)) }
     requires fits { IsTrue (fits (type_view ty.now) (value_view value.now)) }
@@ -20,9 +21,9 @@ pub fn holds(cons: &Cons, ty: &Ty, value: &Value) -> bool
     failure_by(&mut Path::new(), cons, &ty.kind, value).is_none()
 }
 
-/// Whether a value that fits the sound type is a member: each constraint holds, of the value itself and of each part,
-/// that is each component, the chosen alternative, each element. An absent component is never tested; one that is its
-/// default is there.
+/// Whether a value is a member of the type: each constraint holds, of the value itself and of each part, that is each
+/// component, the chosen alternative, each element. An absent component is never tested; one that is its default is
+/// there. Conditions: the type is sound, and the value fits it.
 pub fn member(ty: &Ty, value: &Value) -> bool
     requires sound { IsTrue (is_sound (type_view ty.now)) }
     requires fits { IsTrue (fits (type_view ty.now) (value_view value.now)) }
@@ -33,8 +34,8 @@ pub fn member(ty: &Ty, value: &Value) -> bool
 
 // ---- for what is inside sound types
 
-/// Whether a constraint that a type of this kind may have allows the value, which fits the kind (X.680 clauses 49 to
-/// 51).
+/// Whether a constraint allows a value of this kind (X.680 clauses 49 to 51), as `holds` says it of a type. Conditions:
+/// the constraint is one that a type of this kind may have, and the value fits the kind.
 pub fn holds_on_kind(cons: &Cons, kind: &Kind, value: &Value) -> bool
     requires proper { (t : AbstractType) × (kind_of t ≡ kind_view kind.now)
         × IsTrue (is_proper_constraint (constraint_view cons.now) t) }
@@ -44,7 +45,8 @@ pub fn holds_on_kind(cons: &Cons, kind: &Kind, value: &Value) -> bool
     failure_by(&mut Path::new(), cons, kind, value).is_none()
 }
 
-/// Whether a value that fits the proper type is a member of it. A sound type is proper, and so is each type inside it.
+/// Whether a value is a member of the type, as `member` says, also of a type inside a sound one. Conditions: the type
+/// is proper, as a sound type and each type inside one is, and the value fits it.
 pub fn proper_member(ty: &Ty, value: &Value) -> bool
     requires proper { IsTrue (is_proper (type_view ty.now)) }
     requires fits { IsTrue (fits (type_view ty.now) (value_view value.now)) }

@@ -8,7 +8,7 @@ ghost use Rattle.guard_eval.specs.Presence.{is_listed, is_ruled_out, first_ruled
 
 use guard_model::{Comp, Kind, Part, Presence, Value, Word};
 
-/// The kind of the elements of an OF type; of another kind itself.
+/// The kind of the elements of an OF type; of a kind without elements that kind itself.
 pub fn element_kind(kind: &Kind) -> &Kind
     ensures { kind_view result.now ≡ element_kind (kind_view kind.now) }
 {
@@ -19,7 +19,7 @@ pub fn element_kind(kind: &Kind) -> &Kind
     }
 }
 
-/// The kind of the component or alternative at this place; where there is none the whole's own.
+/// The kind of the component or alternative at this place, from 0; where there is none, the kind that was handed in.
 pub fn kind_at(kind: &Kind, at: u8) -> &Kind
     ensures { kind_view result.now ≡ kind_at at (kind_view kind.now) }
 {
@@ -29,7 +29,7 @@ pub fn kind_at(kind: &Kind, at: u8) -> &Kind
     }
 }
 
-/// Values of SEQUENCE, SET and CHOICE have components or alternatives.
+/// Whether the value is one of a SEQUENCE, SET or CHOICE, and so has components or an alternative.
 pub fn has_parts(value: &Value) -> bool
     ensures { result ≡ has_parts (value_view value.now) }
 {
@@ -40,7 +40,8 @@ pub fn has_parts(value: &Value) -> bool
     }
 }
 
-/// The value of the component at this place, or of the alternative there if it is the chosen one.
+/// The value of the component at this place, from 0, or of the alternative there if it is the chosen one. None where
+/// the component is absent or another alternative is chosen, and of a value without components.
 pub fn part_at(value: &Value, at: usize) -> Option<&Value>
     ensures { option_map (λ v. value_view v.now) result ≡ part_at at (value_view value.now) }
 {
@@ -51,7 +52,7 @@ pub fn part_at(value: &Value, at: usize) -> Option<&Value>
     }
 }
 
-/// It is there.
+/// Whether the component at this place is there, or the alternative there is the chosen one.
 pub fn is_there(value: &Value, at: usize) -> bool
     ensures { result ≡ is_there at (value_view value.now) }
 {
@@ -68,7 +69,8 @@ fn field_at(fields: &[Option<Value>], at: usize) -> Option<&Value>
     }
 }
 
-/// The component is there or not as its presence word says; without one, as a full list says of OPTIONAL components.
+/// Whether a component is there or not as its presence word says; without a word, as a full list says of OPTIONAL
+/// components, which must be there (X.680 51.8.6 to 51.8.9).
 pub fn is_as_said(partial: bool, comp: &Comp, word: Option<Word>, there: bool) -> bool
     ensures { result ≡ is_as_said partial (component_view comp.now).presence word there }
 {
@@ -80,7 +82,7 @@ pub fn is_as_said(partial: bool, comp: &Comp, word: Option<Word>, there: bool) -
     }
 }
 
-/// Whether a component of which this is said is OPTIONAL.
+/// Whether a component of this presence is OPTIONAL; one that has a default isn't.
 pub fn is_optional(presence: &Presence) -> bool
     ensures { result ≡ may_be_absent (presence_view presence.now) }
 {
@@ -92,7 +94,8 @@ pub fn is_optional(presence: &Presence) -> bool
     }
 }
 
-/// The first component that is there though a full list makes it absent.
+/// The place of the first component, or of the chosen alternative, that is there though a full list makes it absent;
+/// None where there is none.
 pub fn first_intruder(partial: bool, parts: &[Part], kind: &Kind, value: &Value) -> Option<usize>
     ensures { result
         ≡ first_intruder partial (kind_view kind.now) (parts_of (map part_view parts.now)) (value_view value.now) }
@@ -109,7 +112,8 @@ pub fn first_intruder(partial: bool, parts: &[Part], kind: &Kind, value: &Value)
     None
 }
 
-/// What a full list doesn't name must be absent, if it is an OPTIONAL component or an alternative.
+/// Whether a full list makes the component or alternative at this place absent: the list doesn't name it, and it is an
+/// OPTIONAL component or an alternative (X.680 51.8.6).
 pub fn is_ruled_out(parts: &[Part], kind: &Kind, at: usize, presence: &Presence) -> bool
     ensures { result
         ≡ is_ruled_out (kind_view kind.now) (parts_of (map part_view parts.now)) at (presence_view presence.now) }

@@ -24,7 +24,7 @@ use guard_model::{Comp, Cons, Kind, Part, Path, Rule, Site, Ty, Value};
 
 // ---- types
 
-/// In the type's own constraints, then in its parts.
+/// The first constraint that the value fails: of the type's own, then of those of its parts. None where it fails none.
 #[cycle(search)]
 pub fn failure(path: &mut Path, ty: &Ty, value: &Value) -> Option<Site>
     ensures { found_by path.new.items result ≡ failure (type_view ty.now) (value_view value.now) }
@@ -76,7 +76,7 @@ fn failure_of_chosen(path: &mut Path, comps: &[Comp], at: u8, value: &Value) -> 
     Some(under_component(path, site, usize::from(at)))
 }
 
-/// In the elements of an OF type.
+/// The first constraint that an element of an OF type fails.
 #[cycle(search)]
 fn failure_of_items(path: &mut Path, ty: &Ty, items: &[Value]) -> Option<Site>
     ensures { found_by path.new.items result ≡ failure_among (failure (type_view ty.now)) 0 (items_view items.now) }
@@ -91,7 +91,7 @@ fn failure_of_items(path: &mut Path, ty: &Ty, items: &[Value]) -> Option<Site>
 
 // ---- constraints, on a type of this kind
 
-/// By the first of the constraints that does not have the value.
+/// What the first of the constraints that doesn't have the value blames; None where all have it.
 #[cycle(search)]
 fn first_failure(path: &mut Path, cons: &[Cons], kind: &Kind, value: &Value) -> Option<Site>
     ensures { found_by path.new.items result
@@ -105,7 +105,7 @@ fn first_failure(path: &mut Path, cons: &[Cons], kind: &Kind, value: &Value) -> 
     None
 }
 
-/// One of the constraints has the value.
+/// Whether one of the constraints has the value.
 #[cycle(search)]
 fn some_allows(path: &mut Path, cons: &[Cons], kind: &Kind, value: &Value) -> bool
     ensures { result
@@ -119,9 +119,9 @@ fn some_allows(path: &mut Path, cons: &[Cons], kind: &Kind, value: &Value) -> bo
     false
 }
 
-/// The constraint that is blamed: of an intersection, the first one in it that fails; of `A EXCEPT B`, what `A` blames
-/// if it fails, and else the whole; of WITH COMPONENT and WITH COMPONENTS, what fails within the value's parts; of any
-/// other one, itself.
+/// The constraint that is blamed where this one doesn't have the value, else None: of an intersection, the first one in
+/// it that fails; of `A EXCEPT B`, what `A` blames if it fails, and else the whole; of WITH COMPONENT and WITH
+/// COMPONENTS, what fails within the value's parts; of any other one, itself.
 #[cycle(search)]
 pub fn failure_by(path: &mut Path, cons: &Cons, kind: &Kind, value: &Value) -> Option<Site>
     ensures { found_by path.new.items result
@@ -155,7 +155,7 @@ pub fn failure_by(path: &mut Path, cons: &Cons, kind: &Kind, value: &Value) -> O
     }
 }
 
-/// Where the constraint has the value.
+/// The site of an ALL EXCEPT whose constraint has the value.
 #[cycle(search)]
 fn failure_of_other(
     path: &mut Path,
@@ -171,7 +171,7 @@ fn failure_of_other(
     unless(path, fails, site)
 }
 
-/// The constraint has the size, as a number.
+/// Whether the constraint has the size of the value, as a number.
 #[cycle(search)]
 fn has_size(path: &mut Path, size: &Cons, kind: &Kind, value: &Value) -> bool
     ensures { result ≡ is_sized (λ n. is_none (failure_by (constraint_view size.now) (kind_view kind.now) n))
@@ -215,7 +215,7 @@ fn failure_among(path: &mut Path, each: &Cons, kind: &Kind, items: &[Value]) -> 
 
 // ---- WITH COMPONENTS
 
-/// The first failing name in written order, then the first part that should be absent.
+/// What WITH COMPONENTS blames: the first failing name in written order, then the first part that should be absent.
 #[cycle(search)]
 fn failure_in_parts(
     path: &mut Path,
@@ -266,7 +266,7 @@ fn first_part_failure(
     None
 }
 
-/// In the presence of the part, then in its value.
+/// What one part of WITH COMPONENTS blames: its component's presence, then what its value fails.
 #[cycle(search)]
 fn part_failure(
     path: &mut Path,
@@ -286,7 +286,7 @@ fn part_failure(
     }
 }
 
-/// The part's component doesn't exist, or it isn't there or not as the part says.
+/// The site of a part whose component doesn't exist, or isn't there or absent as the part says.
 fn placing_failure(
     path: &mut Path,
     part: &Part,
@@ -306,7 +306,7 @@ fn placing_failure(
     }
 }
 
-/// In the value of the part, if it is there and constrained.
+/// What the value of a part fails, if it is there and constrained.
 #[cycle(search)]
 fn failure_within(path: &mut Path, part: &Part, kind: &Kind, value: &Value) -> Option<Site>
     ensures { found_by path.new.items result

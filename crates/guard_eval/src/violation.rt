@@ -11,7 +11,8 @@ ghost use Rattle.guard_eval.specs.Violations.{violation_view, violation};
 use super::search::failure;
 use guard_model::{Path, Site, Ty, Value};
 
-/// A constraint that a value fails: where it is written, and the way to the part of the value that fails it.
+/// A constraint that a value fails: where it begins in a module text, and the way to the part of the value that fails
+/// it.
 #[derive(Debug, Drop)]
 pub struct Violation {
     pub site: Site,
@@ -19,8 +20,8 @@ pub struct Violation {
 }
 
 /// The first constraint that the value fails: first those of the type itself are looked at, in written order, then
-/// those of its components in written order, of the chosen alternative, or of its elements in turn. None where the
-/// value is a member.
+/// those of its components in written order, of the chosen alternative, or of its elements in turn. None exactly where
+/// the value is a member. Conditions: the type is sound, and the value fits it.
 pub fn first_violation(ty: &Ty, value: &Value) -> Option<Violation>
     requires sound { IsTrue (is_sound (type_view ty.now)) }
     requires fits { IsTrue (fits (type_view ty.now) (value_view value.now)) }

@@ -6,7 +6,7 @@ use Rattle.guard_model.specs.Limits.{fits_128_bits}
 use Rattle.guard_integers.specs.declared.ranges.Range.{Range}
 use Rattle.guard_integers.specs.Ranges.{one_holds}
 
--- how it is kept is no concern of contracts
+-- A set of integers. Contracts say which integers it holds, and not how it is kept.
 pub record Integers : Type 0 where
   ranges : List Range
 
@@ -23,11 +23,11 @@ integers_set = Coded-set integers_code
 pub kept_as : List Range → Integers
 kept_as rs = record { ranges = rs }
 
--- none holds an integer below -2^127 or above 2^127-1
+-- whether the set holds the integer; no set holds one below -2^127 or above 2^127-1
 pub holds : Integers → ℤ → Bool
 holds set x = fits_128_bits x && one_holds set.ranges x
 
--- one of the sets does
+-- whether one of the sets holds the integer
 abbrev pub some_holds : List Integers → ℤ → Bool
 some_holds sets x = list_any (λ set. holds set x) sets
 

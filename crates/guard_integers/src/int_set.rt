@@ -7,7 +7,7 @@ use std::marker::Model;
 
 /// A set of integers, each of them of signed 128 bits: at least -2^127, at most 2^127-1.
 ///
-/// It is kept as ranges in ascending order of which no two touch or overlap, so that a set has one form.
+/// A set is kept as ranges in ascending order of which no two touch or overlap, so that it has one form.
 #[derive(Drop)]
 pub struct IntSet {
     ranges: Vec<Range>,
@@ -32,7 +32,7 @@ impl IntSet {
     ghost use Rattle.guard_model.specs.Limits.{fits_128_bits};
     ghost use Rattle.guard_integers.specs.Integers.{holds, some_holds};
 
-    /// No integer.
+    /// The set that holds no integer. No memory is taken for it.
     pub fn none(alloc: Global) -> IntSet
         ensures { (x : ℤ) → holds result x ≡ false }
     {
@@ -41,15 +41,14 @@ impl IntSet {
         }
     }
 
-    /// All integers from -2^127 to 2^127-1. It fails only where memory runs out.
+    /// All integers from -2^127 to 2^127-1. OutOfMemory is the only error.
     pub fn all(alloc: Global) -> Result<IntSet, OutOfMemory>
         ensures { IfOk result (λ set. (x : ℤ) → holds set x ≡ fits_128_bits x) }
     {
         IntSet::none(alloc).complement(alloc)
     }
 
-    /// The integers from `low` to `high`, both in: none where `low` is the greater one. It fails only where memory runs
-    /// out.
+    /// The integers from `low` to `high`, both in: none where `low` is the greater one. OutOfMemory is the only error.
     pub fn range(alloc: Global, low: i128, high: i128) -> Result<IntSet, OutOfMemory>
         ensures { IfOk result (λ set. (x : ℤ) → holds set x ≡ (fits_128_bits x && (int_le low x && int_le x high))) }
     {
@@ -60,7 +59,7 @@ impl IntSet {
         Ok(IntSet { ranges })
     }
 
-    /// The integers that one of the two sets holds. It fails only where memory runs out.
+    /// The integers that at least one of the two sets holds. OutOfMemory is the only error.
     pub fn union(&self, alloc: Global, other: &IntSet) -> Result<IntSet, OutOfMemory>
         ensures { IfOk result (λ set. (x : ℤ) → holds set x ≡ (holds self.now x || holds other.now x)) }
     {
@@ -70,7 +69,7 @@ impl IntSet {
         neither.complement(alloc)
     }
 
-    /// The integers that one of these sets holds. It fails only where memory runs out.
+    /// The integers that at least one of these sets holds: none where there is no set. OutOfMemory is the only error.
     pub fn union_of(alloc: Global, sets: &[IntSet]) -> Result<IntSet, OutOfMemory>
         ensures { IfOk result (λ set. (x : ℤ) → holds set x ≡ some_holds sets.now x) }
     {
@@ -85,7 +84,7 @@ impl IntSet {
         }
     }
 
-    /// The integers that both sets hold. It fails only where memory runs out.
+    /// The integers that both sets hold. OutOfMemory is the only error.
     pub fn intersection(&self, alloc: Global, other: &IntSet) -> Result<IntSet, OutOfMemory>
         ensures { IfOk result (λ set. (x : ℤ) → holds set x ≡ (holds self.now x && holds other.now x)) }
     {
@@ -93,14 +92,14 @@ impl IntSet {
         Ok(IntSet { ranges })
     }
 
-    /// The integers of this set that the other one doesn't hold. It fails only where memory runs out.
+    /// The integers of this set that the other one doesn't hold. OutOfMemory is the only error.
     pub fn minus(&self, alloc: Global, other: &IntSet) -> Result<IntSet, OutOfMemory>
         ensures { IfOk result (λ set. (x : ℤ) → holds set x ≡ (holds self.now x && not (holds other.now x))) }
     {
         self.intersection(alloc, &other.complement(alloc)?)
     }
 
-    /// The integers from -2^127 to 2^127-1 that this set doesn't hold. It fails only where memory runs out.
+    /// The integers from -2^127 to 2^127-1 that this set doesn't hold. OutOfMemory is the only error.
     pub fn complement(&self, alloc: Global) -> Result<IntSet, OutOfMemory>
         ensures { IfOk result (λ set. (x : ℤ) → holds set x ≡ (fits_128_bits x && not (holds self.now x))) }
     {
@@ -108,14 +107,15 @@ impl IntSet {
         Ok(IntSet { ranges })
     }
 
-    /// Whether the set holds this integer: a binary search.
+    /// Whether the set holds this integer, by a binary search.
     pub fn has(&self, number: i128) -> bool
         ensures { result ≡ holds self.now number }
     {
         one_holds(&self.ranges, number)
     }
 
-    /// The last integer of those from `first` on that the set holds all, or none, of: a binary search.
+    /// The greatest integer such that the set holds all integers from `first` to it, or none of them, by a binary
+    /// search. The answer is `first` or more, and 2^127-1 where nothing changes up to there.
     pub fn alike_to(&self, first: i128) -> i128
         ensures from { first ≤ℤ result }
         ensures alike { (x : ℤ) → first ≤ℤ x → x ≤ℤ result → holds self.now x ≡ holds self.now first }

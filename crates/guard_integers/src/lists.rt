@@ -8,7 +8,7 @@ use crate::ranges::Range;
 use guard_model::OutOfMemory;
 use std::alloc::Global;
 
-/// All integers.
+/// The range of all integers, -2^127 to 2^127-1.
 fn all_numbers() -> Range
     ensures low { result.low ≡ least }
     ensures high { result.high ≡ greatest }

@@ -12,7 +12,8 @@ pub struct Range {
     pub high: i128,
 }
 
-/// Whether one of the ranges holds this integer.
+/// Whether one of the ranges holds this integer. Condition: the ranges ascend, each holds an integer, and at least one
+/// integer lies between each two of them.
 pub fn one_holds(ranges: &[Range], number: i128) -> bool
     requires { IsTrue (are_apart ranges.now) }
     ensures { result ≡ one_holds ranges.now number }
@@ -21,7 +22,8 @@ pub fn one_holds(ranges: &[Range], number: i128) -> bool
     begun > 0 && reaches(&ranges[begun - 1], number)
 }
 
-/// The last integer of those from `first` on that the ranges hold all, or none, of.
+/// The greatest integer such that the ranges hold all integers from `first` to it, or none of them. Condition: the
+/// ranges ascend, each holds an integer, and at least one integer lies between each two of them.
 pub fn alike_to(ranges: &[Range], first: i128) -> i128
     requires { IsTrue (are_apart ranges.now) }
     ensures from { first ≤ℤ result }

@@ -4,25 +4,25 @@ use Rattle.guard_lexer.specs.Lexing.{Lexes, FirstFault}
 use Rattle.guard_lexer.specs.declared.fault.LexFault.{LexFault}
 use Rattle.guard_lexer.specs.declared.token.Token.{Token}
 
--- at most one list of tokens
+-- a text has at most one list of tokens
 abbrev pub OneLexing : Type 0
 OneLexing =
     (place : ℕ) (text : List ℕ) (one other : List Token)
     → Lexes place text one → Lexes place text other → one ≡ other
 
--- at most one fault
+-- a text has at most one first fault
 abbrev pub OneFault : Type 0
 OneFault =
     (place : ℕ) (text : List ℕ) (one other : LexFault)
     → FirstFault place text one → FirstFault place text other → one ≡ other
 
--- no tokens where there is a fault
+-- a text that has a fault has no tokens
 abbrev pub NoneWithFault : Type 0
 NoneWithFault =
     (place : ℕ) (text : List ℕ) (tokens : List Token) (fault : LexFault)
     → Lexes place text tokens → FirstFault place text fault → ⊥
 
--- tokens where there is no fault
+-- a text has tokens or a fault
 abbrev pub TokensOrFault : Type 0
 TokensOrFault =
     (place : ℕ) (text : List ℕ)

@@ -127,7 +127,7 @@ FaultAt place text fault =
 abbrev pub longest_text : ℕ
 longest_text = 1048576
 
--- short enough, and UTF-8
+-- the text is UTF-8 and has at most 1,048,576 octets
 pub record IsText (text : List ℕ) : Type 0 where
   pub short : length text ≤ longest_text
   pub utf8 : IsUtf8 text

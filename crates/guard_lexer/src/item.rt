@@ -25,11 +25,11 @@ pub(crate) enum ItemKind {
     Word,
     /// Digits, of any value (X.680 12.8).
     Number,
-    /// In double quotes (X.680 12.14).
+    /// A string in double quotes (X.680 12.14).
     CharacterString,
-    /// In quotes before a `B` (X.680 12.10).
+    /// A string in quotes before a `B` (X.680 12.10).
     BitString,
-    /// In quotes before an `H` (X.680 12.12).
+    /// A string in quotes before an `H` (X.680 12.12).
     HexadecimalString,
     Mark(Mark),
 }
@@ -42,7 +42,7 @@ pub(crate) struct FoundItem {
     pub len: usize,
 }
 
-/// The longest item at the front.
+/// The longest item at the front of a text; None where no item begins there.
 pub(crate) fn item_at(text: &[u8]) -> Option<FoundItem>
     ensures { result ≡ item_at text.now }
 {
@@ -58,7 +58,7 @@ pub(crate) fn item_at(text: &[u8]) -> Option<FoundItem>
     Some(FoundItem { kind, len })
 }
 
-/// The longest comment, string or mark at the front.
+/// The longest comment, string or mark at the front of a text; None where none begins there.
 fn marked_item_at(text: &[u8]) -> Option<FoundItem>
     ensures { result ≡ marked_item_at text.now }
 {

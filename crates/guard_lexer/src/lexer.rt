@@ -24,8 +24,8 @@ pub const LONGEST_TEXT: usize = 1_048_576;
 /// The tokens of a text, in order. White space and comments are no tokens. `place` is the place of the text in the list
 /// that was handed in, from 1, and only the sites show it.
 ///
-/// It refuses a text of more than 1,048,576 octets (TextTooLong), else one that isn't UTF-8 (NotUtf8), else one with
-/// another fault, by the leftmost of them; OutOfMemory may come in place of any answer.
+/// A text of more than 1,048,576 octets is refused with TextTooLong, else one that isn't UTF-8 with NotUtf8, else one
+/// that has another fault with the leftmost of them. OutOfMemory may come in place of any answer.
 pub fn tokens(alloc: Global, place: u32, text: &[u8]) -> Result<Vec<Token>, LexFault>
     // What is answered are the tokens of the text.
     ensures tokens { IfOk result (λ v. Lexes place text.now v.items) }

@@ -5,7 +5,7 @@ ghost use Rattle.guard_lexer.specs.inside.Reading.{stands_at, mark_at};
 use crate::spelling::MARKS;
 use crate::token::Mark;
 
-/// The longest mark at the front.
+/// The longest mark at the front of a text; None where none begins there.
 pub(crate) fn mark_at(text: &[u8]) -> Option<Mark>
     ensures { result ≡ mark_at text.now }
 {

@@ -28,7 +28,8 @@ fn digits_len(text: &[u8]) -> usize
     n
 }
 
-/// The number that decimal digits write, where it fits in 128 bits.
+/// The number that decimal digits write, 0 where there are none; None where it is above 2^128-1. The octets are meant
+/// to be digits, which isn't looked at.
 pub fn magnitude(digits: &[u8]) -> Option<u128>
     ensures { SomeIff result (number_value digits.now < 2 ^ 128) (number_value digits.now) }
 {

@@ -16,14 +16,14 @@ pub(crate) fn is_line_end(octet: u8) -> bool
     matches!(octet, 10..=13)
 }
 
-/// Whether a bit string can have it between its quotes.
+/// Whether a bit string can have this octet between its quotes.
 pub(crate) fn is_of_bits(octet: u8) -> bool
     ensures { result ≡ is_of_bits octet }
 {
     matches!(octet, b'0' | b'1') || is_white_space(octet)
 }
 
-/// Whether a hexadecimal string can have it between its quotes.
+/// Whether a hexadecimal string can have this octet between its quotes.
 pub(crate) fn is_of_hexadecimal(octet: u8) -> bool
     ensures { result ≡ is_of_hexadecimal octet }
 {

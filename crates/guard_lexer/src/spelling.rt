@@ -130,7 +130,7 @@ pub(crate) const MARKS: [Mark; 21] = [
 ];
 
 impl Mark {
-    /// The octets of the mark (X.680 12.20 to 12.24, 12.37).
+    /// The octets that spell the mark (X.680 12.20 to 12.24, 12.37).
     pub fn spelling(self) -> &'static [u8]
         ensures { result.now ≡ mark_spelling self }
     {

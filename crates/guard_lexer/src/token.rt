@@ -5,10 +5,11 @@ use guard_model::Site;
 #[derive(Clone, Copy, Debug, PartialEq, Eq)]
 pub struct Token {
     pub kind: TokenKind,
-    /// The offset of its first octet in the text.
+    /// The offset of its first octet in the text, from 0.
     pub start: u32,
     /// The offset after its last octet.
     pub end: u32,
+    /// The site of its first octet.
     pub site: Site,
 }
 

@@ -8,7 +8,7 @@ use crate::octet::is_of_word;
 use crate::spelling::{RESERVED, UNSUPPORTED};
 use crate::token::{Reserved, TokenKind};
 
-/// How many octets at the front are of a word.
+/// How many octets at the front of a text belong to a word.
 pub(crate) fn word_len(text: &[u8]) -> usize
     ensures reads { result ≡ word_len text.now }
     ensures within { result ≤ length text.now }
@@ -20,7 +20,7 @@ pub(crate) fn word_len(text: &[u8]) -> usize
     n
 }
 
-/// The kind of a word.
+/// The kind of token that a word is: a reserved word or a name.
 pub(crate) fn word_kind(word: &[u8]) -> TokenKind
     ensures { result ≡ word_kind word.now }
 {
@@ -34,7 +34,7 @@ pub(crate) fn word_kind(word: &[u8]) -> TokenKind
     }
 }
 
-/// The reserved word that is spelled so.
+/// The reserved word of the grammar that is spelled so; None where there is none.
 fn reserved_word(word: &[u8]) -> Option<Reserved>
     ensures { result ≡ reserved_word word.now }
 {
@@ -52,7 +52,7 @@ fn find_reserved(word: &[u8], table: &[(&[u8], Reserved)]) -> Option<Reserved>
     None
 }
 
-/// Whether it is a reserved word of what is left out.
+/// Whether a word is a reserved word of a form that is left out.
 fn is_unsupported(word: &[u8]) -> bool
     ensures { result ≡ is_unsupported word.now }
 {

@@ -21,12 +21,12 @@ pub data AbstractPresence : Type 0 where
   default : AbstractValue → AbstractPresence
 
 mutual
-  -- its tags, the outermost first (X.680 31): the last is the kind's own and the others wrap it; a CHOICE has none of
-  -- its own, so all of its tags wrap it
+  -- a type's tags, the outermost first (X.680 31), its kind and its constraints: the last tag is the kind's own and the
+  -- others wrap it; a CHOICE has none of its own, so all of its tags wrap it
   pub data AbstractType : Type 0 where
     type_of : List Tag → AbstractKind → Constraints → AbstractType
 
-  -- with the clause of X.680 for each
+  -- what is left of a type without its tags and constraints; at each kind stands its clause of X.680
   pub data AbstractKind : Type 0 where
     -- 18
     boolean : AbstractKind
@@ -55,16 +55,16 @@ mutual
     -- 28
     set_of : AbstractType → AbstractKind
 
-  -- in written order, each with its name
+  -- components or alternatives in written order, each with its name, its type and whether it may be left out
   pub data Components : Type 0 where
     no_components : Components
     component : List ℕ → AbstractType → AbstractPresence → Components → Components
 
-  -- with the site of its first token
+  -- a constraint with the site of its first token
   pub data Constraint : Type 0 where
     at : Site → Element → Constraint
 
-  -- in written order
+  -- constraints in written order
   pub data Constraints : Type 0 where
     no_constraints : Constraints
     constraint : Constraint → Constraints → Constraints

@@ -10,16 +10,16 @@ mutual
     -- octets with the bits from the highest on, and how many bits of the last octet are unused
     bit_string : List ℕ → ℕ → AbstractValue
     octet_string : List ℕ → AbstractValue
-    -- its arcs
+    -- the arcs, the first one first
     object_identifier : List ℕ → AbstractValue
-    -- by their codes, not as they are encoded
+    -- the characters' codes in Unicode, not the octets that encode them
     characters : List ℕ → AbstractValue
     fields : Fields → AbstractValue
     items : Items → AbstractValue
     -- the place of the alternative in the written list, from 0
     chosen : ℕ → AbstractValue → AbstractValue
 
-  -- one place for each component, in written order
+  -- the values of components, one place for each component in written order; absent where it is left out
   pub data Fields : Type 0 where
     no_fields : Fields
     present : AbstractValue → Fields → Fields

@@ -1,4 +1,4 @@
--- How many there are.
+-- How many components a list of them has, and how many elements.
 use Rattle.std.specs.Prelude.{ℕ, suc}
 use Rattle.guard_model.specs.AbstractType.{Components, no_components, component}
 use Rattle.guard_model.specs.AbstractValue.{Items, no_items, item}

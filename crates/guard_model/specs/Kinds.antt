@@ -2,7 +2,7 @@
 use Rattle.std.specs.Prelude.{ℕ, Bool, true, false, [], ◌∷◌, Option, Some, None, option_map}
 use Rattle.guard_model.specs.declared.tag.Class.TheVariants.{Universal}
 use Rattle.guard_model.specs.AbstractType as type
-use Rattle.guard_model.specs.AbstractType.{AbstractType, AbstractKind, NamedNumber, type_of}
+use Rattle.guard_model.specs.AbstractType.{AbstractType, AbstractKind, type_of}
 use Rattle.guard_model.specs.Components.{components_in, component_at}
 
 abbrev pub kind_of : AbstractType → AbstractKind
@@ -14,13 +14,13 @@ is_choice _ = false
 
 -- ---- types inside
 
--- of the elements of an OF type: what WITH COMPONENT constrains (51.8.4)
+-- the type of the elements of an OF type, which WITH COMPONENT constrains (51.8.4); None of another kind
 abbrev pub element_of : AbstractKind → Option AbstractType
 element_of (type.sequence_of t) = Some t
 element_of (type.set_of t) = Some t
 element_of _ = None
 
--- of the component or alternative at this place
+-- the type of the component or alternative at this place, from 0; None where there is none
 abbrev pub part_of : ℕ → AbstractKind → Option AbstractType
 part_of i kind = option_map (λ c. c.ty) (component_at i (components_in kind))
 

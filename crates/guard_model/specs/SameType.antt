@@ -110,6 +110,6 @@ abbrev mutual
       (same_site s r && (nat_eq i j && (same_constraint c d && same_word w v))) && same_parts ps qs
   same_parts _ _ = false
 
--- equality of bases
+-- whether two types have the same base, as a test
 abbrev pub same_base : AbstractType → AbstractType → Bool
 same_base a b = same_kind (bare_kind_of a) (bare_kind_of b)

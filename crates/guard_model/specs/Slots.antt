@@ -2,7 +2,7 @@
 use Rattle.guard_model.specs.AbstractType.{Components, no_components, component}
 use Rattle.guard_model.specs.AbstractValue.{Fields, no_fields, absent}
 
--- as many places as there are components
+-- one place for each component, each of them absent
 abbrev pub all_absent : Components → Fields
 all_absent no_components = no_fields
 all_absent (component name t presence rest) = absent (all_absent rest)

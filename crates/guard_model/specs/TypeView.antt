@@ -54,7 +54,7 @@ abbrev pub parts_of : List OnePart → Parts
 parts_of [] = abstract.no_parts
 parts_of (p ∷ ps) = part_before p.site p.place p.within p.word (parts_of ps)
 
--- one level of each; what is inside is abstract already
+-- The steps make one level of a kind, a rule, a component and so on abstract, where the parts are abstract already.
 abbrev pub kind_step : Kind-F AbstractKind Element OneComponent Constraint OnePart AbstractType → AbstractKind
 kind_step Kind-F.Bool = abstract.boolean
 kind_step (Kind-F.Int ns) = abstract.integer (map named_view (arc_slice_items ns))

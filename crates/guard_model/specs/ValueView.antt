@@ -6,7 +6,7 @@ use Rattle.guard_model.specs.AbstractValue.{AbstractValue, Fields, Items, fields
 use Rattle.guard_model.specs.declared.value.Value.{Value, fold-Value}
 use Rattle.guard_model.specs.declared.value.Value.TheOpen.{Value-F}
 
--- one level; each value inside is abstract already
+-- the abstract value of one level of a value whose parts are abstract values already
 abbrev pub value_step : Value-F AbstractValue → AbstractValue
 value_step (Value-F.Bool b) = abstract.boolean b
 value_step (Value-F.Int z) = abstract.integer z

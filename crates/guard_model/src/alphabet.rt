@@ -7,7 +7,7 @@ ghost use Rattle.std.specs.Prelude.{◌≡◌, chars};
 use crate::ty::CharKind;
 
 impl CharKind {
-    /// Whether the character with this code is of the kind's alphabet; any is of that of UTF8String.
+    /// Whether the character with this code is in the kind's alphabet (X.680 clause 41). For UTF8String each code is.
     pub fn has(self, code: u32) -> bool
         ensures { result ≡ is_character self code }
     {
@@ -20,7 +20,7 @@ impl CharKind {
         }
     }
 
-    /// Whether each character of the text is of the kind's alphabet.
+    /// Whether each character of the text is in the kind's alphabet (X.680 clause 41).
     pub fn has_all(self, text: &str) -> bool
         ensures { result ≡ fits_characters self (chars text.now) }
     {
@@ -57,7 +57,7 @@ fn is_letter(code: u32) -> bool
     (65 <= code && code <= 90) || (97 <= code && code <= 122)
 }
 
-/// Space and `' ( ) + , - . / : = ?`.
+/// Whether the code is that of a space or of one of `' ( ) + , - . / : = ?`.
 fn is_printable_mark(code: u32) -> bool
     ensures { result ≡ printable_mark code }
 {

@@ -11,7 +11,7 @@ use crate::value::{Bits, Value};
 use std::alloc::Global;
 
 impl Value {
-    /// A value that means the same abstract value. It fails only where memory runs out.
+    /// A value that means the same abstract value. OutOfMemory is its only error.
     #[cycle(value_copies)]
     pub fn copy(&self, alloc: Global) -> Result<Value, OutOfMemory>
         ensures { IfOk result (λ copy. value_view copy ≡ value_view self.now) }
@@ -81,7 +81,7 @@ fn copy_of_items(alloc: Global, items: &[Value]) -> Result<Vec<Value>, OutOfMemo
 }
 
 impl Ty {
-    /// A type that means the same abstract type. It fails only where memory runs out.
+    /// A type that means the same abstract type, names and sites included. OutOfMemory is its only error.
     #[cycle(type_copies)]
     pub fn copy(&self, alloc: Global) -> Result<Ty, OutOfMemory>
         ensures { IfOk result (λ copy. type_view copy ≡ type_view self.now) }

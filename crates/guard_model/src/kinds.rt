@@ -12,7 +12,8 @@ use std::alloc::Global;
 use std::sync::ArcSlice;
 
 impl Ty {
-    /// INTEGER, of which a size is a value (51.5.3). It fails only where memory runs out.
+    /// The type INTEGER, with its universal tag and no constraint. What stands inside SIZE constrains this type (X.680
+    /// 51.5.3). OutOfMemory is its only error.
     pub fn integer(alloc: Global) -> Result<Ty, OutOfMemory>
         ensures { IfOk result (λ t. type_view t ≡ type_of_size) }
     {
@@ -32,7 +33,7 @@ impl Ty {
 // ---- what is inside
 
 impl Kind {
-    /// The components of a SEQUENCE or SET, or the alternatives of a CHOICE; other kinds have none.
+    /// The components of a SEQUENCE or SET, or the alternatives of a CHOICE, in written order; empty for other kinds.
     pub fn components(&self) -> &[Comp]
         ensures { components_of (map component_view result.now) ≡ components_in (kind_view self.now) }
     {
@@ -44,14 +45,16 @@ impl Kind {
         }
     }
 
-    /// The component or alternative at this place of the written list, from 0; None where there is none.
+    /// The component or alternative at this place of the written list, from 0. None where the list ends before it, and
+    /// of a kind that is no SEQUENCE, SET or CHOICE.
     pub fn component(&self, at: u8) -> Option<&Comp>
         ensures { option_map (λ c. component_view c.now) result ≡ component_at at (components_in (kind_view self.now)) }
     {
         self.components().get(usize::from(at))
     }
 
-    /// The type of the component or alternative at this place, from 0; None where there is none.
+    /// The type of the component or alternative at this place of the written list, from 0. None where the list ends
+    /// before it, and of a kind that is no SEQUENCE, SET or CHOICE.
     pub fn part(&self, at: u8) -> Option<&Ty>
         ensures { option_map (λ t. type_view t.now) result ≡ part_of at (kind_view self.now) }
     {
@@ -61,7 +64,7 @@ impl Kind {
         }
     }
 
-    /// The type of the elements of an OF type; None of another kind.
+    /// The type of the elements of a SEQUENCE OF or SET OF; None of another kind.
     pub fn element(&self) -> Option<&Ty>
         ensures { option_map (λ t. type_view t.now) result ≡ element_of (kind_view self.now) }
     {
@@ -76,6 +79,7 @@ impl Kind {
 // ---- which kind it is
 
 impl Kind {
+    /// Whether this is a CHOICE (X.680 clause 29).
     pub fn is_choice(&self) -> bool
         ensures { result ≡ is_choice (kind_view self.now) }
     {
@@ -85,7 +89,7 @@ impl Kind {
         }
     }
 
-    /// Whether a range applies (51.4).
+    /// Whether a range applies to the kind: INTEGER alone (X.680 51.4).
     pub fn is_integer(&self) -> bool
         ensures { result ≡ is_integer (kind_view self.now) }
     {
@@ -95,7 +99,7 @@ impl Kind {
         }
     }
 
-    /// Whether FROM applies (51.7).
+    /// Whether FROM applies to the kind: the character strings (X.680 51.7).
     pub fn is_string(&self) -> bool
         ensures { result ≡ is_string (kind_view self.now) }
     {
@@ -105,7 +109,8 @@ impl Kind {
         }
     }
 
-    /// Whether values can be counted: strings and OF types (51.5).
+    /// Whether the kind's values have a size: BIT STRING, OCTET STRING, the character strings, SEQUENCE OF and SET OF
+    /// (X.680 51.5).
     pub fn has_size(&self) -> bool
         ensures { result ≡ has_size (kind_view self.now) }
     {
@@ -119,7 +124,7 @@ impl Kind {
         }
     }
 
-    /// Whether this is a BIT STRING with named bits (22.7).
+    /// Whether this is a BIT STRING with named bits, in which trailing zero bits don't count (X.680 22.7).
     pub fn has_named_bits(&self) -> bool
         ensures { result ≡ has_named_bits (kind_view self.now) }
     {
@@ -129,7 +134,7 @@ impl Kind {
         }
     }
 
-    /// Whether WITH COMPONENTS applies: SEQUENCE, SET and CHOICE (51.8.5).
+    /// Whether WITH COMPONENTS applies to the kind: SEQUENCE, SET and CHOICE (X.680 51.8.5).
     pub fn has_parts(&self) -> bool
         ensures { result ≡ has_parts (kind_view self.now) }
     {

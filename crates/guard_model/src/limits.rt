@@ -1,10 +1,11 @@
 //! The limits of this profile on types.
 
-/// Components of a SEQUENCE or SET, and alternatives of a CHOICE.
+/// The most components that a SEQUENCE or SET may have, and the most alternatives of a CHOICE.
 pub const MOST_COMPONENTS: usize = 64;
 
-/// How deep an encoding may be nested.
+/// The greatest nesting of a type. A type's nesting is its number of tags, one more for a CHOICE, plus the greatest
+/// nesting of a part.
 pub const DEEPEST_NESTING: usize = 32;
 
-/// The number of a tag, within its class.
+/// The greatest number that a tag may have within its class: 2^28-1, so that it takes at most four base-128 octets.
 pub const GREATEST_TAG_NUMBER: u32 = 268_435_455;

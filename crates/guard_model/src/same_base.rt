@@ -74,7 +74,7 @@ impl Kind {
     }
 }
 
-/// Named numbers of an INTEGER.
+/// Whether two lists of named numbers of an INTEGER are the same. They differ only where the whole counts.
 fn are_same_names(names: &[Named], others: &[Named], whole: bool) -> bool
     ensures { result ≡ pointwise same_named (names_compared whole (map named_view names.now))
         (names_compared whole (map named_view others.now)) }
@@ -86,7 +86,7 @@ fn are_same_names(names: &[Named], others: &[Named], whole: bool) -> bool
     }
 }
 
-/// Names of bits.
+/// Whether two lists of named bits are the same; where the whole doesn't count, whether both are empty or neither is.
 fn are_same_bits(names: &[Named], others: &[Named], whole: bool) -> bool
     ensures { result ≡ pointwise same_named (bits_compared whole (map named_view names.now))
         (bits_compared whole (map named_view others.now)) }
@@ -98,7 +98,7 @@ fn are_same_bits(names: &[Named], others: &[Named], whole: bool) -> bool
     }
 }
 
-/// Both have named bits, or neither has.
+/// Whether both lists of named bits are empty, or neither is.
 fn are_both_named(names: &[Named], others: &[Named]) -> bool
     ensures { result
         ≡ pointwise same_named (bare_names (map named_view names.now)) (bare_names (map named_view others.now)) }

@@ -35,7 +35,7 @@ impl Default for Step {
     }
 }
 
-/// `.1` to a component, `[0]` to an element.
+/// Prints `.1` for a step to a component, `[0]` for one to an element.
 impl fmt::Display for Step {
     fn fmt<W: fmt::Write>(&self, f: &mut fmt::Formatter<W>) -> fmt::Result {
         match self {
@@ -45,8 +45,8 @@ impl fmt::Display for Step {
     }
 }
 
-/// The way from a value to a value inside it, the outermost step first. It has room for the deepest nesting of this
-/// profile.
+/// The way from a value to a value inside it, the outermost step first; empty for the value itself. A path has room for
+/// the deepest nesting of this profile.
 pub type Path = ArrayVec<Step, DEEPEST_NESTING>;
 
 /// Prints a path from `$` on: `$.1[0].2`.

@@ -9,7 +9,7 @@ use crate::ty::Comp;
 use crate::value::Value;
 use std::alloc::Global;
 
-/// A slot for each component, none of which has a value yet. It fails only where memory runs out.
+/// A slot for each component, in the order of the list, each of which holds None. OutOfMemory is its only error.
 pub fn absent_fields(alloc: Global, comps: &[Comp]) -> Result<Vec<Option<Value>>, OutOfMemory>
     ensures count { IfOk result (λ v. length v.items ≡ length comps.now) }
     ensures absent { IfOk result (λ v. fields_view v.items
@@ -22,7 +22,8 @@ pub fn absent_fields(alloc: Global, comps: &[Comp]) -> Result<Vec<Option<Value>>
     Ok(fields)
 }
 
-/// The component at this place is settled: its value, or absent.
+/// Puts this in the slot at this place, from 0: the component's value, or None where the component is absent. The other
+/// slots stay. Condition: the place is less than the number of slots.
 pub fn set_field(fields: &mut Vec<Option<Value>>, place: usize, field: Option<Value>)
     requires { place < length fields.old.items }
     ensures { fields.new.items ≡ set fields.old.items place field }

@@ -5,11 +5,12 @@ ghost use Rattle.guard_model.specs.Tags.{same_tag, tag_order};
 
 use std::cmp::Ordering;
 
-/// The class of a tag, in the order of X.680 8.6.
+/// The class of a tag, in ascending order (X.680 8.6).
 #[derive(Clone, Copy, Debug, PartialEq, Eq, PartialOrd, Ord)]
 pub enum Class {
     Universal,
     Application,
+    /// Context-specific: a tag that is written without a class.
     Context,
     Private,
 }
@@ -31,7 +32,7 @@ impl Tag {
     }
 }
 
-/// Whether the tags are the same, one by one.
+/// Whether both lists have the same tags in the same order.
 pub fn are_same_tags(tags: &[Tag], others: &[Tag]) -> bool
     ensures { result ≡ pointwise same_tag tags.now others.now }
 {

@@ -5,15 +5,15 @@ use crate::tag::Tag;
 use crate::value::Value;
 use std::sync::{Arc, ArcSlice, ArcStr};
 
-/// A type.
+/// A type of X.680, every reference followed.
 #[derive(Debug, Drop)]
 #[cycle(types)]
 pub struct Ty {
-    /// The outermost first. The last one is the kind's own, and those before it are explicit and wrap it. A CHOICE has
-    /// none of its own, so all of its tags wrap it, and it may have no tag.
+    /// The tags, the outermost first. The last one is the kind's own, and those before it are explicit and wrap it. A
+    /// CHOICE has none of its own, so all of its tags wrap it, and it may have no tag.
     pub tags: Vec<Tag>,
     pub kind: Kind,
-    /// In written order, those of a referenced type before the added ones.
+    /// The constraints in written order, those of a referenced type before the added ones.
     pub cons: Vec<Cons>,
 }
 
@@ -21,22 +21,31 @@ pub struct Ty {
 #[derive(Debug, Drop)]
 #[cycle(types)]
 pub enum Kind {
+    /// BOOLEAN.
     Bool,
     /// INTEGER with its named numbers.
     Int(ArcSlice<Named>),
     /// BIT STRING with its named bits. Where there are some, a value has no trailing zero bit (X.680 22.7).
     Bits(ArcSlice<Named>),
+    /// OCTET STRING.
     Octets,
+    /// NULL.
     Null,
+    /// OBJECT IDENTIFIER.
     Oid,
     /// ENUMERATED with its items in written order.
     Enumerated(ArcSlice<Named>),
+    /// A character string of this kind.
     Chars(CharKind),
+    /// SEQUENCE with its components in written order.
     Sequence(Vec<Comp>),
+    /// SET with its components in written order.
     Set(Vec<Comp>),
     /// CHOICE with its alternatives; each is Mandatory.
     Choice(Vec<Comp>),
+    /// SEQUENCE OF with the type of its elements.
     SequenceOf(Box<Ty>),
+    /// SET OF with the type of its elements.
     SetOf(Box<Ty>),
 }
 
@@ -54,6 +63,7 @@ pub enum CharKind {
 #[derive(Debug, Drop)]
 pub struct Named {
     pub name: String,
+    /// For a named bit, its place from 0 to 65,535.
     pub number: i128,
 }
 
@@ -66,13 +76,14 @@ pub struct Comp {
     pub presence: Presence,
 }
 
-/// Whether a component may be left out.
+/// Whether a component may be left out (X.680 25.4).
 #[derive(Debug, Drop)]
 pub enum Presence {
     Mandatory,
     Optional,
     /// There is a default whose value is not known yet. This occurs only while a schema is built.
     Pending,
+    /// A component that is left out has this value.
     Default(Arc<Value>),
 }
 
@@ -102,13 +113,13 @@ pub enum Rule {
     Each(Box<Cons>),
     /// WITH COMPONENTS (51.8.5); true where it is partial, that is where it begins with `...`.
     Parts(bool, Vec<Part>),
-    /// A union.
+    /// A union: what at least one of them allows (50).
     Any(Vec<Cons>),
-    /// An intersection.
+    /// An intersection: what all of them allow (50).
     Both(Vec<Cons>),
-    /// EXCEPT: what the first allows and the second doesn't.
+    /// EXCEPT: what the first allows and the second doesn't (50).
     Minus(Box<Cons>, Box<Cons>),
-    /// ALL EXCEPT: what this constraint doesn't allow.
+    /// ALL EXCEPT: what this constraint doesn't allow (50).
     Other(Box<Cons>),
 }
 
@@ -131,7 +142,9 @@ pub struct Part {
     pub site: Site,
     /// The place of the component in the written list, from 0.
     pub at: u8,
+    /// The constraint written after its name.
     pub cons: Option<Cons>,
+    /// The presence word written there.
     pub word: Option<Word>,
 }
 

@@ -14,7 +14,7 @@ pub enum Value {
     Octets(ArcSlice<u8>),
     /// The subidentifiers' arcs: the first arc, the second, and so on (X.680 clause 32).
     Oid(ArcSlice<u128>),
-    /// Of any kind of character string.
+    /// The characters of a string of any kind.
     Chars(ArcStr),
     /// One place for each component of a SEQUENCE or SET in written order; None for an OPTIONAL one that is left out.
     Fields(Vec<Option<Value>>),
@@ -24,7 +24,8 @@ pub enum Value {
     Chosen(u8, Box<Value>),
 }
 
-/// A string of bits.
+/// A string of bits. In a value that fits its type the unused bits are zero, and there are none where there are no
+/// octets.
 #[derive(Debug, Drop)]
 pub struct Bits {
     /// The bits from the highest of the first octet on.

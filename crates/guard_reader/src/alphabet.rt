@@ -8,7 +8,8 @@ use std::simd::prelude::*;
 /// How many octets are looked at together.
 const LANES: usize = 32;
 
-/// Whether all octets are in the ranges, whose two ends belong to them.
+/// Whether each octet lies in one of the ranges, whose two ends belong to them; true where there are no octets.
+/// Condition: there are at most 8 ranges.
 pub fn all_in(ranges: &[(u8, u8)], octets: &[u8]) -> bool
     requires { length ranges.now ≤ 8 }
     ensures { result ≡ list_all (is_in_some ranges.now) octets.now }
@@ -20,7 +21,7 @@ pub fn all_in(ranges: &[(u8, u8)], octets: &[u8]) -> bool
     }
 }
 
-/// Whether all octets are in the ranges: compiled anew for each list that is known where it is called.
+/// Whether each octet lies in one of the ranges: compiled anew for each list that is known where it is called.
 #[inline(always)]
 pub fn are_all_in(ranges: &[(u8, u8)], octets: &[u8]) -> bool
     ensures { result ≡ list_all (is_in_some ranges.now) octets.now }
@@ -35,7 +36,7 @@ pub fn are_all_in(ranges: &[(u8, u8)], octets: &[u8]) -> bool
     are_in(ranges, rest)
 }
 
-/// Whether each of the first 32 octets does.
+/// Whether each of the first 32 octets lies in one of the ranges.
 #[inline(always)]
 fn are_first_in(ranges: &[(u8, u8)], octets: &[u8]) -> bool
     requires { 32 ≤ length octets.now }
@@ -50,7 +51,7 @@ fn are_first_in(ranges: &[(u8, u8)], octets: &[u8]) -> bool
     outside.to_bitmask() == 0
 }
 
-/// One octet after the other.
+/// Whether each octet lies in one of the ranges, looked at one after the other.
 #[inline(always)]
 fn are_in(ranges: &[(u8, u8)], octets: &[u8]) -> bool
     ensures { result ≡ list_all (is_in_some ranges.now) octets.now }

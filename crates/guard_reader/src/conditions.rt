@@ -37,7 +37,7 @@ pub fn has_one(set: &IntSet, number: Option<i128>) -> bool
     }
 }
 
-/// What fails outside by what has failed inside.
+/// Adds the slots that fail outside by formulas over the slots that have failed inside.
 pub fn add_implied(implications: &[Implication], inner: &Slots, failed: &mut Slots)
     ensures { failed.new ≡ implied (map implication_view implications.now) inner.now failed.old }
 {

@@ -31,7 +31,7 @@ pub fn is_lawful(kind: SimpleKind, items: &[i128], inside: &[u8]) -> bool
     }
 }
 
-/// 00 or FF (X.690 8.2, 11.1).
+/// Whether contents octets are those of a BOOLEAN: 00 or FF (X.690 8.2, 11.1).
 fn is_boolean(inside: &[u8]) -> bool
     ensures { result ≡ is_none (boolean_fault inside.now) }
 {
@@ -41,14 +41,15 @@ fn is_boolean(inside: &[u8]) -> bool
     }
 }
 
-/// The shortest two's complement, of at most sixteen octets (X.690 8.3).
+/// Whether contents octets are those of an INTEGER: the shortest two's complement, of at most sixteen octets (X.690
+/// 8.3).
 fn is_integer(inside: &[u8]) -> bool
     ensures { result ≡ is_none (integer_fault inside.now) }
 {
     fault_of_integer(inside).is_none()
 }
 
-/// The number of an item (X.690 8.4).
+/// Whether contents octets spell the number of an item of an ENUMERATED (X.690 8.4).
 fn is_enumerated(items: &[i128], inside: &[u8]) -> bool
     ensures { result ≡ is_none (enumerated_fault (map unnamed items.now) inside.now) }
 {
@@ -66,8 +67,8 @@ fn is_item(number: i128, items: &[i128]) -> bool
     false
 }
 
-/// The first octet is the count of unused bits, which are zero (X.690 8.6.2, 11.2.1); where bits are named the last one
-/// isn't (11.2.2).
+/// Whether contents octets are those of a BIT STRING: the first octet is the count of unused bits, which are zero
+/// (X.690 8.6.2, 11.2.1); where bits are named the last one isn't (11.2.2).
 fn is_bit_string(named: bool, inside: &[u8]) -> bool
     ensures { result ≡ is_none (bits_fault (if named then unnamed (pos 0) ∷ [] else []) inside.now) }
 {
@@ -89,7 +90,8 @@ fn are_bits(named: bool, octets: &[u8], unused: u8) -> bool
     !named || has_no_trailing_zero(octets, unused)
 }
 
-/// UTF-8, or an octet of the kind's alphabet for each character (X.690 8.23).
+/// Whether contents octets are those of a character string: UTF-8, or an octet of the kind's alphabet for each
+/// character (X.690 8.23).
 fn is_text(kind: CharKind, inside: &[u8]) -> bool
     ensures { result ≡ is_text kind inside.now }
 {

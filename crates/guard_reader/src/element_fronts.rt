@@ -18,11 +18,11 @@ use guard_der::header;
 use guard_model::Tag;
 use guard_tables::{Kind, Nodes};
 
-/// What is there.
+/// What is at the front of octets, as a node sees it.
 #[derive(Clone, Copy)]
 pub enum Front<'a> {
-    /// An element of the node: what is inside its outermost tag, of a CHOICE without a tag all of it; and what follows
-    /// it.
+    /// An element of the node: what is inside its outermost tag, of a CHOICE without a tag the whole element; and the
+    /// octets after the element.
     Here(&'a [u8], &'a [u8]),
     /// The end, or an element with another tag.
     Elsewhere,
@@ -30,7 +30,7 @@ pub enum Front<'a> {
     Broken,
 }
 
-/// Whether this octet is at the front.
+/// Whether the first of the octets is this one. No octet is 256.
 #[inline(always)]
 pub fn begins(octet: u16, octets: &[u8]) -> bool
     ensures same { result ≡ begins octet octets.now }
@@ -42,7 +42,7 @@ pub fn begins(octet: u16, octets: &[u8]) -> bool
     }
 }
 
-/// An element of a node, where it may come next.
+/// What is at the front of the octets, seen from the node at this place. Condition: the node is there.
 #[cycle(fronts)]
 #[inline(always)]
 pub fn front_at<'a>(table: &Nodes, at: usize, octets: &'a [u8]) -> Front<'a>
@@ -62,7 +62,7 @@ pub fn front_at<'a>(table: &Nodes, at: usize, octets: &'a [u8]) -> Front<'a>
     Front::Elsewhere
 }
 
-/// The element after one identifier octet that was read.
+/// What is at the front, where its one identifier octet was read and is the node's.
 #[inline(always)]
 pub fn cut_off(octets: &[u8]) -> Front<'_>
     ensures { front_view result ≡ front_cut (split (after_one octets.now)) }
@@ -73,7 +73,7 @@ pub fn cut_off(octets: &[u8]) -> Front<'_>
     }
 }
 
-/// An element of a node that has no identifier octet of its own.
+/// What is at the front, seen from a node that has no identifier octet of its own.
 #[cycle(fronts)]
 #[cold]
 #[inline(never)]
@@ -90,7 +90,7 @@ fn far_front<'a>(table: &Nodes, at: usize, octets: &'a [u8]) -> Front<'a>
     }
 }
 
-/// An element with this tag, of any number, in this form.
+/// What is at the front, seen from a node with this tag, of any number, in this form.
 fn head_front<'a>(tag: &Tag, constructed: bool, octets: &'a [u8]) -> Front<'a>
     ensures { front_view result ≡ head_front tag.now constructed octets.now }
 {
@@ -100,7 +100,8 @@ fn head_front<'a>(tag: &Tag, constructed: bool, octets: &'a [u8]) -> Front<'a>
     }
 }
 
-/// What is left after the first of two identifier octets that spell a tag in this form.
+/// What is left after the first of two identifier octets that spell a tag in this form; None where they don't, and
+/// where the tag takes one octet or more than two.
 #[inline(always)]
 #[tactic(auto, using(crate::proofs::HighTags::spelled_there))]
 fn after_spelled<'a>(tag: &Tag, constructed: bool, octets: &'a [u8]) -> Option<&'a [u8]>
@@ -114,8 +115,8 @@ fn after_spelled<'a>(tag: &Tag, constructed: bool, octets: &'a [u8]) -> Option<&
     }
 }
 
-/// What follows the first identifier octet of an element with the node's outermost tag, where that has two octets and
-/// is spelled as it should be.
+/// What follows the first identifier octet of an element with the node's outermost tag; None unless that tag has two
+/// octets, which stand there. Condition: the node is there.
 #[inline(always)]
 pub fn after_first<'a>(table: &Nodes, at: usize, octets: &'a [u8]) -> Option<&'a [u8]>
     requires { at < vec_len table.now.hots }
@@ -161,7 +162,7 @@ fn is_in_form(constructed: bool, wanted: bool) -> bool
     constructed == wanted
 }
 
-/// An element of a node that has no tag: of a CHOICE the element of an alternative.
+/// What is at the front, seen from a node that has no tag: for a CHOICE the element of an alternative.
 #[cycle(fronts)]
 fn untagged<'a>(table: &Nodes, at: usize, octets: &'a [u8]) -> Front<'a>
     requires { at < vec_len table.now.hots }
@@ -177,7 +178,7 @@ fn untagged<'a>(table: &Nodes, at: usize, octets: &'a [u8]) -> Front<'a>
     Front::Elsewhere
 }
 
-/// The element of the first alternative that has its tag.
+/// What is at the front, seen from the first alternative that has its tag.
 #[cycle(fronts)]
 fn alternatives<'a>(table: &Nodes, at: usize, octets: &'a [u8]) -> Front<'a>
     requires room { at < vec_len table.now.hots }
@@ -196,7 +197,7 @@ fn alternatives<'a>(table: &Nodes, at: usize, octets: &'a [u8]) -> Front<'a>
     Front::Elsewhere
 }
 
-/// An element and nothing after it.
+/// What is inside the outermost tag of an element with nothing after it; None where anything else is there.
 #[inline(always)]
 pub fn alone(front: Front<'_>) -> Option<&[u8]>
     ensures { option_map (λ inside. inside.now) result ≡ alone (front_view front.entry) }
@@ -207,7 +208,7 @@ pub fn alone(front: Front<'_>) -> Option<&[u8]>
     }
 }
 
-/// An element where one is due, and what follows it.
+/// What is inside the outermost tag of an element, and what follows it; None where no element of the node is there.
 #[inline(always)]
 pub fn element(front: Front<'_>) -> Option<(&[u8], &[u8])>
     ensures { option_map (λ p. (p.0.now, p.1.now)) result ≡ element_in (front_view front.entry) }
@@ -219,7 +220,8 @@ pub fn element(front: Front<'_>) -> Option<(&[u8], &[u8])>
     }
 }
 
-/// Of what is inside the outermost tag of a node, what is inside the last one.
+/// What is inside the last tag of a node, from what is inside its outermost one; None where a tag between isn't spelled
+/// as it should be, or something follows inside it. Condition: the node is there.
 #[cold]
 #[inline(never)]
 pub fn innermost<'a>(table: &Nodes, at: usize, octets: &'a [u8]) -> Option<&'a [u8]>
@@ -243,7 +245,7 @@ pub fn innermost<'a>(table: &Nodes, at: usize, octets: &'a [u8]) -> Option<&'a [
     innermost(table, first, octets)
 }
 
-/// Octets without those that are left after them.
+/// The octets without those at their end, which are as many as are left. Condition: not more are left than there are.
 pub fn front_of<'a>(octets: &'a [u8], rest: &[u8]) -> &'a [u8]
     requires { length rest.now ≤ length octets.now }
     ensures { result.now ≡ front_of octets.now rest.now }

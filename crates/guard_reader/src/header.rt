@@ -4,7 +4,8 @@ ghost use Rattle.guard_der.specs.Head.{length_at};
 ghost use Rattle.guard_reader.specs.Octets.{split, cut, size_at};
 ghost use Rattle.guard_reader.specs.Fronts.{after_one};
 
-/// The number that a length of the long form spells; 0 where it is at fault.
+/// The number that a length of the long form spells, by its first octet and those after it; 0 where it is at fault.
+/// Condition: bit 8 of the first octet is set.
 #[cold]
 #[inline(never)]
 #[tactic(auto, unfolding(guard_der::specs::Head::length_at, guard_der::specs::Head::long_length))]
@@ -28,7 +29,8 @@ pub fn long_length(first: u8, after: &[u8]) -> usize
     }
 }
 
-/// The contents and what follows them, after an identifier octet.
+/// The contents of an element and what follows them, by the length after an identifier octet; None where the length is
+/// at fault or reaches past the octets.
 #[inline(always)]
 #[tactic(auto, unfolding(crate::specs::Octets::split, guard_der::specs::Head::length_at))]
 pub fn split_after(octets: &[u8]) -> Option<(&[u8], &[u8])>
@@ -40,7 +42,8 @@ pub fn split_after(octets: &[u8]) -> Option<(&[u8], &[u8])>
     }
 }
 
-/// The contents and what follows them, where the length octet was `first`.
+/// The contents of an element and what follows them, where the first length octet was `first`; None where the length is
+/// at fault or reaches past the octets.
 #[inline(always)]
 #[tactic(auto, unfolding(crate::specs::Octets::split, guard_der::specs::Head::length_at))]
 fn split(first: u8, after: &[u8]) -> Option<(&[u8], &[u8])>
@@ -57,7 +60,7 @@ fn split(first: u8, after: &[u8]) -> Option<(&[u8], &[u8])>
     cut(size, &after[extra..])
 }
 
-/// So many octets, and what follows them.
+/// So many octets, and what follows them; None where there are fewer.
 #[inline(always)]
 fn cut(size: usize, octets: &[u8]) -> Option<(&[u8], &[u8])>
     ensures { option_map (λ p. (p.0.now, p.1.now)) result ≡ cut size octets.now }

@@ -17,7 +17,7 @@ pub fn is_spelled(tag: &Tag, constructed: bool, first: u8, number: u8) -> bool
         && first == leading(tag.class, constructed)
 }
 
-/// The first of them.
+/// The first identifier octet of a tag with a number from 31 on (X.690 8.1.2.4).
 #[inline(always)]
 fn leading(class: Class, constructed: bool) -> u8
     ensures { result ≡ 64 * class_rank class + form_bit constructed + 31 }

@@ -30,14 +30,14 @@ pub fn are_characters(kind: CharKind, inside: &[u8]) -> bool
     }
 }
 
-/// Space and digits.
+/// Whether each octet is a character of NumericString: space or a digit.
 fn are_numeric(inside: &[u8]) -> bool
     ensures { result ≡ all_characters CharKind.Numeric inside.now }
 {
     are_all_in(&[(32, 32), (48, 57)], inside)
 }
 
-/// Letters, digits, space and ' ( ) + , - . / : = ?
+/// Whether each octet is a character of PrintableString: a letter, a digit, space or one of `' ( ) + , - . / : = ?`.
 fn are_printable(inside: &[u8]) -> bool
     ensures { result ≡ all_characters CharKind.Printable inside.now }
 {
@@ -101,7 +101,7 @@ fn narrowed(ranges: &[(u32, u32)]) -> ArrayVec<(u8, u8), MOST_RANGES>
     narrowed
 }
 
-/// Where no octet lies between the ends, a range without any number.
+/// The octets of a range of codes: its two ends, or a range without any octet where none lies between them.
 fn narrow(low: u32, high: u32) -> (u8, u8)
     ensures { (o : ℕ) → o < 256 → is_in_range result.0 result.1 o ≡ is_in_range low high o }
 {
@@ -111,7 +111,7 @@ fn narrow(low: u32, high: u32) -> (u8, u8)
     (low as u8, high.min(255) as u8)
 }
 
-/// Whether each octet of a text is a character.
+/// Whether strings of the kind have one octet a character, so that each octet is a character's code.
 pub fn has_one_octet(kind: CharKind) -> bool
     ensures { (os : List ℕ) → result ≡ true → (is_text kind os ≡ all_characters kind os)
         × (characters_of kind os ≡ os) }

@@ -27,6 +27,7 @@ pub fn has_layers(kind: Kind) -> bool
     }
 }
 
+/// Whether a node is a CHOICE.
 pub fn is_choice(kind: Kind) -> bool
     ensures { result ≡ is_choice kind }
 {
@@ -49,7 +50,7 @@ fn is_simple(kind: Kind) -> bool
     }
 }
 
-/// The tag that a node puts round another one.
+/// The tag that a node puts round another one: that of a wrapper; None of any other node.
 pub fn tag_round(kind: Kind, tag: Option<Tag>) -> Option<Tag>
     ensures { result ≡ tag_round kind tag }
 {
@@ -63,6 +64,8 @@ pub struct TagAndForm {
     pub constructed: bool,
 }
 
+/// The outermost tag of the node at this place, where it has one, and the form of its elements. Condition: the node is
+/// there.
 #[cycle(outermost)]
 #[inline(always)]
 pub fn outermost(table: &Nodes, at: usize) -> TagAndForm
@@ -93,7 +96,8 @@ fn outermost_round(table: &Nodes, at: usize) -> TagAndForm
     wrapped(tag_round(node.kind, table.colds[at].tag), inner)
 }
 
-/// A tag round what another node has; a wrapper is constructed (X.690 8.14.2).
+/// The outermost tag and the form where this tag is put round what another node has; a wrapper is constructed (X.690
+/// 8.14.2).
 fn wrapped(tag: Option<Tag>, inner: TagAndForm) -> TagAndForm
     ensures { tag_and_form result ≡ wrapped tag (tag_and_form inner) }
 {

@@ -4,10 +4,10 @@ ghost use Rattle.guard_tables.specs.Slots.{has};
 
 use guard_tables::Slots;
 
-/// What one pass tells of the value that octets encode: the slots of the types that have it, 0 of the declared type and
-/// i + 1 of rule i.
+/// What one pass tells of the value that octets encode: which of a table's types have it.
 #[derive(Clone, Copy, Debug, PartialEq, Eq)]
 pub struct Marks {
+    /// The slots of the types that have the value: 0 of the declared type, i + 1 of rule i, counted from 0.
     pub members: Slots,
 }
 
@@ -19,8 +19,8 @@ impl Marks {
         self.members.has(0)
     }
 
-    /// Whether the type of this rule has it; a message has at most 255 rules, the last of them rule 254. There is no
-    /// type of a rule that isn't there.
+    /// Whether the type of this rule, counted from 0, has the value; false of a rule that isn't there. A message has at
+    /// most 255 rules, so that the last one is rule 254.
     pub fn rule(&self, rule: u8) -> bool
         ensures { result ≡ (nat_lt rule 255 && has self.now.members (rule + 1)) }
     {

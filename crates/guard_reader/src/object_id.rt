@@ -7,7 +7,8 @@ ghost use Rattle.guard_reader.specs.Octets.{reads_on};
 /// From here on a number has no room for seven bits more.
 const FULL: u128 = 1 << 121;
 
-/// Bit 8 is set on each octet of a subidentifier but its last, its first isn't 80, and it has at most 128 bits.
+/// Whether contents octets are those of an OBJECT IDENTIFIER: bit 8 is set on each octet of a subidentifier but its
+/// last, its first isn't 80, and it has at most 128 bits.
 pub fn is_object_identifier(inside: &[u8]) -> bool
     ensures { result ≡ is_none (object_id_fault inside.now) }
 {
@@ -32,7 +33,7 @@ fn are_subidentifiers(inside: &[u8]) -> bool
     starts
 }
 
-/// A subidentifier may not begin with 80, seven bits that are all zero.
+/// Whether a subidentifier begins here and does so with 80, seven bits that are all zero, as none may.
 fn is_padding(starts: bool, octet: u8) -> bool
     ensures { result ≡ (starts && nat_eq octet 128) }
 {

@@ -10,7 +10,8 @@ ghost use Rattle.guard_reader.specs.inside.NodeParts.{pass_at, sight_at};
 
 use guard_tables::{Hot, Nodes};
 
-/// Whether contents spell a number from the low end to the high one.
+/// Whether contents of one or two octets spell a number that is plain at the node, one that is lawful there and fails
+/// nothing. The answer may be no for one that is.
 #[inline(always)]
 pub fn is_plain(node: &Hot, inside: &[u8]) -> bool
     ensures { result ≡ true → IsSmall node.now.low node.now.high inside.now }
@@ -71,7 +72,7 @@ fn middle(a: u8, b: u8) -> i32
     i32::from(i16::from_be_bytes([a, b]))
 }
 
-/// What is left after the plain numbers at the front.
+/// What is left of the elements of a list after the plain numbers at the front. Condition: the elements' node is there.
 #[inline(always)]
 pub fn after_plain<'a>(table: &Nodes, at: usize, octets: &'a [u8]) -> &'a [u8]
     requires { at < vec_len table.now.hots }
@@ -92,7 +93,8 @@ pub fn after_plain<'a>(table: &Nodes, at: usize, octets: &'a [u8]) -> &'a [u8]
     rest
 }
 
-/// What is left after one plain number at the front, if there is one.
+/// What is left of the elements of a list after one plain number at the front, if there is one. Condition: the
+/// elements' node is there.
 #[inline(always)]
 pub fn after_one_plain<'a>(table: &Nodes, at: usize, octets: &'a [u8]) -> &'a [u8]
     requires { at < vec_len table.now.hots }
@@ -127,7 +129,7 @@ fn plain_size(node: &Hot, octets: &[u8]) -> usize
     0
 }
 
-/// Whether a plain number of one octet read at the front.
+/// Whether an element is at the front whose contents are one octet and a plain number.
 #[inline(always)]
 pub fn begins_plainly(node: &Hot, octets: &[u8]) -> bool
     ensures { result ≡ true → IsOne node.now.identifier node.now.low node.now.high octets.now }

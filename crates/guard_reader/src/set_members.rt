@@ -20,7 +20,8 @@ use guard_der::{class_of, follows, header};
 use guard_model::Tag;
 use guard_tables::{Nodes, Slots};
 
-/// The tag of the element at the front, where it comes after the one before.
+/// The tag of the element at the front; None where none is there, or its tag doesn't come after `last`, that of the one
+/// before.
 pub fn next_tag(last: Option<Tag>, octets: &[u8]) -> Option<Tag>
     ensures { result ≡ tag_after last (tag_at octets.now) }
 {
@@ -30,7 +31,7 @@ pub fn next_tag(last: Option<Tag>, octets: &[u8]) -> Option<Tag>
     }
 }
 
-/// The tag of the element at the front.
+/// The tag of the element at the front; None where none is there.
 #[inline(always)]
 fn front_tag(octets: &[u8]) -> Option<Tag>
     ensures { result ≡ tag_at octets.now }
@@ -168,8 +169,9 @@ fn is_low(octet: u16, floor: u8) -> bool
     rank(octet as u8) <= floor
 }
 
-/// The component that is at the front: its place among so many from the first on, what is inside it, and what follows
-/// it. So many of them are known not to be there.
+/// The component that is at the front: its place among so many from the first on, what is inside its outermost tag, and
+/// what follows it; None where none of them is there. Conditions: these nodes are there, and the first of them, as many
+/// as are passed, aren't at the front.
 pub fn member<'a>(
     table: &Nodes,
     first: usize,
@@ -196,7 +198,7 @@ pub fn member<'a>(
     None
 }
 
-/// Whether the component at a place was read: those that were are kept as bits.
+/// Whether the component at a place was read, by the bits of those that were. Condition: the place is less than 64.
 pub fn is_read(read: u64, place: usize) -> bool
     requires { place < 64 }
     ensures { result ≡ nat_eq (bit_at read place) 1 }
@@ -204,7 +206,7 @@ pub fn is_read(read: u64, place: usize) -> bool
     (read >> place) & 1 == 1
 }
 
-/// With the component at this place.
+/// The bits of the components that were read, with that of the one at this place. Condition: the place is less than 64.
 pub fn with_read(read: u64, place: usize) -> u64
     requires { place < 64 }
     ensures { (i : ℕ) → i < 64 → nat_eq (bit_at result i) 1 ≡ (nat_eq place i || nat_eq (bit_at read i) 1) }
@@ -212,7 +214,8 @@ pub fn with_read(read: u64, place: usize) -> u64
     read | (1 << place)
 }
 
-/// Whether the components that weren't read may be absent; what their absence costs fails.
+/// Whether the components that weren't read may be absent; the slots of their absence are added to those that fail.
+/// Conditions: these nodes are there, and there are at most 64.
 pub fn absences(table: &Nodes, first: usize, count: usize, read: u64, failed: &mut Slots) -> bool
     requires room { first + count ≤ vec_len table.now.hots }
     requires few { count ≤ 64 }

@@ -29,7 +29,8 @@ use guard_integers::IntSet;
 use guard_model::CharKind;
 use guard_tables::{Cold, Condition, Conditions, SimpleKind, Slots, Test};
 
-/// Contents octets of a simple kind, and what is asked of the value.
+/// Whether contents octets are lawful for a simple kind; the slots of what their value doesn't pass are added to those
+/// that fail.
 #[inline(never)]
 #[tactic(auto, unfolding(crate::specs::Judging::contents_judged))]
 pub fn simple(cold: &Cold, kind: SimpleKind, inside: &[u8], failed: &mut Slots) -> bool
@@ -151,7 +152,7 @@ fn passes(test: &Test, kind: SimpleKind, items: &[i128], inside: &[u8]) -> bool
     }
 }
 
-/// The number of an INTEGER or ENUMERATED.
+/// The number that the contents octets of an INTEGER or ENUMERATED spell; None of another kind.
 fn number_of(kind: SimpleKind, items: &[i128], inside: &[u8]) -> Option<i128>
     requires { is_none (simple_fault (kind_view kind items.now) inside.now) ≡ true }
     ensures { result ≡ number_in (simple_value (kind_view kind items.now) inside.now) }
@@ -188,7 +189,7 @@ fn is_sized(set: &IntSet, kind: SimpleKind, items: &[i128], inside: &[u8]) -> bo
     }
 }
 
-/// Whether the count of bits is; the first octet is the count of those that are unused.
+/// Whether the number of bits is one of the set. The first octet is the number of bits that are unused.
 fn has_bits(set: &IntSet, inside: &[u8]) -> bool
     ensures { result ≡ some_passes (λ n. holds set.now (pos n)) (size_of (bits_of inside.now)) }
 {
@@ -198,7 +199,7 @@ fn has_bits(set: &IntSet, inside: &[u8]) -> bool
     }
 }
 
-/// How many characters octets spell.
+/// How many characters the octets of a string of this kind spell.
 fn count(kind: CharKind, inside: &[u8]) -> usize
     requires { is_text kind inside.now ≡ true }
     ensures { result ≡ length (characters_of kind inside.now) }

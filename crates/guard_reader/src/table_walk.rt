@@ -10,8 +10,8 @@ use crate::marks::Marks;
 use crate::walking::failures;
 use guard_tables::{Slots, Table};
 
-/// Which of a table's types have the value whose encoding the octets are; None where they encode no value of the
-/// declared type.
+/// Which of a table's types have the value whose DER encoding (X.690) the octets are; None where they encode no value
+/// of the declared type. No memory is taken.
 pub fn walk(table: &Table, octets: &[u8]) -> Option<Marks>
     // A value of the declared type has the octets as its encoding, and the marks are those of the types that have it.
     ensures marks { IfSome result (λ m. (v : AbstractValue) × IsTrue (fits (declared_of table.now) v)

@@ -20,7 +20,7 @@ pub fn is_spelled_utf8(inside: &[u8]) -> bool
     }
 }
 
-/// How many characters UTF-8 spells.
+/// How many characters the octets spell. Condition: they are UTF-8.
 pub fn count_utf8(inside: &[u8]) -> usize
     requires { is_utf8 inside.now ≡ true }
     ensures { result ≡ length (chars inside.now) }
@@ -41,7 +41,7 @@ fn count_firsts(octets: &[u8]) -> usize
     count + count_singly(rest)
 }
 
-/// How many of the first 32 octets do.
+/// How many of the first 32 octets begin a character.
 #[inline(always)]
 fn count_in_lanes(octets: &[u8]) -> usize
     requires { 32 ≤ length octets.now }

@@ -1,4 +1,4 @@
-//! The walk.
+//! The walk over the octets of a message by the nodes of a table.
 ghost use Rattle.std.specs.Prelude.{◌≡◌, ◌<◌, vec_len, option_map};
 ghost use Rattle.guard_tables.specs.declared.slots.Slots.{Slots};
 ghost use Rattle.guard_tables.specs.NodesView.{spots_in, root_of};
@@ -24,7 +24,8 @@ use lists::{items, set_of};
 use series::{fields, series};
 use sets::set;
 
-/// The slots that fail at the value whose encoding the octets are; None where they are none.
+/// If the octets are the encoding of a value, the slots of all that is asked of it and that it doesn't pass. None where
+/// the octets are the encoding of no value.
 #[inline(always)]
 pub fn failures(table: &Nodes, octets: &[u8]) -> Option<Slots>
     ensures { result ≡ message_judged (root_of table.now) octets.now }
@@ -36,7 +37,7 @@ pub fn failures(table: &Nodes, octets: &[u8]) -> Option<Slots>
     None
 }
 
-/// Whether the octets are an encoding; then `failed` has what fails.
+/// Whether the octets are the encoding of a value; if so, `failed` has the slots of what that value doesn't pass.
 #[inline(never)]
 fn decide(table: &Nodes, octets: &[u8], failed: &mut Slots) -> bool
     requires { failed.old ≡ none }
@@ -52,7 +53,7 @@ fn decide(table: &Nodes, octets: &[u8], failed: &mut Slots) -> bool
     }
 }
 
-/// Whether the octets are an encoding of a message of any kind, by what is at the front.
+/// What `decide` answers for a message of any kind, by what is at the front.
 #[inline(never)]
 #[tactic(auto, unfolding(crate::specs::Judging::message_judged))]
 fn decide_by_front(table: &Nodes, octets: &[u8], failed: &mut Slots) -> bool
@@ -66,7 +67,8 @@ fn decide_by_front(table: &Nodes, octets: &[u8], failed: &mut Slots) -> bool
     }
 }
 
-/// What is inside the outermost tag of a node; without a tag, the whole element.
+/// Whether what is inside the outermost tag of a node, without a tag the whole element, is lawful there; the slots of
+/// what fails are added to those that fail.
 #[cycle(walking)]
 #[inline(always)]
 fn within_tag(table: &Nodes, at: usize, inside: &[u8], failed: &mut Slots) -> bool
@@ -76,7 +78,7 @@ fn within_tag(table: &Nodes, at: usize, inside: &[u8], failed: &mut Slots) -> bo
     within_node(table, at, &table.hots[at], inside, failed)
 }
 
-/// What is inside the outermost tag of a node that was looked up.
+/// What `within_tag` answers for a node that was looked up.
 #[cycle(walking)]
 #[inline(always)]
 fn within_node(table: &Nodes, at: usize, node: &Hot, inside: &[u8], failed: &mut Slots) -> bool
@@ -90,7 +92,7 @@ fn within_node(table: &Nodes, at: usize, node: &Hot, inside: &[u8], failed: &mut
     node_contents(table, at, node, inside, failed)
 }
 
-/// What is inside the outermost tag of a node that has another one inside.
+/// What `within_tag` answers for a node that has another one inside.
 #[cycle(walking)]
 #[cold]
 #[inline(never)]
@@ -104,7 +106,7 @@ fn layered(table: &Nodes, at: usize, inside: &[u8], failed: &mut Slots) -> bool
     }
 }
 
-/// Contents octets of a node.
+/// Whether contents octets are lawful for a node; the slots of what fails are added to those that fail.
 #[cycle(walking)]
 #[inline(always)]
 fn contents(table: &Nodes, at: usize, inside: &[u8], failed: &mut Slots) -> bool
@@ -114,7 +116,7 @@ fn contents(table: &Nodes, at: usize, inside: &[u8], failed: &mut Slots) -> bool
     node_contents(table, at, &table.hots[at], inside, failed)
 }
 
-/// Contents octets of a node that was looked up.
+/// What `contents` answers for a node that was looked up.
 #[cycle(walking)]
 #[inline(always)]
 fn node_contents(table: &Nodes, at: usize, node: &Hot, inside: &[u8], failed: &mut Slots) -> bool
@@ -136,8 +138,8 @@ fn node_contents(table: &Nodes, at: usize, node: &Hot, inside: &[u8], failed: &m
     }
 }
 
-/// Contents octets of the node that is inside another one. Called from here alone, so that the call of `contents` above
-/// can be compiled into each caller.
+/// What `contents` answers for the node that is inside another one. That call of `contents` stands here alone, so that
+/// each other one can be compiled into its caller.
 #[cycle(walking)]
 #[cold]
 #[inline(never)]
@@ -148,7 +150,7 @@ fn inner_contents(table: &Nodes, at: usize, inside: &[u8], failed: &mut Slots) -
     contents(table, at, inside, failed)
 }
 
-/// A node with conditions on the whole value of its inner node, which has parts.
+/// What `contents` answers for a node with conditions on the whole value of its inner node, which has parts.
 #[cycle(walking)]
 #[cold]
 #[inline(never)]
@@ -166,7 +168,7 @@ fn asked(table: &Nodes, at: usize, inside: &[u8], failed: &mut Slots) -> bool
     true
 }
 
-/// A node with formulas over what its inner node asks.
+/// What `contents` answers for a node with formulas over what its inner node asks.
 #[cycle(walking)]
 #[cold]
 #[inline(never)]

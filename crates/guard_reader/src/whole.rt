@@ -13,7 +13,8 @@ use crate::element_fronts::{element, front_at};
 use guard_integers::IntSet;
 use guard_tables::{Condition, Kind, Nodes, Slots, Test};
 
-/// The size of a list whose octets are lawful; other kinds have none.
+/// The number of elements of a SEQUENCE OF or SET OF, whose octets are meant to be lawful; None of another kind.
+/// Condition: the node is there.
 pub fn size_of(table: &Nodes, at: usize, inside: &[u8]) -> Option<usize>
     requires { at < vec_len table.now.hots }
     ensures { result ≡ size_in (body_at (spots_in table.now) at) inside.now }
@@ -32,7 +33,7 @@ pub fn size_of(table: &Nodes, at: usize, inside: &[u8]) -> Option<usize>
     }
 }
 
-/// How many elements octets have, each of this node.
+/// How many elements of this node the octets have, one after the other.
 fn count(table: &Nodes, at: usize, octets: &[u8]) -> usize
     requires { at < vec_len table.now.hots }
     ensures { result ≡ element_count (sight_at (spots_in table.now) at) octets.now }
@@ -49,7 +50,7 @@ fn count(table: &Nodes, at: usize, octets: &[u8]) -> usize
     count
 }
 
-/// Marks the slots of each condition that doesn't hold.
+/// Adds the slots of each condition that the whole value doesn't pass, by its size and its contents octets.
 pub fn mark_whole(conditions: &[Condition], size: Option<usize>, inside: &[u8], failed: &mut Slots)
     ensures { failed.new ≡ conditions_marked (map condition_view conditions.now)
         (whole_facts size inside.now) failed.old }

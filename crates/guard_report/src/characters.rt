@@ -34,7 +34,8 @@ fn are_all_seen(string: &str) -> bool
     true
 }
 
-/// Controls, marks of direction and width, ends of lines and paragraphs, tags.
+/// Whether a character is written by its numbers, since it can't be seen: controls, marks of direction and width, ends
+/// of lines and paragraphs, tags.
 fn is_hidden(code: u32) -> bool
     ensures { result ≡ is_hidden code }
 {
@@ -60,7 +61,7 @@ fn add_in_quotes(text: &mut Vec<u8>, string: &str) -> Result<(), OutOfMemory>
     add(text, b"\"")
 }
 
-/// A quote is written twice.
+/// Appends a character as it stands in quotes, where a quote is written twice.
 fn add_as_quoted(text: &mut Vec<u8>, character: char) -> Result<(), OutOfMemory>
     ensures { OnOk result (text.new.items ≡ text.old.items ++ as_quoted character) }
 {

@@ -16,7 +16,7 @@ pub enum Layout {
 }
 
 impl Layout {
-    /// That of the parts.
+    /// The layout of the parts.
     pub(crate) fn inside(self) -> Layout
         ensures { result ≡ inside self }
     {
@@ -63,6 +63,7 @@ pub(crate) fn add_closing(
     }
 }
 
+/// Appends a line feed, and two spaces for each level.
 pub(crate) fn add_new_line(text: &mut Vec<u8>, level: u8) -> Result<(), OutOfMemory>
     ensures { OnOk result (text.new.items ≡ text.old.items ++ new_line level) }
 {

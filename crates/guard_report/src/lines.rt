@@ -10,12 +10,11 @@ use guard_model::OutOfMemory;
 use guard_policy::{Policy, Route, Verdict};
 use std::alloc::Global;
 
-/// Few lines have more octets. So a line grows once.
+/// The octets for which a line has room from the start. Few lines have more, so that a line grows once.
 const USUAL_LENGTH: usize = 128;
 
-/// The line of the verdict on the message of a frame, by the frame's number: its number, sender and receiver as
-/// `FROM>TO`, the message's name and the text of the verdict, and a line feed. It fails only where
-/// memory runs out.
+/// The report line of the verdict on the message of a frame: the frame's number, sender and receiver as `FROM>TO`, the
+/// message's name, the text of the verdict as `verdict_text` has it, and a line feed. OutOfMemory is the only error.
 pub fn line(
     alloc: Global,
     number: u64,
@@ -33,8 +32,8 @@ pub fn line(
     Ok(line)
 }
 
-/// Appends the line, so that one buffer can serve for many lines. It fails only where memory runs out; a part of the
-/// line may have come to the buffer then.
+/// Appends the line that `line` answers, so that one buffer can serve for many lines. OutOfMemory is the only error; a
+/// part of the line may have come to the buffer then.
 pub fn add_line(
     line: &mut Vec<u8>,
     number: u64,

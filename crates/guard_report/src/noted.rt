@@ -23,11 +23,11 @@ use std::alloc::Global;
 /// Where a value is in the text, and where in the message.
 #[derive(Clone, Copy)]
 pub struct Spot {
-    /// How far its line is indented.
+    /// How many levels the value's line is indented.
     pub level: u8,
-    /// Where the encoding of the part begins that begins on the value's line.
+    /// The offset of the encoding of the part that begins on the value's line.
     pub line: Option<usize>,
-    /// Where the value's encoding begins; None where it isn't encoded.
+    /// The offset of the value's encoding in the message; None where it isn't encoded.
     pub at: Option<usize>,
 }
 
@@ -188,7 +188,7 @@ fn end_after(value: &Value, at: Option<usize>) -> LineEnd
     }
 }
 
-/// As all values are but braces with parts in them.
+/// Whether a value stands on one line, as each does but braces with parts in them.
 fn is_on_one_line(value: &Value) -> bool
     ensures { result ≡ is_on_one_line (value_view value.now) }
 {

@@ -11,7 +11,8 @@ use guard_eval::part_at;
 use guard_model::{OutOfMemory, Step, Ty, Value};
 use std::alloc::Global;
 
-/// The part of the value that the path names; None where there is no such part.
+/// The part of the value that the path names; None where there is no such part, as where a component is absent or
+/// another alternative is chosen.
 pub fn value_at<'a>(value: &'a Value, path: &[Step]) -> Option<&'a Value>
     ensures { option_map (λ v. value_view v.now) result ≡ value_at path.now (value_view value.now) }
 {
@@ -22,7 +23,7 @@ pub fn value_at<'a>(value: &'a Value, path: &[Step]) -> Option<&'a Value>
     Some(inner)
 }
 
-/// The part one step further in.
+/// The part of a value one step further in; None where there is none.
 fn value_within(value: &Value, step: Step) -> Option<&Value>
     ensures { option_map (λ v. value_view v.now) result ≡ value_within (value_view value.now) step }
 {
@@ -32,7 +33,7 @@ fn value_within(value: &Value, step: Step) -> Option<&Value>
     }
 }
 
-/// The element at this place, from 0, if the value is a list.
+/// The element at this place, from 0; None where there is none, or the value is no list.
 fn element_at(value: &Value, place: usize) -> Option<&Value>
     ensures { option_map (λ v. value_view v.now) result ≡ element_at place (value_view value.now) }
 {
@@ -53,8 +54,8 @@ pub fn type_at<'a>(ty: &'a Ty, path: &[Step]) -> Option<&'a Ty>
     inner
 }
 
-/// The text of the part of a value of the type that the path names, on one line; None where there is no such part. It
-/// fails only where memory runs out.
+/// The text, in ASN.1 value notation and on one line, of the part of a value of the type that the path names; None
+/// where there is no such part. OutOfMemory is the only error.
 pub fn part_text(
     alloc: Global,
     ty: &Ty,

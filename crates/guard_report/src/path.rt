@@ -39,7 +39,7 @@ fn add_step(text: &mut Vec<u8>, ty: Option<&Ty>, step: Step) -> Result<(), OutOf
     }
 }
 
-/// The type one step further in, if one is known.
+/// The type one step further in; None where no type is known, or it has no such part.
 pub fn type_within(ty: Option<&Ty>, step: Step) -> Option<&Ty>
     ensures { option_map (λ ty. type_view ty.now) result
         ≡ type_within (option_map (λ ty. type_view ty.now) ty.entry) step }
@@ -50,7 +50,8 @@ pub fn type_within(ty: Option<&Ty>, step: Step) -> Option<&Ty>
     }
 }
 
-/// The type of the component or alternative at this place of the written list, from 0.
+/// The type of the component or alternative at this place of the written list, from 0; None where no type is known, or
+/// it has no such part.
 pub fn part_type(ty: Option<&Ty>, place: usize) -> Option<&Ty>
     ensures { option_map (λ ty. type_view ty.now) result
         ≡ type_within (option_map (λ ty. type_view ty.now) ty.entry) (Component place) }
@@ -58,7 +59,8 @@ pub fn part_type(ty: Option<&Ty>, place: usize) -> Option<&Ty>
     Some(&component_at(ty, place)?.ty)
 }
 
-/// The component or alternative at this place of the written list, from 0.
+/// The component or alternative at this place of the written list, from 0; None where no type is known, or it has no
+/// such part.
 pub fn component_at(ty: Option<&Ty>, place: usize) -> Option<&Comp>
     ensures { option_map (λ comp. component_view comp.now) result
         ≡ component_of (option_map (λ ty. type_view ty.now) ty.entry) place }
@@ -67,7 +69,7 @@ pub fn component_at(ty: Option<&Ty>, place: usize) -> Option<&Comp>
     kind.components().get(place)
 }
 
-/// The type of the elements of an OF type.
+/// The type of the elements of an OF type; None where no type is known, or it is no OF type.
 pub fn element_type(ty: Option<&Ty>) -> Option<&Ty>
     ensures { option_map (λ ty. type_view ty.now) result ≡ element_type (option_map (λ ty. type_view ty.now) ty.entry) }
 {

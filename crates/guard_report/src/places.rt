@@ -10,7 +10,7 @@ use super::path::component_at;
 use guard_der::{Header, header, is_left_out, outermost};
 use guard_model::{Kind, MOST_COMPONENTS, Tag, Ty, Value};
 
-/// The header of the element that begins there.
+/// The header of the element that begins at the offset; None without an offset, and where the octets have none there.
 fn header_there(octets: &[u8], at: Option<usize>) -> Option<Header>
     ensures { result ≡ header_there octets.now at }
 {
@@ -21,14 +21,14 @@ fn header_there(octets: &[u8], at: Option<usize>) -> Option<Header>
     header(octets, at).ok()
 }
 
-/// Where the contents of the element begin.
+/// The offset of the contents of the element that begins at the offset `at`; None where none begins there.
 fn inside_element(octets: &[u8], at: Option<usize>) -> Option<usize>
     ensures { result ≡ inside_element octets.now at }
 {
     Some(header_there(octets, at)?.contents)
 }
 
-/// Where the element has ended.
+/// The offset after the element that begins at the offset `at`; None where none begins there.
 pub fn after_element(octets: &[u8], at: Option<usize>) -> Option<usize>
     ensures { result ≡ after_element octets.now at }
 {
@@ -45,7 +45,8 @@ fn inside_tags(octets: &[u8], tags: &[Tag], at: Option<usize>) -> Option<usize>
     inner
 }
 
-/// Where the contents of a value of the type begin, whose encoding begins there.
+/// The offset of the contents, inside all tags, of a value of the type whose encoding begins at the offset `at`; None
+/// where no element begins there.
 pub fn inside_value(octets: &[u8], ty: Option<&Ty>, at: Option<usize>) -> Option<usize>
     ensures { result ≡ inside_value octets.now (option_map (λ ty. type_view ty.now) ty.entry) at }
 {
@@ -57,8 +58,8 @@ pub fn inside_value(octets: &[u8], ty: Option<&Ty>, at: Option<usize>) -> Option
 
 // ---- components
 
-/// Where the encoding of the component with this value begins, `next` being where the SET's elements begin, or where
-/// what is sent before it in the SEQUENCE has ended.
+/// The offset of the encoding of the component at this place with this value; None where it isn't sent. `next` is the
+/// offset of a SET's first element, or, in a SEQUENCE, of what comes after the elements that are sent before it.
 pub fn component_place(
     octets: &[u8],
     ty: Option<&Ty>,
@@ -80,7 +81,7 @@ pub fn component_place(
     }
 }
 
-/// `next` for the component after one that begins there.
+/// The `next` of `component_place` for the component after one whose encoding begins at the offset `at`.
 pub fn next_place(
     octets: &[u8],
     ty: Option<&Ty>,
@@ -106,7 +107,7 @@ fn is_set(ty: Option<&Ty>) -> bool
     }
 }
 
-/// The first element with this tag, of so many from there on.
+/// The offset of the first element with this tag, of so many elements from an offset on; None where there is none.
 #[tactic(auto, using(crate::proofs::Tries::one_more_try))]
 fn element_with(octets: &[u8], tag: Tag, tries: usize, from: Option<usize>) -> Option<usize>
     ensures { result ≡ element_with octets.now tag tries from }

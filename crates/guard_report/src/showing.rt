@@ -22,13 +22,14 @@ use std::alloc::Global;
 /// A message as it is shown, without a line feed at the end.
 #[derive(Debug, Drop)]
 pub enum Shown {
-    /// The octets encode a value: it, each part on a line with the offset of its encoding.
+    /// The octets encode a value: the text of the value, each part on a line with the offset of its encoding.
     Value(Vec<u8>),
-    /// They encode none: the octets up to the breach, and the breach.
+    /// The octets encode no value: the text of the octets up to the breach, and of the breach.
     Undecodable(Vec<u8>),
 }
 
-/// The octets as a value of the type, or up to their breach. It fails only where memory runs out.
+/// The octets as a value of the type, or up to their breach. Condition: the type is sound. OutOfMemory is the only
+/// error.
 pub fn shown_text(alloc: Global, ty: &Ty, octets: &[u8]) -> Result<Shown, OutOfMemory>
     requires { IsTrue (is_sound (type_view ty.now)) }
     // Where they encode a value of the type it is shown,
@@ -82,7 +83,7 @@ fn breach_shown(
     Ok(text)
 }
 
-/// In hexadecimal, 32 octets on a line.
+/// Appends the octets in hexadecimal, 32 on a line.
 fn add_digit_lines(text: &mut Vec<u8>, octets: &[u8]) -> Result<(), OutOfMemory>
     ensures { OnOk result (text.new.items ≡ text.old.items ++ digit_lines 0 octets.now) }
 {

@@ -24,7 +24,7 @@ pub(crate) fn add_hexadecimal(text: &mut Vec<u8>, octets: &[u8]) -> Result<(), O
     add(text, b"'H")
 }
 
-/// Two hexadecimal digits.
+/// The two hexadecimal digits of an octet.
 pub(crate) fn digits_of(octet: u8) -> [u8; 2]
     ensures { result ≡ two_digits octet }
 {
@@ -76,7 +76,7 @@ fn bits_of(alloc: Global, bits: &Bits) -> Result<Vec<u8>, OutOfMemory>
     Ok(list)
 }
 
-/// The first bit is the highest.
+/// The bits of an octet, each as 0 or 1, the highest first.
 fn eight_bits(octet: u8) -> [u8; 8]
     ensures { result ≡ eight_bits octet }
 {
@@ -105,7 +105,7 @@ fn add_binary(text: &mut Vec<u8>, bits: &[u8]) -> Result<(), OutOfMemory>
 
 // ---- named bits
 
-/// The first name of this number.
+/// The first name of this number; None where none has it.
 pub(crate) fn name_of(names: &[Named], number: i128) -> Option<&str>
     ensures { option_map (λ name. name.now) result ≡ name_of (map named_view names.now) number }
 {
@@ -117,7 +117,7 @@ pub(crate) fn name_of(names: &[Named], number: i128) -> Option<&str>
     None
 }
 
-/// Each bit that is one has a name.
+/// Whether each bit that is one has a name.
 fn are_named(names: &[Named], bits: &[u8]) -> bool
     ensures { result ≡ are_named (map named_view names.now) 0 bits.now }
 {

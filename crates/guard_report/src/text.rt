@@ -15,7 +15,9 @@ use guard_model::{OutOfMemory, Site};
 use guard_policy::{Policy, Route, Verdict};
 use std::alloc::Global;
 
-/// The text of a verdict on a message of the route. It fails only where memory runs out.
+/// The text of a verdict on a message of the route, without a line feed: `pass`, or why the message stays, with the
+/// names that the policy has for rules, modules and components. Where the policy has no such name, the number stands in
+/// its place. OutOfMemory is the only error.
 pub fn verdict_text(
     alloc: Global,
     verdict: &Verdict,
@@ -79,7 +81,7 @@ fn add_breach(
     add_path(text, policy.declared(route.message), &breach.path)
 }
 
-/// Each rule with its first violation, separated by commas.
+/// Appends each rule with its first violation, separated by commas.
 fn add_shortfalls(
     text: &mut Vec<u8>,
     shortfalls: &[(usize, Violation)],

@@ -20,7 +20,7 @@ use guard_model::{CharKind, Kind, Named, OutOfMemory, Ty, Value};
 use itoa::Buffer;
 use std::alloc::Global;
 
-/// Appends the value, whose type may be known.
+/// Appends the value in ASN.1 value notation, with the names that its type has, where one is known.
 #[cycle(values)]
 pub(crate) fn add_value(
     alloc: Global,
@@ -115,6 +115,7 @@ fn add_part(
     add_value(alloc, text, layout, part_type(ty, place), value)
 }
 
+/// Appends the name of the component or alternative at this place of the type, or its number where there is none.
 pub(crate) fn add_part_name(
     text: &mut Vec<u8>,
     ty: Option<&Ty>,
@@ -146,7 +147,7 @@ fn add_integer(text: &mut Vec<u8>, number: i128) -> Result<(), OutOfMemory>
     add(text, buffer.format(number).as_bytes())
 }
 
-/// An item by its name.
+/// Appends an item by its name, or its number where there is none.
 fn add_item(text: &mut Vec<u8>, items: &[Named], number: i128) -> Result<(), OutOfMemory>
     ensures { OnOk result (text.new.items
         ≡ text.old.items ++ item_text (name_of (map named_view items.now) number) number) }
@@ -182,7 +183,7 @@ fn add_arc(text: &mut Vec<u8>, arc: u128) -> Result<(), OutOfMemory>
 
 // ---- what the type knows
 
-/// The items of an ENUMERATED.
+/// The items of an ENUMERATED; none where no type is known, or of another one.
 fn items_known(ty: Option<&Ty>) -> &[Named]
     ensures { map named_view result.now ≡ items_known (option_map (λ ty. type_view ty.now) ty.entry) }
 {
@@ -193,7 +194,7 @@ fn items_known(ty: Option<&Ty>) -> &[Named]
     }
 }
 
-/// The named bits of a BIT STRING.
+/// The named bits of a BIT STRING; none where no type is known, or of another one.
 fn bits_known(ty: Option<&Ty>) -> &[Named]
     ensures { map named_view result.now ≡ bits_known (option_map (λ ty. type_view ty.now) ty.entry) }
 {
@@ -204,7 +205,7 @@ fn bits_known(ty: Option<&Ty>) -> &[Named]
     }
 }
 
-/// The kind of a character string.
+/// The kind of a character string; None where no type is known, or of another one.
 fn characters_known(ty: Option<&Ty>) -> Option<CharKind>
     ensures { result ≡ characters_known (option_map (λ ty. type_view ty.now) ty.entry) }
 {

@@ -14,7 +14,7 @@ MayFollowSign false digits = Unit {0}
 abbrev pub IsNumber : WrittenNumber → Type 0
 IsNumber n = MayFollowSign n.minus n.digits
 
--- there is no minus sign
+-- the number has no minus sign
 abbrev pub IsUnsigned : WrittenNumber → Type 0
 IsUnsigned n = n.minus ≡ false
 
@@ -24,7 +24,7 @@ abbrev pub AreEach : {A : Type 0} → (A → Type 0) → List A → Type 0
 AreEach Is [] = Unit {0}
 AreEach Is (a ∷ others) = Is a × AreEach Is others
 
--- there is at least one
+-- the list has at least one entry, and each is so
 abbrev pub AreSome : {A : Type 0} → (A → Type 0) → List A → Type 0
 AreSome Is [] = ⊥
 AreSome Is (a ∷ others) = Is a × AreEach Is others
@@ -33,7 +33,7 @@ abbrev pub IsPerhaps : {A : Type 0} → (A → Type 0) → Option A → Type 0
 IsPerhaps Is None = Unit {0}
 IsPerhaps Is (Some a) = Is a
 
--- where nothing more is asked
+-- what holds of everything, where nothing more is asked
 abbrev pub Any : {A : Type 0} → A → Type 0
 Any a = Unit {0}
 

@@ -42,7 +42,7 @@ spelling_of (bit_string s) = s
 spelling_of (hexadecimal_string s) = s
 spelling_of (unsupported s) = s
 
--- of a token of this kind that is spelled so
+-- the lexeme of a token of this kind that is spelled so
 abbrev pub lexeme_of : TokenKind → List ℕ → Lexeme
 lexeme_of (kind.Reserved r) s = word r
 lexeme_of (kind.Mark m) s = mark m

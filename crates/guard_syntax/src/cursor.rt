@@ -21,7 +21,7 @@ pub struct Cursor<'a, 't> {
 pub type Read<'a, 't, T> = Result<(T, Cursor<'a, 't>), ReadError>;
 
 impl<'a, 't> Cursor<'a, 't> {
-    /// How many tokens there are.
+    /// How many tokens are still to be read.
     pub fn len(self) -> usize
         ensures { result ≡ length (ahead self.entry) }
     {
@@ -37,7 +37,7 @@ impl<'a, 't> Cursor<'a, 't> {
         }
     }
 
-    /// After the first token.
+    /// The cursor after the first token; where there is none, the same cursor.
     pub fn behind(self) -> Cursor<'a, 't>
         ensures { ahead result ≡ reading.behind (ahead self.entry) }
     {
@@ -50,14 +50,14 @@ impl<'a, 't> Cursor<'a, 't> {
         }
     }
 
-    /// After a token that is there or not.
+    /// The cursor after the first token where it is said to be there, else the same cursor.
     pub fn behind_if(self, there: bool) -> Cursor<'a, 't>
         ensures { ahead result ≡ reading.behind_if there (ahead self.entry) }
     {
         if there { self.behind() } else { self }
     }
 
-    /// The site of the first token; where there is none, no place.
+    /// The site of the first token; where there is none, a site whose three numbers are 0.
     pub fn site(self) -> Site
         ensures { result ≡ reading.site_at (ahead self.entry) }
     {
@@ -71,14 +71,15 @@ impl<'a, 't> Cursor<'a, 't> {
         }
     }
 
-    /// Reading fails here.
+    /// The error that reading fails here, where no module goes on so.
     pub fn unexpected(self) -> ReadError
         ensures { failure_of result ≡ Some (Failure.Unexpected (length (ahead self.entry))) }
     {
         ReadError::At(Failure::Unexpected(self.len()))
     }
 
-    /// Reading fails here since a node would be too deep, where a token begins one.
+    /// The error that reading fails here: since a node would be too deep, where the first token begins one, else since
+    /// no module goes on so.
     pub fn too_deep(self, begins: bool) -> ReadError
         ensures deep { begins ≡ true → failure_of result ≡ Some (Failure.TooDeep (length (ahead self.entry))) }
         ensures other { begins ≡ false → failure_of result ≡ Some (Failure.Unexpected (length (ahead self.entry))) }
@@ -90,7 +91,8 @@ impl<'a, 't> Cursor<'a, 't> {
         }
     }
 
-    /// After one token of this kind.
+    /// The cursor after one token of this kind. Where the first token is of another kind, or there is none, the error
+    /// is that reading fails here.
     #[tactic(auto, unfolding(crate::specs::inside::ReadTokens::read_token))]
     pub fn after(self, kind: TokenKind) -> Result<Cursor<'a, 't>, ReadError>
         ensures { Gives ahead failure_of result (reading.read_token kind (ahead self.entry)) }
@@ -102,7 +104,9 @@ impl<'a, 't> Cursor<'a, 't> {
         }
     }
 
-    /// The spelling of one name, number or string.
+    /// The spelling of one token of this kind, and the cursor after it. Where the first token is of another kind, or
+    /// there is none, the error is that reading fails here. Condition: the kind is no reserved word that the grammar
+    /// uses, and no mark.
     #[tactic(auto, unfolding(crate::specs::inside::ReadTokens::read_spelling))]
     pub fn spelling(self, kind: TokenKind) -> Read<'a, 't, &'a [u8]>
         requires { HasSpelling kind }
@@ -115,7 +119,7 @@ impl<'a, 't> Cursor<'a, 't> {
     }
 }
 
-/// The octets of a token. A span that leaves the text is cut.
+/// The octets of a token in the text. A span that leaves the text is cut.
 pub fn octets<'a>(text: &'a [u8], token: &Token) -> &'a [u8]
     ensures { result.now ≡ octets_of text.now token.now }
 {

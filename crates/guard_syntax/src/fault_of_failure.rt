@@ -10,7 +10,7 @@ use crate::read_error::{Failure, ReadError};
 use guard_lexer::{Mark, Token, TokenKind, site_behind};
 use guard_model::Site;
 
-/// The fault for this error.
+/// The fault of a text with these tokens for an error of a reader, whose numbers of tokens left say where.
 pub fn fault(place: u32, text: &[u8], tokens: &[Token], error: ReadError) -> SyntaxFault
     ensures memory { error ≡ ReadError.OutOfMemory → result ≡ SyntaxFault.OutOfMemory }
     ensures named { NamesToken place text.now tokens.now result }
@@ -22,7 +22,7 @@ pub fn fault(place: u32, text: &[u8], tokens: &[Token], error: ReadError) -> Syn
     }
 }
 
-/// The last tokens, as many as are said.
+/// The last tokens of a list, as many as `left` says; all where it has fewer.
 fn last(tokens: &[Token], left: usize) -> &[Token]
     ensures { result.now ≡ drop (length tokens.now - left) tokens.now }
 {
@@ -54,7 +54,8 @@ fn unexpected(place: u32, text: &[u8], tokens: &[Token]) -> SyntaxFault
     }
 }
 
-/// The site after the last octet of a text, also where that octet is white space or part of a comment.
+/// The site after the last octet of a text, also where that octet is white space or part of a comment. `place` is the
+/// text's place in its list, from 1, which only the site shows. Of a text of 2^32-1 octets or more nothing is promised.
 pub fn end_of(place: u32, text: &[u8]) -> Site
     ensures { length text.now + 1 < 2 ^ 32 → result ≡ site_after place text.now }
 {

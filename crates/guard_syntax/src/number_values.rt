@@ -11,7 +11,7 @@ use guard_lexer::magnitude;
 const MOST_BELOW_ZERO: u128 = 170141183460469231731687303715884105728;
 
 impl NumberTree<'_> {
-    /// The integer that is written (X.680 clause 19), where it fits in signed 128 bits.
+    /// The integer that is written (X.680 clause 19); None where it is below -2^127 or above 2^127-1.
     pub fn integer(&self) -> Option<i128>
         ensures { result ≡ (if fits_128_bits (number_of (number_view self.now)) then Some
             (number_of (number_view self.now)) else None) }

@@ -16,11 +16,13 @@ use crate::tree::Module;
 use guard_lexer::Token;
 use std::alloc::Global;
 
-/// The tree of a module text that is cut into these tokens. Sites in a fault have `place` as the number of the text.
+/// The one tree that is written with the tokens of a module text (X.680 clause 13). `tokens` are meant to be those that
+/// `guard_lexer::tokens` answers for this `place` and `text`. No condition asks for that: other tokens are taken by
+/// their kinds and their spans, and a span that leaves the text is cut.
 ///
-/// The tree is the one that is written with the tokens. A text that has none is refused with P1 Unexpected, P2
-/// Unsupported or P3 TooDeep. The clauses say what such a fault may name; that reading goes from left to right, and so
-/// which of these it names, is shown by worked examples alone.
+/// Where no tree is written so, the fault is P1 Unexpected, P2 Unsupported or P3 TooDeep. Its site has `place` as the
+/// number of the text. The clauses say which tokens a fault may name; that it names the first one from the left is
+/// shown by worked examples alone. OutOfMemory may come in place of any answer.
 pub fn parse<'a>(
     alloc: Global,
     place: u32,

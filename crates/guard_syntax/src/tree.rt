@@ -15,7 +15,7 @@ pub struct Module<'a> {
     pub exports: Option<ExportsTree<'a>>,
     /// The imports, one for each module named after FROM. Where nothing is written the word IMPORTS isn't there.
     pub imports: Option<Vec<ImportTree<'a>>>,
-    /// In written order.
+    /// The assignments in written order.
     pub assignments: Vec<Assignment<'a>>,
 }
 
@@ -40,6 +40,7 @@ pub enum PartTree<'a> {
 pub struct ArcTree<'a> {
     pub site: Site,
     pub name: Option<&'a [u8]>,
+    /// The digits of the number.
     pub number: &'a [u8],
 }
 
@@ -69,11 +70,11 @@ pub enum SymbolKind {
     Value,
 }
 
-/// The names that are imported from one module (X.680 13.1). Its site is that of the first name.
+/// The names that are imported from one module (X.680 13.1), with the site of the first name.
 #[derive(Drop)]
 pub struct ImportTree<'a> {
     pub site: Site,
-    /// In written order.
+    /// The names in written order, at least one.
     pub symbols: Vec<SymbolTree<'a>>,
     /// The module named after FROM.
     pub module: NameTree<'a>,
@@ -104,20 +105,23 @@ pub struct Assignment<'a> {
 #[cycle(trees)]
 pub struct TypeTree<'a> {
     pub site: Site,
-    /// In written order, from the outside in.
+    /// The tags in written order, from the outside in.
     pub tags: Vec<TagTree<'a>>,
     pub base: BaseTree<'a>,
-    /// The constraints after it, in written order. An OF type has none: those belong to the type of its elements.
+    /// The constraints after the type, in written order. An OF type has none: what is written there constrains the type
+    /// of its elements.
     pub cons: Vec<ConsTree<'a>>,
 }
 
-/// A tag (X.680 31.2). Its site is that of the bracket.
+/// A tag (X.680 31.2), with the site of its bracket.
 #[derive(Clone, Copy)]
 pub struct TagTree<'a> {
     pub site: Site,
     /// The word before the number. Where nothing is written the tag is context-specific.
     pub class: Option<TagClass>,
+    /// The digits of the number.
     pub number: &'a [u8],
+    /// The word after the tag, where one is written.
     pub mode: Option<TagMode>,
 }
 
@@ -179,11 +183,11 @@ pub enum Collection {
     Set,
 }
 
-/// The constraint before OF. Its site is that of its first token, which is SIZE where that word is written.
+/// The constraint before OF, with the site of its first token, which is SIZE where that word is written.
 #[derive(Drop)]
 pub struct OfConsTree<'a> {
     pub site: Site,
-    /// Whether it is written as SIZE and a constraint without parentheses of their own round both.
+    /// Whether the word SIZE and a constraint are written, without parentheses round both.
     pub size: bool,
     pub cons: Box<ConsTree<'a>>,
 }
@@ -240,7 +244,7 @@ pub struct AlternativeTree<'a> {
     pub ty: Box<TypeTree<'a>>,
 }
 
-/// A constraint: a set of values in parentheses (X.680 49.6). Its site is that of the parenthesis.
+/// A constraint: a set of values in parentheses (X.680 49.6), with the site of the parenthesis.
 #[derive(Drop)]
 #[cycle(sets)]
 pub struct ConsTree<'a> {
@@ -248,7 +252,8 @@ pub struct ConsTree<'a> {
     pub set: Box<SetTree<'a>>,
 }
 
-/// A set of values (X.680 50.1). Its site is that of its first token, a parenthesis that it begins with among them.
+/// A set of values (X.680 50.1), with the site of its first token. Where that is a parenthesis, the site is that of the
+/// parenthesis.
 #[derive(Drop)]
 #[cycle(sets)]
 pub struct SetTree<'a> {
@@ -262,7 +267,7 @@ pub struct SetTree<'a> {
 pub enum SetForm<'a> {
     /// ALL EXCEPT this element.
     AllExcept(ElementTree<'a>),
-    /// The first intersection and those joined to it. Where nothing is joined it is the intersection alone.
+    /// A union of intersections: the first one and those joined to it, none where the set is that intersection alone.
     Union(Box<IntersectionTree<'a>>, Vec<JoinedIntersection<'a>>),
 }
 
@@ -274,8 +279,8 @@ pub struct JoinedIntersection<'a> {
     pub part: IntersectionTree<'a>,
 }
 
-/// An intersection (X.680 50.1): the first difference and those joined to it. Where nothing is joined it is the
-/// difference alone. Its site is that of the first difference.
+/// An intersection of differences (X.680 50.1): the first one and those joined to it, none where the intersection is
+/// that difference alone. An intersection begins where its first difference does.
 #[derive(Drop)]
 #[cycle(sets)]
 pub struct IntersectionTree<'a> {
@@ -300,7 +305,7 @@ pub enum JoinMark {
     Word,
 }
 
-/// An element, perhaps EXCEPT another one (X.680 50.1). Its site is that of the first of them.
+/// An element, perhaps EXCEPT another one (X.680 50.1). A difference begins where its first element does.
 #[derive(Drop)]
 #[cycle(sets)]
 pub struct DifferenceTree<'a> {
@@ -308,7 +313,7 @@ pub struct DifferenceTree<'a> {
     pub except: Option<Box<ElementTree<'a>>>,
 }
 
-/// An element of a set (X.680 50.1, 51.1). Its site is that of its first token.
+/// An element of a set (X.680 50.1, 51.1), with the site of its first token.
 #[derive(Drop)]
 #[cycle(sets)]
 pub struct ElementTree<'a> {
@@ -326,15 +331,15 @@ pub enum ElementForm<'a> {
     Value(ValueTree<'a>),
     /// A contained subtype: whether INCLUDES is written, and the name of the type (X.680 51.3).
     Contained(bool, NameTree<'a>),
-    /// X.680 51.4.
+    /// A range of values (X.680 51.4).
     Range(Box<RangeTree<'a>>),
-    /// X.680 51.5.
+    /// SIZE with the constraint on the size (X.680 51.5).
     Size(Box<ConsTree<'a>>),
-    /// A permitted alphabet (X.680 51.7).
+    /// FROM with the constraint that names the characters, a permitted alphabet (X.680 51.7).
     From(Box<ConsTree<'a>>),
-    /// An inner constraint on each element (X.680 51.8.1).
+    /// WITH COMPONENT with the constraint on each element (X.680 51.8.1).
     WithComponent(Box<ConsTree<'a>>),
-    /// Inner constraints on components: whether `...` is written first, and the parts, at least one (X.680 51.8.1).
+    /// WITH COMPONENTS: whether `...` is written first, and the parts in written order, at least one (X.680 51.8.1).
     WithComponents(bool, Vec<ComponentConsTree<'a>>),
 }
 
@@ -359,13 +364,13 @@ pub enum PresenceWord {
 /// A range of values (X.680 51.4).
 #[derive(Clone, Copy)]
 pub struct RangeTree<'a> {
-    /// Where there is none, MIN is written.
+    /// The low end; None where MIN is written.
     pub low: Option<EndTree<'a>>,
     /// Whether `<` is written after the low end, which leaves that end out.
     pub above_low: bool,
     /// Whether `<` is written before the high end, which leaves that end out.
     pub below_high: bool,
-    /// Where there is none, MAX is written.
+    /// The high end; None where MAX is written.
     pub high: Option<EndTree<'a>>,
 }
 
@@ -440,5 +445,6 @@ pub struct NumberTree<'a> {
     pub site: Site,
     /// Whether a minus sign is written before the digits.
     pub minus: bool,
+    /// Decimal digits, which write a number from 0 to 2^128-1.
     pub digits: &'a [u8],
 }

@@ -132,7 +132,7 @@ fn inner_type<'a, 't>(
     Ok((Box::new(alloc, tree)?, rest))
 }
 
-/// Whether constraints after it belong to the type of its elements.
+/// Whether a type without tags is an OF type. Constraints after it belong to the type of its elements.
 fn is_of(base: &BaseTree) -> bool
     ensures { result ≡ reading.is_of (base_view base.now) }
 {

@@ -6,7 +6,8 @@ use Rattle.guard_model.specs.AbstractType as type
 use Rattle.guard_model.specs.AbstractType.{AbstractType, AbstractKind, Components, type_of, no_components, component}
 
 abbrev mutual
-  -- its outermost tag; of an untagged CHOICE those of all alternatives (X.680 8.1, 29.3)
+  -- whether an encoding of the type may begin with the tag: the type's outermost tag does, and of an untagged CHOICE
+  -- the first tags of all alternatives (X.680 8.1, 29.3)
   pub begins_with : AbstractType → Tag → Bool
   begins_with (type_of (t ∷ ts) kind cons) tag = same_tag t tag
   begins_with (type_of [] kind cons) tag = alternative_begins_with kind tag

@@ -70,7 +70,7 @@ parts_keep_limits kind = every_part is_formed kind
 abbrev pub components_keep_limits : Components → Bool
 components_keep_limits cs = every_component is_formed cs
 
--- ---- the same with a bound on the nesting
+-- ---- limits with a bound on the nesting
 
 abbrev pub type_within : AbstractType → ℕ → Bool
 type_within t depth = keeps_limits t && nat_le (nesting t) depth

@@ -14,9 +14,11 @@ use crate::noting::least_pair;
 use guard_model::{Comp, Kind, OutOfMemory, Path, Step, Ty};
 use std::alloc::Global;
 
-/// The first clash of the type, or None where all tags differ that must: what `check` says too, found with memory. At
-/// each SEQUENCE, SET and CHOICE it looks up the first tags of the components in a map, each of n once, so that it
-/// takes n log n steps, where `check` compares each two of them. It fails only where memory runs out.
+/// The first clash of the type (X.680 25.6, 27.3, 29.3), or None where all tags differ that must: the clash that
+/// `check` names, found with memory. For n first tags of the components of a SEQUENCE, SET or CHOICE this takes n log n
+/// steps, since each is looked up once in a map, where `check` compares each two of them.
+///
+/// Condition: the type keeps the limits of `is_within_limits`. OutOfMemory is the only error.
 pub fn find_clash(alloc: Global, ty: &Ty) -> Result<Option<Clash>, OutOfMemory>
     requires { IsTrue (is_within_limits (type_view ty.now)) }
     // Where it finds none, all differ.

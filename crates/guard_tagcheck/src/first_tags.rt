@@ -7,8 +7,8 @@ ghost use Rattle.guard_tagcheck.specs.Search.{share_tag, one_shares_tag};
 
 use guard_model::{Comp, Kind, Tag, Ty};
 
-/// Whether an encoding of either type may begin with the same tag. It takes as many steps as there are pairs of a first
-/// tag of the one type and a first tag of the other, and no memory.
+/// Whether an encoding of either type may begin with the same tag. This takes as many steps as there are pairs of a
+/// first tag of the one type and a first tag of the other, and no memory.
 #[cycle(sharing)]
 pub(crate) fn share_tag(a: &Ty, b: &Ty) -> bool
     ensures { result ≡ share_tag (type_view a.now) (type_view b.now) }
@@ -34,7 +34,8 @@ fn one_shares_tag(alternatives: &[Comp], b: &Ty) -> bool
     false
 }
 
-/// Whether an encoding of the type may begin with this tag. An untagged CHOICE has the tags of all its alternatives.
+/// Whether an encoding of the type may begin with this tag: its outermost one, or, of a CHOICE without a tag, a first
+/// tag of one of the alternatives (X.680 29.3).
 #[cycle(beginning)]
 pub fn begins_with(ty: &Ty, tag: Tag) -> bool
     ensures { result ≡ begins_with (type_view ty.now) tag }
@@ -48,7 +49,7 @@ pub fn begins_with(ty: &Ty, tag: Tag) -> bool
     }
 }
 
-/// Whether an encoding of one of the alternatives may begin with this tag.
+/// Whether an encoding of one of these components or alternatives may begin with this tag; false where there are none.
 #[cycle(beginning)]
 pub fn one_begins_with(alternatives: &[Comp], tag: Tag) -> bool
     ensures { result ≡ one_begins_with (components_of (map component_view alternatives.now)) tag }

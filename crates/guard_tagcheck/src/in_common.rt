@@ -19,8 +19,8 @@ pub struct InCommon {
 }
 
 /// What the components at the places of a clash share: their names, and the first tag with which an encoding of the
-/// earlier one may begin and one of the later one as well. None where the type has no clash there. It fails only where
-/// memory runs out.
+/// earlier one may begin and one of the later one as well. None where the clash's path or places lead to nothing in
+/// this type, and where the two share no tag. OutOfMemory is the only error.
 pub fn common_to(ty: &Ty, clash: &Clash) -> Result<Option<InCommon>, OutOfMemory>
     ensures { IfOk result (λ found. option_map common_view found
         ≡ in_common (type_view ty.now) (clash_view clash.now)) }
@@ -50,7 +50,7 @@ fn common_in(whole: &Ty, first: u8, second: u8) -> Result<Option<InCommon>, OutO
     }))
 }
 
-/// The type inside to which the path leads.
+/// The type inside to which the path leads; None where it leads to nothing.
 fn type_at<'t>(ty: &'t Ty, path: &[Step]) -> Option<&'t Ty>
     ensures { option_map (λ t. type_view t.now) result ≡ type_at path.now (type_view ty.now) }
 {
@@ -71,7 +71,8 @@ fn part_at(kind: &Kind, step: Step) -> Option<&Ty>
     }
 }
 
-/// The first tag with which the one type may begin and the other as well.
+/// The first tag with which an encoding of the one type may begin and one of the other as well; None where they share
+/// none.
 #[cycle(shared_tags)]
 fn shared_tag(a: &Ty, b: &Ty) -> Option<Tag>
     ensures { result ≡ shared_tag (type_view a.now) (type_view b.now) }

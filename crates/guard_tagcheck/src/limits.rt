@@ -7,8 +7,8 @@ ghost use Rattle.guard_tagcheck.specs.Limits.{is_within_limits, is_tagged, kind_
 
 use guard_model::{Comp, DEEPEST_NESTING, Kind, MOST_COMPONENTS, Tag, Ty};
 
-/// Whether each type inside has a tag unless it is a CHOICE, no list of components or alternatives has more than 64,
-/// and the type is nested 32 deep at most: a type takes a level for each of its tags, a CHOICE one more.
+/// Whether the type and each type inside has a tag unless it is a CHOICE, no list of components or alternatives has
+/// more than 64, and the type is nested 32 deep at most: a type takes a level for each of its tags, a CHOICE one more.
 pub fn is_within_limits(ty: &Ty) -> bool
     ensures { result ≡ is_within_limits (type_view ty.now) }
 {
@@ -26,7 +26,7 @@ fn is_within(ty: &Ty, depth: usize) -> bool
     is_kind_within(&ty.kind, depth - levels)
 }
 
-/// Only a CHOICE may have no tag.
+/// Whether there is a tag, or the kind is a CHOICE, which alone may have none.
 fn is_tagged(tags: &[Tag], kind: &Kind) -> bool
     ensures { result ≡ is_tagged tags.now (kind_view kind.now) }
 {

@@ -12,8 +12,9 @@ use guard_model::{Comp, Kind, OutOfMemory, Tag, Ty};
 use std::alloc::Global;
 use std::collections::BTreeMap;
 
-/// The least pair of positions whose components must differ in their tags and share one. It looks up each first tag
-/// once, in a map of those before it. After a mandatory component of a SEQUENCE none of those before it counts.
+/// The least pair of positions whose components must differ in their tags and share one; None where there is none. Each
+/// first tag is looked up once, in a map of those before it. After a mandatory component of a SEQUENCE none of those
+/// before it counts. Condition: there are at most 64 components. OutOfMemory is the only error.
 pub(crate) fn least_pair(
     alloc: Global,
     comps: &[Comp],

@@ -15,22 +15,24 @@ use crate::clash::Clash;
 use crate::first_tags::share_tag;
 use guard_model::{Comp, Kind, Path, Presence, Step, Ty};
 
-/// Whether the tags distinguish components and alternatives, in the type and in each type inside it. All of a SET
-/// (X.680 27.3) and of a CHOICE (29.3) must differ in theirs. In a SEQUENCE (25.6) a component that may be left out
-/// must differ from those that may then come next, of which the first mandatory one is the last. A CHOICE without a tag
-/// counts with those of its alternatives. Types inside constraints and defaults don't count.
+/// Whether the tags distinguish components and alternatives, in the type and in each type inside it. All components of
+/// a SET (X.680 27.3) and all alternatives of a CHOICE (29.3) must differ in their tags. In a SEQUENCE (25.6) a
+/// component that may be left out must differ from those that may then come next, of which the first mandatory one is
+/// the last. A CHOICE without a tag counts with the tags of its alternatives. Types inside constraints and defaults
+/// don't count.
 ///
-/// Where two share a tag, it names the first such pair: a type comes before its parts, parts come as they are written,
-/// and in one type the least pair of positions counts.
+/// The error is the first pair that must differ and shares a tag: a type comes before its parts, parts come as they are
+/// written, and in one type the least pair of positions counts. Condition: the type keeps the limits of
+/// `is_within_limits`, so each type but a CHOICE has a tag, lists have at most 64 entries, and nesting is at most 32.
 pub fn check(ty: &Ty) -> Result<(), Clash>
     requires { IsTrue (is_within_limits (type_view ty.now)) }
-    // Ok says that they all differ.
+    // Ok says that all tags differ that must.
     ensures distinct { IfOk result (λ x. Distinct (type_view ty.now)) }
-    // Where they all differ it is Ok.
+    // Where all tags differ that must, the answer is Ok.
     ensures accepted { Distinct (type_view ty.now) → IsOk result }
-    // A clash that it returns is the type's.
+    // A clash that is answered is the type's.
     ensures clash { IfErr result (λ c. IsClash (type_view ty.now) (clash_view c)) }
-    // It returns the type's clash.
+    // Where the type has a clash, it is answered.
     ensures only { (c : AbstractClash) → IsClash (type_view ty.now) c →
         Gives (λ x. x) (λ e. Some (clash_view e)) result (Err c) }
 {
@@ -98,7 +100,7 @@ fn clash_inside(comps: &[Comp]) -> Option<Clash>
     None
 }
 
-/// The least pair of positions whose components must differ in their tags and share one.
+/// The least pair of positions whose components must differ in their tags and share one; None where there is none.
 fn first_pair(comps: &[Comp], in_sequence: bool) -> Option<(u8, u8)>
     requires { length comps.now ≤ most_components }
     ensures { result ≡ first_pair in_sequence 0 (components_of (map component_view comps.now)) }

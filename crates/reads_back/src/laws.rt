@@ -33,8 +33,8 @@ pub fn law_one_value_of_text()
         → IsReadAs meaning t text v → IsReadAs meaning t text w → v ≡ w }
 {}
 
-/// What is shown of a value reads back as that value too, whichever octets its places are taken from: the places stand
-/// in comments.
+/// What is shown of a value reads back as that value too, whichever octets the places are taken from, since the places
+/// stand in comments.
 pub fn law_shown_reads_back()
     ensures { (meaning : Meaning) (t : AbstractType) (octets : List ℕ) (v : AbstractValue)
         → IsTrue (is_sound t) → HasNames t → IsTrue (fits t v) → IsTrue (is_seen v) → IsTrue (is_short (der t v))

@@ -13,7 +13,9 @@ use crate::tags::{follows, one_with};
 use guard_model::{Comp, Path, Step, Tag, Value, set_field};
 use std::alloc::Global;
 
-/// The place of the component with this tag, which comes after those that were read and was not there among them.
+/// The place, from 0, of the component of a SET to which an element with this tag belongs. UnexpectedTag where it is of
+/// none, or of one that was read already; SetOrder where its tag isn't above `before`, the tag of the element before
+/// it. Condition: there are at most 64 components and as many fields.
 pub fn place_of(
     path: &mut Path,
     comps: &[Comp],
@@ -40,7 +42,9 @@ pub fn place_of(
     Ok(place)
 }
 
-/// The components that were not sent: absent, or their default.
+/// The fields of a SET whose elements were all read: a component that wasn't sent is absent or has its default.
+/// MissingComponent at the offset `at` where a mandatory one wasn't. Condition: there are at most 64 components and as
+/// many fields.
 pub fn completed(
     alloc: Global,
     path: &mut Path,

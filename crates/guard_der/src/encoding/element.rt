@@ -12,14 +12,14 @@ use crate::encoding::octets::{push_base_128, push_unsigned};
 use guard_model::{Class, OutOfMemory, Tag};
 use std::alloc::Global;
 
-/// A length has at most four octets.
+/// The first length that needs more than four octets.
 const LENGTHS: usize = 1 << 32;
 
-/// More than an identifier and a length together have.
+/// More octets than an identifier and a length together have.
 const HEADER: usize = 12;
 
 /// The contents in their tags, each but the last a wrapper, the outermost first (X.690 8.14). Without a tag nothing is
-/// added.
+/// added. TooLong exactly where a length needs more than four octets; OutOfMemory where a growth is refused.
 pub fn tagged(
     alloc: Global,
     tags: &[Tag],

@@ -7,7 +7,8 @@ ghost use Rattle.guard_der.specs.Der.{outermost, outermost_alternative};
 
 use guard_model::{Class, Comp, Kind, Tag, Ty, Value};
 
-/// The outermost tag of a value's encoding; of an untagged CHOICE that of the chosen alternative.
+/// The outermost tag of a value's encoding; of an untagged CHOICE that of the chosen alternative (X.690 8.13). Where
+/// the type has no tag and the value is none of a CHOICE, the answer is the tag [UNIVERSAL 0], which no encoding has.
 #[cycle(outermost)]
 pub fn outermost(ty: &Ty, value: &Value) -> Tag
     ensures { result ≡ outermost (type_view ty.now) (value_view value.now) }
@@ -34,7 +35,7 @@ fn outermost_alternative(alternatives: &[Comp], at: usize, value: &Value) -> Tag
     outermost(&alternatives[at].ty, value)
 }
 
-/// Given where there is no encoding.
+/// The tag [UNIVERSAL 0], which is answered where there is no encoding.
 fn no_tag() -> Tag
     ensures { result ≡ record { class = Universal; number = 0 } }
 {

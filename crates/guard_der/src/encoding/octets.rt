@@ -8,11 +8,11 @@ use guard_model::OutOfMemory;
 /// How a digit is written in its octet.
 #[derive(Clone, Copy)]
 enum Form {
-    /// As it is.
+    /// The digit as it is.
     Plain,
-    /// With bit 8 set: a digit follows it.
+    /// The digit with bit 8 set, which says that another one follows.
     Marked,
-    /// With each bit turned over.
+    /// The digit with each bit turned over.
     Turned,
 }
 

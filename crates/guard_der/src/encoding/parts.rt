@@ -14,7 +14,7 @@ pub struct EncodedPart {
     pub octets: Vec<u8>,
 }
 
-/// In ascending order of tags (X.690 10.3).
+/// The parts of a SET in ascending order of tags (X.690 10.3). OutOfMemory is the only error.
 pub fn ascending(
     alloc: Global,
     mut parts: Vec<EncodedPart>,
@@ -42,7 +42,7 @@ fn place_among(tag: &Tag, parts: &[EncodedPart]) -> usize
     parts.len()
 }
 
-/// One after the other.
+/// The octets of the parts, one after the other. OutOfMemory is the only error.
 pub fn joined(alloc: Global, parts: &[EncodedPart]) -> Result<Vec<u8>, OutOfMemory>
     ensures { IfOk result (λ v. v.items ≡ parts_joined (parts_view parts.now)) }
 {

@@ -10,7 +10,7 @@ use crate::encoding::octets::{push_base_128, push_signed};
 use guard_model::{Bits, CharKind, OutOfMemory};
 use std::alloc::Global;
 
-/// FALSE is 00, TRUE is FF (X.690 8.2, 11.1).
+/// The contents octet of a BOOLEAN: FALSE is 00, TRUE is FF (X.690 8.2, 11.1).
 pub fn boolean(alloc: Global, truth: bool) -> Result<Vec<u8>, OutOfMemory>
     ensures { IfOk result (λ v. v.items ≡ boolean_octet truth ∷ []) }
 {
@@ -19,7 +19,7 @@ pub fn boolean(alloc: Global, truth: bool) -> Result<Vec<u8>, OutOfMemory>
     Ok(out)
 }
 
-/// The shortest two's complement (X.690 8.3, 8.4).
+/// The contents octets of an INTEGER or ENUMERATED: the shortest two's complement (X.690 8.3, 8.4).
 pub fn integer(alloc: Global, number: i128) -> Result<Vec<u8>, OutOfMemory>
     ensures { IfOk result (λ v. v.items ≡ signed_octets number) }
 {
@@ -28,7 +28,7 @@ pub fn integer(alloc: Global, number: i128) -> Result<Vec<u8>, OutOfMemory>
     Ok(out)
 }
 
-/// The count of unused bits, then the octets (X.690 8.6).
+/// The contents octets of a BIT STRING: the count of unused bits, then the octets (X.690 8.6).
 pub fn bit_string(alloc: Global, bits: &Bits) -> Result<Vec<u8>, OutOfMemory>
     ensures { IfOk result (λ v. v.items ≡ bits.now.unused ∷ arc_slice_items bits.now.octets) }
 {
@@ -38,7 +38,9 @@ pub fn bit_string(alloc: Global, bits: &Bits) -> Result<Vec<u8>, OutOfMemory>
     Ok(out)
 }
 
-/// A subidentifier for the first two arcs, then one for each further arc (X.690 8.19).
+/// The contents octets of an OBJECT IDENTIFIER: a subidentifier for the first two arcs, then one for each further arc
+/// (X.690 8.19). Condition: there are two arcs at least, the first at most 2, the second at most 39 under 0 and 1, and
+/// no subidentifier above 2^128-1.
 pub fn object_identifier(alloc: Global, arcs: &[u128]) -> Result<Vec<u8>, OutOfMemory>
     requires { IsTrue (fits_arcs arcs.now) }
     ensures { IfOk result (λ v. v.items ≡ arcs_octets arcs.now) }
@@ -53,8 +55,9 @@ pub fn object_identifier(alloc: Global, arcs: &[u128]) -> Result<Vec<u8>, OutOfM
     Ok(out)
 }
 
-/// UTF-8 for UTF8String (X.690 8.23.10), else one octet a character (8.23.5). Each character of the other kinds has one
-/// octet in UTF-8 too.
+/// The contents octets of a character string: UTF-8 for UTF8String (X.690 8.23.10), else one octet a character
+/// (8.23.5). Each character of the other kinds has one octet in UTF-8 too. Condition: each character is in the kind's
+/// alphabet.
 pub fn characters(alloc: Global, kind: CharKind, text: &str) -> Result<Vec<u8>, OutOfMemory>
     requires { IsTrue (fits_characters kind (chars text.now)) }
     ensures { IfOk result (λ v. v.items ≡ character_octets kind (chars text.now)) }

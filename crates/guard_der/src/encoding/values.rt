@@ -19,7 +19,8 @@ use crate::presence::is_left_out;
 use guard_model::{Comp, Kind, Presence, Ty, Value};
 use std::alloc::Global;
 
-/// TooLong where a length in it would need more than four octets.
+/// The encoding of a value, however long. TooLong where a length in it would need more than four octets. Condition: the
+/// value fits the type, constraints aside.
 #[cycle(encoding)]
 pub fn encoding(alloc: Global, ty: &Ty, value: &Value) -> Result<Vec<u8>, EncodeFault>
     requires { IsTrue (fits (type_view ty.now) (value_view value.now)) }
@@ -29,7 +30,8 @@ pub fn encoding(alloc: Global, ty: &Ty, value: &Value) -> Result<Vec<u8>, Encode
     tagged(alloc, &ty.tags, is_constructed(&ty.kind), inside)
 }
 
-/// The contents octets alone.
+/// The contents octets of a value. TooLong where a length in them would need more than four octets. Condition: the
+/// value fits the kind, constraints aside.
 #[cycle(encoding)]
 pub fn contents(alloc: Global, kind: &Kind, value: &Value) -> Result<Vec<u8>, EncodeFault>
     requires { IsTrue (fits_kind (kind_view kind.now) (value_view value.now)) }
@@ -56,7 +58,7 @@ pub fn contents(alloc: Global, kind: &Kind, value: &Value) -> Result<Vec<u8>, En
     }
 }
 
-/// In written order (X.690 8.9.2).
+/// The contents octets of a SEQUENCE: what is sent of the components, in written order (X.690 8.9.2).
 #[cycle(encoding)]
 fn sequence(alloc: Global, comps: &[Comp], fields: &[Option<Value>]) -> Result<Vec<u8>, EncodeFault>
     requires { IsTrue (fits_fields (components_of (map component_view comps.now)) (fields_view fields.now)) }
@@ -67,7 +69,7 @@ fn sequence(alloc: Global, comps: &[Comp], fields: &[Option<Value>]) -> Result<V
     Ok(joined(alloc, &parts)?)
 }
 
-/// In ascending order of tags (X.690 10.3).
+/// The contents octets of a SET: what is sent of the components, in ascending order of tags (X.690 10.3).
 #[cycle(encoding)]
 fn set(alloc: Global, comps: &[Comp], fields: &[Option<Value>]) -> Result<Vec<u8>, EncodeFault>
     requires { IsTrue (fits_fields (components_of (map component_view comps.now)) (fields_view fields.now)) }

@@ -11,7 +11,8 @@ use crate::order::descends;
 use guard_model::{OutOfMemory, Ty, Value};
 use std::alloc::Global;
 
-/// The encodings exist, and none descends to the next (X.690 11.6).
+/// Whether all elements of a SET OF have encodings, and none descends to the next (X.690 11.6). Condition: each element
+/// fits the type. OutOfMemory is the only error.
 pub fn are_ascending(alloc: Global, ty: &Ty, items: &[Value]) -> Result<bool, OutOfMemory>
     requires { IsTrue (every_fits (fits (type_view ty.now)) (items_view items.now)) }
     ensures { IfOk result (λ b. b ≡ are_ascending (item_encodings (der (type_view ty.now)) (items_view items.now))) }
@@ -29,7 +30,7 @@ pub fn are_ascending(alloc: Global, ty: &Ty, items: &[Value]) -> Result<bool, Ou
     Ok(true)
 }
 
-/// The value's encoding where there is one.
+/// The value's encoding; None where a length in it would need more than four octets.
 fn encoding_of(alloc: Global, ty: &Ty, value: &Value) -> Result<Option<Vec<u8>>, OutOfMemory>
     requires { IsTrue (fits (type_view ty.now) (value_view value.now)) }
     ensures { IfOk result (λ octets. option_map (λ v. v.items) octets ≡ der (type_view ty.now) (value_view value.now)) }

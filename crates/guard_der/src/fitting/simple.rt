@@ -8,14 +8,14 @@ ghost use Rattle.guard_model.specs.Limits.{fits_128_bits};
 use crate::bits::{ends_as_named, has_proper_end, has_zero_end};
 use guard_model::{Bits, Named};
 
-/// An INTEGER and an ENUMERATED lie within signed 128 bits, as each number of this type does.
+/// Whether an INTEGER or ENUMERATED may have the number: true, since each `i128` lies within signed 128 bits.
 pub fn is_in_range(number: i128) -> bool
     ensures { result ≡ fits_128_bits number }
 {
     number >= i128::MIN
 }
 
-/// Each is below 256.
+/// Whether each octet is below 256: true of octets.
 pub fn are_octets(octets: &[u8]) -> bool
     ensures { result ≡ all_below 256 octets.now }
 {
@@ -23,8 +23,8 @@ pub fn are_octets(octets: &[u8]) -> bool
     true
 }
 
-/// At most seven bits are unused, none where there are no octets (X.690 8.6.2); the unused bits are zero (11.2.1).
-/// Where bits are named, the last one isn't (11.2.2).
+/// Whether a BIT STRING may have these bits: at most seven are unused, none where there are no octets (X.690 8.6.2);
+/// the unused bits are zero (11.2.1); where bits are named, the last one isn't (11.2.2).
 pub fn bits_fit(names: &[Named], bits: &Bits) -> bool
     ensures { result ≡ (fits_bits (arc_slice_items bits.now.octets) bits.now.unused
         && ends_as_named (map named_view names.now) (arc_slice_items bits.now.octets) bits.now.unused) }
@@ -36,8 +36,8 @@ pub fn bits_fit(names: &[Named], bits: &Bits) -> bool
         && ends_as_named(names, octets, bits.unused)
 }
 
-/// X.660 has three first arcs, 0, 1 and 2, and 40 arcs each under 0 and 1; in this profile no subidentifier has more
-/// than 128 bits.
+/// Whether an OBJECT IDENTIFIER may have these arcs, of which there are two at least. X.660 has three first arcs, 0, 1
+/// and 2, and 40 arcs each under 0 and 1; in this profile no subidentifier has more than 128 bits.
 pub fn arcs_fit(arcs: &[u128]) -> bool
     ensures { result ≡ fits_arcs arcs.now }
 {
@@ -58,7 +58,7 @@ fn first_two_fit(first: u128, second: u128) -> bool
     }
 }
 
-/// The number of one of these items.
+/// Whether this is the number of one of these items.
 pub fn is_item(number: i128, items: &[Named]) -> bool
     ensures { result ≡ is_item number (map named_view items.now) }
 {

@@ -6,7 +6,7 @@ ghost use Rattle.guard_der.specs.ProperConstraints.{takes_size};
 
 use guard_model::{GREATEST_TAG_NUMBER, Kind, Tag};
 
-/// A tag is there except on a CHOICE (X.680 8.1), and tags are low.
+/// Whether there is a tag, except on a CHOICE (X.680 8.1), and no tag's number is above 268,435,455.
 pub fn has_proper_tags(tags: &[Tag], kind: &Kind) -> bool
     ensures { result ≡ (is_tagged tags.now (kind_view kind.now) && are_low tags.now) }
 {
@@ -30,7 +30,7 @@ fn are_low(tags: &[Tag]) -> bool
     true
 }
 
-/// Strings and OF types may have SIZE (51.5), but not where bits are named (22.7).
+/// Whether the kind may have SIZE: strings and OF types (X.680 51.5), but no BIT STRING with named bits (22.7).
 pub fn takes_size(kind: &Kind) -> bool
     ensures { result ≡ takes_size (kind_view kind.now) }
 {

@@ -1,4 +1,4 @@
-//! CHOICE.
+//! Elements of a CHOICE.
 ghost use Rattle.std.specs.Prelude.{◌≡◌, ◌<◌, vec_len, None};
 ghost use Rattle.guard_tables.specs.NodesView.{spots_in};
 ghost use Rattle.guard_tables.specs.Slots.{added};
@@ -13,7 +13,8 @@ use crate::plain::is_plain;
 use crate::walking::within_tag;
 use guard_tables::{Nodes, Slots};
 
-/// An element of the first alternative that has its tag, all of the octets.
+/// Whether the octets are an element of the first alternative that has its tag, and nothing after it; the slots of what
+/// its value doesn't pass are added to those that fail. Condition: the node at this place is a CHOICE.
 #[cycle(walking)]
 #[inline(never)]
 pub fn choice(table: &Nodes, at: usize, octets: &[u8], failed: &mut Slots) -> bool
@@ -33,7 +34,7 @@ pub fn choice(table: &Nodes, at: usize, octets: &[u8], failed: &mut Slots) -> bo
     false
 }
 
-/// The chosen alternative: what is inside its outermost tag, and nothing after it.
+/// Whether what is inside the outermost tag of the chosen alternative is lawful, with nothing after it.
 #[cycle(walking)]
 #[inline(always)]
 fn chosen(table: &Nodes, at: usize, inside: &[u8], rest: &[u8], failed: &mut Slots) -> bool
@@ -51,7 +52,7 @@ fn chosen(table: &Nodes, at: usize, inside: &[u8], rest: &[u8], failed: &mut Slo
     within_tag(table, at, inside, failed)
 }
 
-/// What fails where an alternative is the chosen one.
+/// Adds the slots that fail where an alternative is the chosen one.
 #[inline(always)]
 fn choose(table: &Nodes, at: usize, failed: &mut Slots)
     requires { at < vec_len table.now.hots }

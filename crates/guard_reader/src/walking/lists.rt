@@ -1,4 +1,4 @@
-//! SEQUENCE OF and SET OF.
+//! Elements of a SEQUENCE OF and SET OF.
 ghost use Rattle.std.specs.Prelude.{◌<◌, [], vec_len};
 ghost use Rattle.guard_tables.specs.NodesView.{spots_in};
 ghost use Rattle.guard_reader.specs.Judging.{elements, ordered};
@@ -11,7 +11,8 @@ use crate::walking::within_tag;
 use guard_der::order::descends;
 use guard_tables::{Kind, Nodes, Slots};
 
-/// Elements of a node, all of the octets: one plain number needs no call.
+/// Whether all the octets are elements of the node; the slots of what they don't pass are added to those that fail. One
+/// plain number needs no call. Condition: the node is there.
 #[cycle(walking)]
 #[inline(always)]
 pub fn items(table: &Nodes, first: usize, octets: &[u8], failed: &mut Slots) -> bool
@@ -26,7 +27,7 @@ pub fn items(table: &Nodes, first: usize, octets: &[u8], failed: &mut Slots) -> 
     list(table, first, rest, failed)
 }
 
-/// Elements of a node, all of the octets.
+/// Whether all the octets are elements of the node; the slots of what they don't pass are added to those that fail.
 #[cycle(walking)]
 #[inline(never)]
 fn list(table: &Nodes, first: usize, octets: &[u8], failed: &mut Slots) -> bool
@@ -58,7 +59,8 @@ fn list(table: &Nodes, first: usize, octets: &[u8], failed: &mut Slots) -> bool
     true
 }
 
-/// Elements of a SET OF, all of the octets: no element's octets descend to those of the one after it (X.690 11.6).
+/// Whether all the octets are elements of a SET OF, none of which descends to the next (X.690 11.6); the slots of what
+/// they don't pass are added to those that fail. Condition: the elements' node is there.
 #[cycle(walking)]
 #[inline(never)]
 pub fn set_of(table: &Nodes, first: usize, octets: &[u8], failed: &mut Slots) -> bool

@@ -1,4 +1,4 @@
-//! SEQUENCE, a SET whose components ascend, and what is said of components.
+//! Components of a SEQUENCE, and of a SET in which they ascend by their tags; and what is said of components.
 ghost use Rattle.std.specs.Prelude.{◌≡◌, ◌+◌, ◌<◌, ◌≤◌, List, ℕ, true, false, nat_eq, vec_len, option_map};
 ghost use Rattle.guard_tables.specs.NodesView.{spots_in};
 ghost use Rattle.guard_tables.specs.Slots.{added};
@@ -16,7 +16,8 @@ use crate::plain::{begins_plainly, is_plain};
 use crate::walking::within_node;
 use guard_tables::{Cold, Hot, Need, Nodes, Slots};
 
-/// So many components from the first on, one after the other, all of the octets.
+/// Whether all the octets are so many components from the first node on, one after the other; the slots of what they
+/// don't pass are added to those that fail. Condition: these nodes are there.
 #[cycle(walking)]
 #[inline(never)]
 pub fn series(table: &Nodes, first: usize, count: usize, inside: &[u8], failed: &mut Slots) -> bool
@@ -27,7 +28,7 @@ pub fn series(table: &Nodes, first: usize, count: usize, inside: &[u8], failed: 
     fields(table, first, count, inside, failed)
 }
 
-/// So many components from the first on, one after the other, all of the octets: compiled into its caller.
+/// What `series` answers, by the same conditions: compiled into its caller.
 #[cycle(walking)]
 #[inline(always)]
 pub fn fields(table: &Nodes, first: usize, count: usize, inside: &[u8], failed: &mut Slots) -> bool
@@ -58,7 +59,7 @@ pub fn fields(table: &Nodes, first: usize, count: usize, inside: &[u8], failed: 
     rest.is_empty()
 }
 
-/// So many components one after the other, all of the octets, of which the first has no identifier octet of its own.
+/// What `series` answers, where the first component has no identifier octet of its own.
 #[cycle(walking)]
 #[inline(never)]
 fn far_fields(table: &Nodes, first: usize, count: usize, inside: &[u8], failed: &mut Slots) -> bool
@@ -76,7 +77,7 @@ fn far_fields(table: &Nodes, first: usize, count: usize, inside: &[u8], failed: 
     rest.is_empty()
 }
 
-/// A component where it may come next: what is left after it.
+/// What is left after a component that may come next; None where it isn't lawful, or isn't there and has to be.
 #[cycle(walking)]
 #[inline(always)]
 fn part<'a>(table: &Nodes, at: usize, octets: &'a [u8], failed: &mut Slots) -> Option<&'a [u8]>
@@ -92,7 +93,7 @@ fn part<'a>(table: &Nodes, at: usize, octets: &'a [u8], failed: &mut Slots) -> O
     near_part(table, at, node, octets, failed)
 }
 
-/// A component with an identifier octet of its own, where it may come next.
+/// What `part` answers for a component with an identifier octet of its own.
 #[cycle(walking)]
 #[inline(always)]
 fn near_part<'a>(
@@ -115,7 +116,7 @@ fn near_part<'a>(
     other_part(table, at, node, octets, failed)
 }
 
-/// A component where it may come next, before octets that don't begin with its identifier octet.
+/// What `part` answers before octets that don't begin with the component's identifier octet.
 #[inline(always)]
 fn other_part<'a>(
     table: &Nodes,
@@ -141,7 +142,7 @@ fn other_part<'a>(
     Some(octets)
 }
 
-/// A component whose identifier octet the octets begin with.
+/// What `part` answers where the octets begin with the component's identifier octet.
 #[cycle(walking)]
 #[inline(always)]
 fn begun_part<'a>(
@@ -165,7 +166,7 @@ fn begun_part<'a>(
     cut_part(table, at, node, octets, failed)
 }
 
-/// A component of which one identifier octet is left to read.
+/// What `part` answers for a component of which one identifier octet is left to read.
 #[cycle(walking)]
 #[inline(always)]
 fn cut_part<'a>(
@@ -192,7 +193,7 @@ fn cut_part<'a>(
     }
 }
 
-/// A component without an identifier octet of its own, where it may come next.
+/// What `part` answers for a component without an identifier octet of its own.
 #[cycle(walking)]
 #[inline(always)]
 fn far_part<'a>(table: &Nodes, at: usize, octets: &'a [u8], failed: &mut Slots) -> Option<&'a [u8]>
@@ -207,7 +208,7 @@ fn far_part<'a>(table: &Nodes, at: usize, octets: &'a [u8], failed: &mut Slots) 
     seen_part(table, at, octets, failed)
 }
 
-/// A component without an identifier octet of its own, by what is at the front.
+/// What `part` answers for a component without an identifier octet of its own, by what is at the front.
 #[cycle(walking)]
 #[cold]
 #[inline(never)]
@@ -234,7 +235,8 @@ fn seen_part<'a>(table: &Nodes, at: usize, octets: &'a [u8], failed: &mut Slots)
     }
 }
 
-/// What is inside the outermost tag of a component.
+/// Whether what is inside the outermost tag of a component is lawful there and no default; the slots of what fails are
+/// added to those that fail. Condition: the component's node is there.
 #[cycle(walking)]
 #[inline(always)]
 pub fn present(table: &Nodes, at: usize, inside: &[u8], failed: &mut Slots) -> bool
@@ -245,7 +247,7 @@ pub fn present(table: &Nodes, at: usize, inside: &[u8], failed: &mut Slots) -> b
     present_node(table, at, &table.hots[at], inside, failed)
 }
 
-/// What is inside the outermost tag of a component whose node was looked up.
+/// What `present` answers where the component's node was looked up.
 #[cycle(walking)]
 #[inline(always)]
 fn present_node(table: &Nodes, at: usize, node: &Hot, inside: &[u8], failed: &mut Slots) -> bool
@@ -260,7 +262,8 @@ fn present_node(table: &Nodes, at: usize, node: &Hot, inside: &[u8], failed: &mu
     check(table, at, node, inside, failed) && within_node(table, at, node, inside, failed)
 }
 
-/// Whether contents are none of a default; what their presence costs fails.
+/// Whether the octets inside the outermost tag aren't those of the default; the slots of the component's presence are
+/// added to those that fail.
 #[inline(always)]
 fn check(table: &Nodes, at: usize, node: &Hot, inside: &[u8], failed: &mut Slots) -> bool
     requires room { at < vec_len table.now.hots }
@@ -273,7 +276,7 @@ fn check(table: &Nodes, at: usize, node: &Hot, inside: &[u8], failed: &mut Slots
     watch(table, at, inside, failed)
 }
 
-/// Whether contents are none of a default, of a node that is watched; what their presence costs fails.
+/// What `check` answers for a node whose presence counts.
 #[cold]
 #[inline(never)]
 fn watch(table: &Nodes, at: usize, inside: &[u8], failed: &mut Slots) -> bool
@@ -288,7 +291,8 @@ fn watch(table: &Nodes, at: usize, inside: &[u8], failed: &mut Slots) -> bool
     true
 }
 
-/// Whether a component may be absent.
+/// Whether a component may be absent; the slots of its absence are added to those that fail. Condition: the component's
+/// node is there.
 #[inline(always)]
 pub fn absent(table: &Nodes, at: usize, failed: &mut Slots) -> bool
     requires { at < vec_len table.now.hots }
@@ -298,7 +302,7 @@ pub fn absent(table: &Nodes, at: usize, failed: &mut Slots) -> bool
     absent_node(table, at, &table.hots[at], failed)
 }
 
-/// Whether a component whose node was looked up may be absent.
+/// What `absent` answers where the component's node was looked up.
 #[inline(always)]
 fn absent_node(table: &Nodes, at: usize, node: &Hot, failed: &mut Slots) -> bool
     requires room { at < vec_len table.now.hots }

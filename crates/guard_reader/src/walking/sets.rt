@@ -1,4 +1,4 @@
-//! SET.
+//! Components of a SET.
 ghost use Rattle.std.specs.Prelude.{◌≡◌, ◌<◌, vec_len};
 ghost use Rattle.guard_tables.specs.NodesView.{spots_in};
 ghost use Rattle.guard_tables.specs.TableNodes.{body_at};
@@ -13,7 +13,8 @@ use crate::walking::series::{present, series};
 use guard_model::Tag;
 use guard_tables::{Nodes, Slots};
 
-/// Components of a node in ascending order of tags (X.690 8.11, 10.3), all of the octets.
+/// Whether all the octets are components of a SET in ascending order of tags (X.690 8.11, 10.3); the slots of what they
+/// don't pass are added to those that fail. Condition: the node at this place is a SET.
 #[cycle(walking)]
 #[inline(never)]
 pub fn set(table: &Nodes, at: usize, octets: &[u8], failed: &mut Slots) -> bool
@@ -29,7 +30,8 @@ pub fn set(table: &Nodes, at: usize, octets: &[u8], failed: &mut Slots) -> bool
     members(table, at, octets, failed)
 }
 
-/// Components of a node that aren't listed in the order of their tags, or of which one may begin with several tags.
+/// What `set` answers for components that aren't listed in the order of their tags, or of which one may begin with
+/// several tags.
 #[cycle(walking)]
 #[inline(never)]
 fn members(table: &Nodes, at: usize, octets: &[u8], failed: &mut Slots) -> bool

@@ -8,4 +8,5 @@ pub mod DenotedIsRead
 pub mod OneConstraint
 pub mod WrittenValues
 pub mod ProperConstraints
+pub mod StandingFaults
 pub mod CodeAnswers

@@ -7,6 +7,7 @@ pub mod ListedParts
 pub mod PartFaults
 -- ---- which constraint a tree denotes, and why one denotes none
 pub mod Denotes
+pub mod Conditions
 pub mod Faults
 pub mod FirstFault
 -- ---- what the code's results and arguments mean

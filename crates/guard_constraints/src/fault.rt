@@ -7,40 +7,43 @@ use guard_values::ValueFault;
 use std::alloc::{AllocError, AllocFailed};
 use thiserror::Error;
 
-/// Why a text is no constraint of its type, and where.
+/// Why a written constraint is none of its type, and where. It prints as its number, its name and its site, as in
+/// `C1 NotApplicable 1:2:24`; without memory as `OutOfMemory`. Clauses are those of X.680.
 #[derive(Clone, Copy, Debug, PartialEq, Eq, Error)]
 pub enum ConsFault {
-    /// The element doesn't apply to the type.
+    /// At the element: it doesn't apply to a type of this kind (51).
     #[error("C1 NotApplicable {0}")]
     NotApplicable(Site),
-    /// `<` is at MIN or MAX; at the range's first token.
+    /// At the range's first token: `<` is at MIN or MAX, which this profile hasn't (51.4).
     #[error("C2 ExclusiveLimit {0}")]
     ExclusiveLimit(Site),
-    /// Something else than a union of strings and of ranges between two characters; at the word FROM.
+    /// At the word FROM: what is inside isn't a union of strings and of ranges between two characters, which are all
+    /// that this profile has there (51.7).
     #[error("C3 AlphabetForm {0}")]
     AlphabetForm(Site),
-    /// A presence word at a component that isn't OPTIONAL, or OPTIONAL at an alternative; at the part's name.
+    /// At the part's name: a presence word at a component that isn't OPTIONAL, or OPTIONAL at an alternative (51.8.9).
     #[error("C4 PresenceWord {0}")]
     PresenceWord(Site),
-    /// No component or alternative has the part's name.
+    /// At the part's name: no component or alternative has it (51.8.5).
     #[error("C5 UnknownComponent {0}")]
     UnknownComponent(Site),
-    /// A part before this one has its name.
+    /// At the part's name: a part that is written before has it too.
     #[error("C6 RepeatedComponent {0}")]
     RepeatedComponent(Site),
-    /// A second alternative is PRESENT; at its name.
+    /// At the part's name: over a CHOICE it is PRESENT, and so is a part that is written before.
     #[error("C7 TwoPresent {0}")]
     TwoPresent(Site),
-    /// The contained type has another base.
+    /// At the element: the contained type has another base than the type that is constrained (51.3).
     #[error("C8 ContainedMismatch {0}")]
     ContainedMismatch(Site),
-    /// A value in the constraint is at fault.
+    /// At the value's own fault: a value that is written in the constraint has it under the type that is constrained;
+    /// or a string inside FROM has V6, a character outside that type's alphabet (41).
     #[error("C9 Value {0}")]
     Value(ValueFault),
-    /// SIZE of a BIT STRING with named bits; at the word SIZE, after all faults inside it.
+    /// At the word SIZE, after all faults inside it: SIZE of a BIT STRING with named bits, which this profile hasn't.
     #[error("C10 SizeOnNamedBits {0}")]
     SizeOnNamedBits(Site),
-    /// A growth was refused.
+    /// A growth was refused. There may be faults besides, or none.
     #[error("OutOfMemory")]
     OutOfMemory,
 }

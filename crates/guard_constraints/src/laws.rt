@@ -7,6 +7,7 @@ ghost use Rattle.guard_syntax.specs.Trees.{WrittenConstraint};
 ghost use Rattle.guard_values.specs.Meanings.{AreFitting};
 ghost use Rattle.guard_constraints.specs.declared.fault.ConsFault.{ConsFault};
 ghost use Rattle.guard_constraints.specs.Denotes.{Denotes};
+ghost use Rattle.guard_constraints.specs.Conditions.{IsConstraintFaultIn};
 ghost use Rattle.guard_constraints.specs.FirstFault.{IsFirstConstraintFault};
 ghost use Rattle.guard_constraints.specs.Visible.{Visible};
 
@@ -22,7 +23,13 @@ pub fn law_one_fault()
         IsFirstConstraintFault names t tree f → IsFirstConstraintFault names t tree g → f ≡ g }
 {}
 
-/// None is named of a tree that denotes a constraint on a sound type, where each visible value is one of its
+/// The condition of the fault that is named stands at its site, in some element of the tree.
+pub fn law_first_stands()
+    ensures { (names : Visible) (t : AbstractType) (tree : WrittenConstraint) (f : ConsFault) →
+        IsFirstConstraintFault names t tree f → IsConstraintFaultIn names t tree f }
+{}
+
+/// No fault is named of a tree that denotes a constraint on a sound type, where each visible value is one of its
 /// governor's.
 pub fn law_no_fault()
     ensures { (names : Visible) (t : AbstractType) (tree : WrittenConstraint) (c : Constraint) (f : ConsFault) →

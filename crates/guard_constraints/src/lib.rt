@@ -5,6 +5,7 @@
 //! |---|---|
 //! | what does `constraint` promise | `written.rt`, `specs/Denotes.antt`, `specs/FirstFault.antt`; that a tree denotes one constraint at most, has one first fault at most, and never both: `laws.rt` |
 //! | which element applies to which kind | `specs/Applies.antt`, `kinds.rt` |
+//! | what stands at a fault's site | `specs/Conditions.antt` |
 //! | what is a fault, and how does it print | `specs/Faults.antt`, in WITH COMPONENTS `specs/PartFaults.antt`; `fault.rt` |
 //! | which fault comes first | `specs/FirstFault.antt` |
 //! | how are values read | `written_values.rt` |

@@ -13,6 +13,7 @@ ghost use Rattle.guard_model.specs.Kinds.{kind_of};
 ghost use Rattle.guard_values.specs.Views.{AreKnownFitting};
 ghost use Rattle.guard_constraints.specs.Denotes as denotes;
 ghost use Rattle.guard_constraints.specs.Denotes.{Denotes};
+ghost use Rattle.guard_constraints.specs.Conditions.{IsConstraintFaultIn};
 ghost use Rattle.guard_constraints.specs.declared.fault.ConsFault.{ConsFault};
 ghost use Rattle.guard_constraints.specs.FirstFault.{IsFirstConstraintFault};
 ghost use Rattle.guard_constraints.specs.inside.Reading as reading;
@@ -34,8 +35,15 @@ use guard_syntax::{
 use guard_values::{Known, Scope};
 use std::alloc::{AllocError, Global};
 
-/// The constraint that a tree denotes on a type, where it is written in this definition; or the first fault. The type
-/// and each known type are sound, and each known value is one of its governor's.
+/// The constraint that a tree denotes on a type (X.680 49 to 51), written in the definition `id`: names mean what they
+/// mean in the module of that definition, as far as `known` has it.
+///
+/// Conditions: the type and each type in `known` are sound, and each value in `known` is one of its governor's.
+///
+/// Errors: one of C1 to C10, as `ConsFault` says of each. Its condition stands at its site, in some element of the
+/// tree, and the tree denotes nothing. Of several faults it is the first: an element's own C1 to C8 come before what is
+/// inside it, what is written first before the rest, C4 of all parts before C5, C6 and C7, and C10 after all that is
+/// inside SIZE. `OutOfMemory`, where a growth was refused.
 pub fn constraint(
     alloc: Global,
     names: &Names,
@@ -53,7 +61,9 @@ pub fn constraint(
     ensures proper { IfOk result (λ c. IsTrue (is_proper_constraint (constraint_view c) (type_view ty.now))) }
     ensures faultless { IfOk result (λ c. (f : ConsFault) → IsFirstConstraintFault (visible_at names.now known.now id)
         (type_view ty.now) (views.constraint_view tree.now) f → ⊥) }
-    // A fault that is named is the first, and then nothing is denoted.
+    // The condition of a fault that is named stands at its site; it is the first, and then nothing is denoted.
+    ensures holds { IfErr result (λ e. IfSome (named e) (λ f. IsConstraintFaultIn (visible_at names.now known.now id)
+        (type_view ty.now) (views.constraint_view tree.now) f)) }
     ensures first { IfErr result (λ e. IfSome (named e) (λ f. IsFirstConstraintFault (visible_at names.now known.now id)
         (type_view ty.now) (views.constraint_view tree.now) f)) }
     ensures none { IfErr result (λ e. IfSome (named e) (λ f. (c : Constraint) →
@@ -279,7 +289,7 @@ fn element(alloc: Global, scope: Scope, tree: &ElementTree, ty: &Ty) -> Result<C
     }
 }
 
-/// This value alone (51.2).
+/// The constraint to one value alone (51.2).
 #[tactic(auto, unfolding(crate::specs::inside::Reading::read))]
 fn single_value(
     alloc: Global,

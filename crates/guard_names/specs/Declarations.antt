@@ -20,11 +20,11 @@ definitions ms = flat_map defined_in ms
 
 -- where a name comes from
 pub data Origin : Type 0 where
-  -- it is the name of a module
+  -- the name is that of a module
   of_module : Origin
-  -- it is imported from the module of this name
+  -- the name is imported from the module of this name
   imported_from : List ℕ → Origin
-  -- it is assigned, in the definition of this number; and whether its module exports it
+  -- the name is assigned, in the definition of this number; and whether its module exports it
   assigned_by : ℕ → Bool → Origin
 
 -- a name that is declared: for a module, or else in the module of a name
@@ -54,7 +54,7 @@ written_imports (Some imports) = imports
 abbrev pub module_declaration : WrittenModule → Declaration
 module_declaration m = record { scope = None; name = m.name; site = m.site; origin = of_module }
 
--- those of names that are imported from one module
+-- the declarations of names that are imported from one module
 abbrev pub symbol_declarations : List ℕ → List ℕ → List WrittenSymbol → List Declaration
 symbol_declarations home from symbols =
     map (λ s. record { scope = Some home; name = s.name; site = s.site; origin = imported_from from }) symbols
@@ -62,7 +62,7 @@ symbol_declarations home from symbols =
 abbrev pub import_declarations : List ℕ → WrittenImport → List Declaration
 import_declarations home i = symbol_declarations home i.module_name i.symbols
 
--- those of assignments, where the first one makes the definition of this number
+-- the declarations of a module's assignments, where the first one makes the definition of this number
 abbrev pub assigned_declarations : WrittenModule → ℕ → List WrittenAssignment → List Declaration
 assigned_declarations m number [] = []
 assigned_declarations m number (a ∷ rest) =
@@ -73,7 +73,7 @@ assigned_declarations m number (a ∷ rest) =
       origin = assigned_by number (lists_name m.exports a.name);
     } ∷ assigned_declarations m (number + 1) rest
 
--- those of a module, in the order of its text
+-- the declarations of a module, in the order of its text
 abbrev pub module_declarations : ℕ → WrittenModule → List Declaration
 module_declarations number m =
     module_declaration m ∷ (flat_map (import_declarations m.name) (written_imports m.imports)
@@ -83,13 +83,13 @@ abbrev pub declarations_from : ℕ → List WrittenModule → List Declaration
 declarations_from number [] = []
 declarations_from number (m ∷ ms) = module_declarations number m ++ declarations_from (number + length m.assignments) ms
 
--- all of them, in module and text order
+-- all declarations, in module and text order
 abbrev pub declarations : List WrittenModule → List Declaration
 declarations ms = declarations_from 0 ms
 
 -- ---- look-ups
 
--- it declares this name there
+-- the declaration is of this name in the module of that name, or, without one, of a module's name
 abbrev pub declares : Option (List ℕ) → List ℕ → Declaration → Bool
 declares scope name d = option_eq bytes_eq scope d.scope && bytes_eq name d.name
 
@@ -97,18 +97,18 @@ declares scope name d = option_eq bytes_eq scope d.scope && bytes_eq name d.name
 abbrev pub Origins : Type 0
 Origins = Option (List ℕ) → List ℕ → Option Origin
 
--- by these declarations
+-- where names come from, by these declarations
 abbrev pub origin_there : List Declaration → Origins
 origin_there ds scope name = option_map (λ d. d.origin) (find (declares scope name) ds)
 
--- the definition in which it is assigned
+-- the definition in which a name of this origin is assigned, if it is assigned at all
 abbrev pub assigned_number : Option Origin → Option ℕ
 assigned_number None = None
 assigned_number (Some of_module) = None
 assigned_number (Some (imported_from home)) = None
 assigned_number (Some (assigned_by number exports)) = Some number
 
--- the definition in which it is assigned, if its module exports it
+-- the definition in which a name of this origin is assigned, if its module exports it
 abbrev pub exported_number : Option Origin → Option ℕ
 exported_number None = None
 exported_number (Some of_module) = None

@@ -15,7 +15,7 @@ IsDeclared ms home name origin =
 abbrev pub IsAssigned : List WrittenModule → List ℕ → List ℕ → ℕ → Type 0
 IsAssigned ms home name number = (exports : Bool) × IsDeclared ms home name (assigned_by number exports)
 
--- it is imported from a module that assigns it, in the definition of this number, and exports it
+-- the name is imported there, from a module that assigns it, in the definition of this number, and exports it
 abbrev pub IsImported : List WrittenModule → List ℕ → List ℕ → ℕ → Type 0
 IsImported ms home name number =
     (from : List ℕ) × IsDeclared ms home name (imported_from from) × IsDeclared ms from name (assigned_by number true)
@@ -24,9 +24,15 @@ IsImported ms home name number =
 abbrev pub Means : List WrittenModule → List ℕ → List ℕ → ℕ → Type 0
 Means ms home name number = IsAssigned ms home name number ⊎ IsImported ms home name number
 
--- That number by a look-up. Where no name is declared twice it is the one that `Means` leads to, as a law says.
+-- The number of the definition that a name means in the module of a name, by a look-up. Where no name is declared twice
+-- that is the number that `Means` leads to, as a law says.
 abbrev pub number_meant : List WrittenModule → Numbers
 number_meant ms = definition_of (origin_there (declarations ms))
+
+-- What a name means in the module at a place, from 0; nothing where there is none.
+abbrev pub number_meant_in : List WrittenModule → Option ℕ → List ℕ → Option ℕ
+number_meant_in ms place name =
+    option_and_then (λ m. number_meant ms m.name name) (option_and_then (slice_get ms) place)
 
 -- What a name means that is written in the definition of a number.
 abbrev pub number_meant_from : List WrittenModule → ℕ → List ℕ → Option ℕ

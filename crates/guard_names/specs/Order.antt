@@ -7,13 +7,13 @@ abbrev pub is_listed : List ℕ → ℕ → Bool
 is_listed listed number = list_any (nat_eq number) listed
 
 module _ (count : ℕ) (uses : ℕ → ℕ → Type 0) where
-  -- it isn't listed yet, and all that it uses is
+  -- the definition isn't listed yet, and all that it uses is
   pub record IsReady (listed : List ℕ) (number : ℕ) : Type 0 where
     pub below : number < count
     pub unlisted : is_listed listed number ≡ false
     pub met : (used : ℕ) → uses number used → IsTrue (is_listed listed used)
 
-  -- it is the first that is ready
+  -- the definition is the first that is ready
   pub record IsNext (listed : List ℕ) (number : ℕ) : Type 0 where
     pub ready : IsReady listed number
     pub first : (other : ℕ) → other < number → ¬ IsReady listed other
@@ -38,11 +38,11 @@ module _ (uses : ℕ → ℕ → Type 0) where
     at_once : {a b : ℕ} → uses a b → Leads a b
     through : {a b c : ℕ} → uses a b → Leads b c → Leads a c
 
-  -- it uses itself, directly or through others
+  -- the definition uses itself, directly or through others
   abbrev pub IsRecursive : ℕ → Type 0
   IsRecursive number = Leads number number
 
-  -- it is the first that uses itself
+  -- the definition is the first that uses itself
   pub record IsFirstRecursive (number : ℕ) : Type 0 where
     pub recursive : IsRecursive number
     pub first : (other : ℕ) → other < number → ¬ IsRecursive other

@@ -16,7 +16,9 @@ use crate::fault::NameFault;
 use crate::table::Table;
 use guard_syntax::{ImportTree, Module};
 
-/// Looks for a fault of imports, of one kind after the other.
+/// Looks for a fault of imports, of one kind after the other: a module that isn't there (NoModule), a name that isn't
+/// assigned there (ImportNotDefined), a name that isn't exported there (NotExported). Condition: the declarations are
+/// those of the modules, and the table is that of the declarations.
 pub fn check_imports<'a>(
     modules: &[Module<'a>],
     declarations: &[Declaration<'a>],

@@ -40,11 +40,11 @@ pub struct Declaration<'a> {
 /// Where a name comes from.
 #[derive(Clone, Copy)]
 pub enum Origin<'a> {
-    /// It is the name of a module.
+    /// The name is that of a module.
     Module,
-    /// It is imported from the module of this name, which has this number if it is there.
+    /// The name is imported from the module of this name, which has this number if it is there.
     Import(&'a [u8], Option<usize>),
-    /// It is assigned, in this definition; and whether its module exports it.
+    /// The name is assigned in this definition; and whether its module exports it.
     Assignment(Id, bool),
 }
 
@@ -65,7 +65,7 @@ pub fn declarations<'a>(
     Ok(found)
 }
 
-/// The number of the module of this name: the place of the first one.
+/// The number of the module of this name: the place of the first one, from 0. None where no module has the name.
 pub fn number_of(modules: &[Module], name: &[u8]) -> Option<usize>
     ensures { result ≡ module_number (map module_view modules.now) name.now }
 {
@@ -92,7 +92,8 @@ fn home_among<'a>(modules: &[Module], tree: &Module<'a>) -> Home<'a>
     }
 }
 
-/// Adds those of a module whose first assignment makes this definition, and answers the number of the next one.
+/// Adds the declarations of a module whose first assignment makes this definition, and answers the number of the next
+/// definition.
 fn add_module<'a>(
     alloc: Global,
     modules: &[Module<'a>],
@@ -120,7 +121,7 @@ fn add_module<'a>(
     add_assigned(alloc, home, tree, first, into)
 }
 
-/// The imports of a module, one for each module that is named after FROM.
+/// The imports of a module, one for each module that is named after FROM; none where the word IMPORTS isn't written.
 pub fn written_imports<'m, 'a>(tree: &'m Module<'a>) -> &'m [ImportTree<'a>]
     ensures { map import_view result.now ≡ declared.written_imports (module_view tree.now).imports }
 {
@@ -130,7 +131,7 @@ pub fn written_imports<'m, 'a>(tree: &'m Module<'a>) -> &'m [ImportTree<'a>]
     }
 }
 
-/// The names that a module lists as exported.
+/// The names that a module lists as exported; none where it exports all that it assigns.
 pub fn listed_exports<'m, 'a>(tree: &'m Module<'a>) -> &'m [SymbolTree<'a>]
     ensures { map symbol_view result.now ≡ declared.listed_exports (module_view tree.now).exports }
 {
@@ -184,7 +185,7 @@ fn add_symbols<'a>(
     Ok(())
 }
 
-/// Adds those of the assignments of a module.
+/// Adds the declarations of the assignments of a module.
 fn add_assigned<'a>(
     alloc: Global,
     home: Home<'a>,

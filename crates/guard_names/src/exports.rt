@@ -12,12 +12,14 @@ use std::alloc::{AllocError, Global};
 /// Which names a module exports.
 #[derive(Drop)]
 pub enum Exports<'a> {
-    /// All that it assigns.
+    /// All names that the module assigns.
     All,
+    /// These names alone.
     Listed(IndexSet<&'a [u8]>),
 }
 
 impl<'a> Exports<'a> {
+    /// What a module exports, by what it says of that: all where it says nothing. Fails only where memory runs out.
     pub fn of(alloc: Global, tree: &Option<ExportsTree<'a>>) -> Result<Exports<'a>, AllocError>
         ensures { IfOk result (λ e. (name : List ℕ) →
             has_name e name ≡ lists_name (perhaps_exports_view tree.now) name) }
@@ -29,6 +31,7 @@ impl<'a> Exports<'a> {
         }
     }
 
+    /// Whether the module exports this name, if it assigns it.
     pub fn has(&self, name: &[u8]) -> bool
         ensures { result ≡ has_name self.now name.now }
     {

@@ -32,7 +32,8 @@ pub struct Within<'s, 'm, 'a> {
 impl<'m, 'a> Meanings<'m, 'a> {
     ghost use Rattle.guard_names.specs.TableViews.{module_number, meaning_in};
 
-    /// What the declared names mean, by where they come from. None is declared twice.
+    /// What the declared names mean, by where they come from. Condition: the declarations are those of the modules, the
+    /// table is theirs, and no name is declared twice. Fails only where memory runs out.
     pub fn of(
         alloc: Global,
         modules: &'m [Module<'a>],
@@ -70,7 +71,8 @@ impl<'m, 'a> Meanings<'m, 'a> {
         }
     }
 
-    /// The definition that the name means in the module of this number, if it is there.
+    /// The definition that the name means in the module of this number; None where it means nothing, or there is no
+    /// such module.
     pub fn find<'s>(&'s self, number: Option<usize>, name: &'s [u8]) -> Option<Id>
         ensures { (home : List ℕ) → number ≡ module_number (map module_view self.now.modules.now) home →
             result ≡ meaning_in self.now home name.now }
@@ -83,7 +85,7 @@ impl<'m, 'a> Meanings<'m, 'a> {
 impl<'s, 'm, 'a> Within<'s, 'm, 'a> {
     ghost use Rattle.guard_names.specs.TableViews.{meaning_in};
 
-    /// The definition that the name means there.
+    /// The definition that the name means in the module; None where it means nothing.
     pub fn find(&self, name: &[u8]) -> Option<Id>
         ensures { result ≡ meaning_in self.now.meanings.now self.now.home.now name.now }
     {
@@ -91,7 +93,7 @@ impl<'s, 'm, 'a> Within<'s, 'm, 'a> {
     }
 }
 
-/// The definition that a declared name means in its module.
+/// The definition that a declared name means in its module; None where it means nothing.
 fn meant_by(declaration: &Declaration, table: &Table) -> Option<Id>
     requires { IsNumbered (map module_view table.now.modules.now) declaration.now }
     ensures { result

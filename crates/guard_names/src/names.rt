@@ -4,7 +4,7 @@ ghost use Rattle.std.specs.Prelude.{is_some, false, IsTrue, IfOk, IfErr, IfSome,
 ghost use Rattle.std.proofs.Props.{props};
 ghost use Rattle.guard_names.specs.Declarations.{Definition, definitions};
 ghost use Rattle.guard_names.specs.Faults.{fault_of_names};
-ghost use Rattle.guard_names.specs.Meanings.{Means, Uses, number_meant, number_meant_from};
+ghost use Rattle.guard_names.specs.Meanings.{Means, Uses, number_meant, number_meant_in, number_meant_from};
 ghost use Rattle.guard_names.specs.Order.{IsOrder, IsRecursive, is_listed};
 ghost use Rattle.guard_names.specs.Places.{place_in};
 ghost use Rattle.guard_names.specs.inside.OrderProps.{IsOrder-prop};
@@ -74,29 +74,58 @@ impl<'m, 'a> Names<'m, 'a> {
     }
 
     /// The definition that a name means in the module of a name (X.680 13.1): one that is assigned there, or in a
-    /// module from which the name is imported and that exports it.
+    /// module from which the name is imported and that exports it. None where no module has that name, and where the
+    /// name is neither assigned nor imported there.
     pub fn find(&self, module_name: &str, name: &str) -> Option<Id>
         ensures meant { (number : ℕ) →
             (result ≡ Some number) ↔ Means (modules_of self.now) module_name.now name.now number }
         ensures home { IfSome result (λ id. (d : Definition)
             × (slice_get (definitions (modules_of self.now)) id ≡ Some d) × (d.assignment.name ≡ name.now)) }
     {
-        self.meanings
-            .within(module_name.as_bytes())
-            .find(name.as_bytes())
+        self.meaning_in(self.module_named(module_name.as_bytes()), name.as_bytes())
     }
 
-    /// The definition that a name means which is written in this definition, as it is in its tree. The name of the
-    /// module isn't read again.
+    /// The place of the module of this name, from 0. None where no module has the name.
+    pub fn module_named(&self, name: &[u8]) -> Option<usize>
+        ensures place { result ≡ module_number (modules_of self.now) name.now }
+        // Names mean there what they mean in the module of the name.
+        ensures meant { (inner : List ℕ) → number_meant_in (modules_of self.now) result inner
+            ≡ number_meant (modules_of self.now) name.now inner }
+    {
+        number_of(self.modules, name)
+    }
+
+    /// The place of the module in which a definition is written, from 0. None where no definition has this number.
+    pub fn module_of(&self, id: Id) -> Option<usize>
+        ensures place { option_map (slice_get (modules_of self.now)) result
+            ≡ option_map (λ d. Some d.home) (slice_get (definitions (modules_of self.now)) id) }
+        // Names mean there what they mean where they are written in the definition.
+        ensures meant { (inner : List ℕ) → number_meant_in (modules_of self.now) result inner
+            ≡ number_meant_from (modules_of self.now) id inner }
+    {
+        let (place, _, _) = home_of(self.modules, id)?;
+        Some(place)
+    }
+
+    /// The definition that this name means in the module at this place, whose name isn't read again. None where no
+    /// module has the place, and where the name means nothing there.
+    pub fn meaning_in(&self, place: Option<usize>, name: &[u8]) -> Option<Id>
+        ensures { result ≡ number_meant_in (modules_of self.now) place name.now }
+    {
+        let number = self.numbers.get(place?)?;
+        self.meanings.find(*number, name)
+    }
+
+    /// The definition that this name means where it is written in the definition with this number. None where there is
+    /// no such definition, and where the name means nothing there.
     pub fn meaning_from(&self, id: Id, name: &[u8]) -> Option<Id>
         ensures { result ≡ number_meant_from (modules_of self.now) id name.now }
     {
-        let (place, _, _) = home_of(self.modules, id)?;
-        self.meanings.find(self.numbers[place], name)
+        self.meaning_in(self.module_of(id), name)
     }
 
-    /// All definitions, each after those that it uses: again and again the first one in module and text order of those
-    /// that may be next.
+    /// All definitions, each once and after those that it uses. The next one is always the first, in module and text
+    /// order, of those whose uses are all listed.
     pub fn order(&self) -> &[Id]
         ensures same { result.now ≡ order_of self.now }
         ensures ordered { IsOrder (length (definitions (modules_of self.now))) (Uses (modules_of self.now)) result.now }
@@ -104,7 +133,7 @@ impl<'m, 'a> Names<'m, 'a> {
         &self.order
     }
 
-    /// The place of a definition in the order.
+    /// The place of a definition in the order, from 0. None where no definition has this number.
     pub fn place(&self, id: Id) -> Option<usize>
         ensures placed { (place : ℕ) → (result ≡ Some place) ↔ (slice_get (order_of self.now) place ≡ Some id) }
         ensures computed { result ≡ place_in (order_of self.now) id }
@@ -112,7 +141,7 @@ impl<'m, 'a> Names<'m, 'a> {
         self.places.get(id).copied()
     }
 
-    /// The module and the assignment of a definition.
+    /// The module in which a definition is written, and its assignment. None where no definition has this number.
     pub fn home(&self, id: Id) -> Option<(&Module<'a>, &Assignment<'a>)>
         ensures { option_map (λ p. record { home = module_view p.0.now; assignment = assignment_view p.1.now }) result
             ≡ slice_get (definitions (modules_of self.now)) id }
@@ -122,7 +151,8 @@ impl<'m, 'a> Names<'m, 'a> {
     }
 }
 
-/// The place of the module of a definition, the module and the assignment.
+/// The place of the module of a definition, from 0, the module and the assignment. None where no definition has this
+/// number.
 pub fn home_of<'m, 'a>(
     modules: &'m [Module<'a>],
     id: Id,

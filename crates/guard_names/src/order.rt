@@ -25,18 +25,19 @@ pub struct Waiting {
 /// Definitions on their way into the order: each is listed, ready or waiting.
 #[derive(Drop)]
 pub struct Queue {
-    /// Those that are listed.
+    /// The definitions that are listed, in order.
     order: Vec<Id>,
     /// Whether each definition is listed.
     listed: Vec<bool>,
-    /// Those whose uses are all listed.
+    /// The definitions that aren't listed and whose uses all are.
     ready: BinaryHeap<Reverse<Id>>,
     /// The others, by the definition that they wait for.
     waiting: Vec<Vec<Waiting>>,
     ghost least_first: { IsHeap (λ x y. nat_cmp y.0 x.0) (heap_items ready) } by { Prim.hlevel props },
 }
 
-/// The order of definitions that use these.
+/// The order of definitions, each of which uses the listed ones. Condition: each use is one of the definitions, and
+/// none uses itself, directly or through others. Fails only where memory runs out.
 pub fn order(alloc: Global, uses: &[Vec<Id>]) -> Result<Vec<Id>, AllocError>
     requires inside { AreInside (map (λ v. v.items) uses.now) }
     requires acyclic { (number : ℕ) → IsRecursive (UsesIn (map (λ v. v.items) uses.now)) number → ⊥ }
@@ -141,7 +142,7 @@ impl Queue {
     }
 }
 
-/// The place of the first of them, from this one on, that isn't listed.
+/// The place of the first used definition, from this place on, that isn't listed; None where all are.
 fn first_unlisted(used: &[Id], from: usize, listed: &[bool]) -> Option<usize>
     requires { (u : ℕ) → IsTrue (is_listed used.now u) → u < length listed.now }
     ensures inside { IfSome result (λ place. place < length used.now) }

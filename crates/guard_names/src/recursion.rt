@@ -18,9 +18,9 @@ use std::alloc::{AllocError, Global};
 #[derive(Clone, Copy)]
 pub enum Mark {
     New,
-    /// It is at this place of the path.
+    /// The definition is at this place of the path.
     OnPath(usize),
-    /// It is left, with all to which chains of uses lead from it.
+    /// The definition is left, with all to which chains of uses lead from it.
     Done,
 }
 
@@ -53,7 +53,8 @@ pub struct Search {
     first: Option<Id>,
 }
 
-/// The first definition that uses itself, directly or through others.
+/// The first definition that uses itself, directly or through others; None where none does. Condition: each use is one
+/// of the definitions. Fails only where memory runs out.
 pub fn first_recursive(alloc: Global, uses: &[Vec<Id>]) -> Result<Option<Id>, AllocError>
     requires { AreInside (map (λ v. v.items) uses.now) }
     ensures { IfOk result (λ first. MatchOption first ((number : ℕ) → IsRecursive (UsesIn (map (λ v. v.items) uses.now))

@@ -27,7 +27,7 @@ use crate::uses::uses;
 use guard_syntax::Module;
 use std::alloc::{AllocError, Global};
 
-/// How many modules there may be.
+/// The most modules that a schema may have.
 pub const MOST_MODULES: usize = 64;
 
 /// What the names in these modules mean, or the first fault of names in this order, each in module and text order: more

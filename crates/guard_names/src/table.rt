@@ -53,7 +53,8 @@ fn number_in(scope: Option<Home>) -> Option<usize>
 impl<'m, 'a> Table<'m, 'a> {
     ghost use Rattle.guard_names.specs.TableViews.{module_number, origin_in};
 
-    /// The table of declarations. A name that is declared twice is refused.
+    /// The table of the modules' declarations. A name that is declared twice is refused with Duplicate at its second
+    /// site; OutOfMemory may come in place of any answer.
     pub fn of(
         alloc: Global,
         modules: &'m [Module<'a>],
@@ -78,7 +79,7 @@ impl<'m, 'a> Table<'m, 'a> {
         Ok(Table { modules, origins })
     }
 
-    /// The number of the module of this name.
+    /// The number of the module of this name; None where no module has it.
     pub fn number_of(&self, home: &[u8]) -> Option<usize>
         ensures { result ≡ module_number (map module_view self.now.modules.now) home.now }
     {
@@ -101,7 +102,8 @@ impl<'m, 'a> Table<'m, 'a> {
         self.origins.get(&Key { scope, name }).copied()
     }
 
-    /// The definition in which a name is assigned in the module of this number, if it is there.
+    /// The definition in which a name is assigned in the module of this number; None where it isn't assigned there, or
+    /// there is no such module.
     pub fn assigned(&self, number: Option<usize>, name: &[u8]) -> Option<Id>
         ensures { (home : List ℕ) → number ≡ module_number (map module_view self.now.modules.now) home →
             result ≡ assigned_number (origin_in self.now (Some home) name.now) }
@@ -114,7 +116,8 @@ impl<'m, 'a> Table<'m, 'a> {
         }
     }
 
-    /// The definition in which a name is assigned in the module of this number, if it is there and exports the name.
+    /// The definition in which a name is assigned in the module of this number, if the module exports the name; else,
+    /// and where there is no such module, None.
     pub fn exported(&self, number: Option<usize>, name: &[u8]) -> Option<Id>
         ensures { (home : List ℕ) → number ≡ module_number (map module_view self.now.modules.now) home →
             result ≡ exported_number (origin_in self.now (Some home) name.now) }

@@ -18,8 +18,8 @@ use crate::table::Table;
 use guard_syntax::{Assignment, Module, SymbolKind, SymbolTree};
 use std::alloc::Global;
 
-/// The definitions that each definition uses, in module and text order. Refused are an exported name that isn't
-/// assigned and the name of a type that means nothing.
+/// The definitions that each definition uses, in module and text order. An exported name that isn't assigned, and the
+/// name of a type that means nothing, are refused with Undefined; OutOfMemory may come in place of any answer.
 pub fn uses<'a>(
     alloc: Global,
     modules: &[Module<'a>],

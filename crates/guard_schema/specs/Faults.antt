@@ -31,7 +31,7 @@ pub data AbstractFault : Type 0 where
 abbrev pub Outcome : Type 0 → Type 0
 Outcome A = Result A AbstractFault
 
--- It is a fault, and not that memory ran out, where `named` is what a layer's refusal names.
+-- A layer's refusal is a fault, and not that memory ran out, where `named` is what the refusal names.
 abbrev pub IsNamed : {F : Type 0} → (F → Option F) → F → Type 0
 IsNamed named f = named f ≡ Some f
 

@@ -1,14 +1,12 @@
 -- What is known where a definition is built: what names mean there, of what is built before it.
-use Rattle.std.specs.Prelude.{ℕ, Bool, List, [], ◌∷◌, ◌++◌, map, Option, Some, None, IfSome, IsTrue, slice_get, bytes_eq}
-use Rattle.std.specs.Prelude.{if◌then◌else◌}
-use Rattle.std.specs.List.{list_any}
+use Rattle.std.specs.Prelude.{ℕ, List, [], ◌∷◌, ◌++◌, map, Option, Some, None, IfSome, IsTrue, slice_get}
 use Rattle.std.specs.Option.{option_and_then}
 use Rattle.guard_model.specs.AbstractType.{AbstractType}
 use Rattle.guard_model.specs.AbstractValue.{AbstractValue}
 use Rattle.guard_der.specs.Fits.{fits}
 use Rattle.guard_der.specs.Sound.{is_sound}
 use Rattle.guard_syntax.specs.Trees.{WrittenModule}
-use Rattle.guard_names.specs.Declarations.{Definition, definitions}
+use Rattle.guard_names.specs.Declarations.{Definition}
 use Rattle.guard_tagging.specs.Types.{Surroundings}
 use Rattle.guard_tagging.specs.Skeletons.{AreSurroundings}
 use Rattle.guard_values.specs.Meanings.{Governed, Meaning}
@@ -72,18 +70,10 @@ visible k home = record {
 
 -- ---- a value that stands alone, as if it were written in the module of a name (X.680 14.1)
 
--- whether the module has a definition
-abbrev pub has_definition : List WrittenModule → List ℕ → Bool
-has_definition modules home = list_any (λ d. bytes_eq home d.home.name) (definitions modules)
-
--- no name means a value
-abbrev pub no_values : Meaning
-no_values name = None
-
--- What values names mean there: those that they mean in the definitions of the module. Where it has none nothing can be
--- written, and no name means a value.
+-- What values names mean there. A module that has no definition may import some, and in one that isn't there no name
+-- means a value.
 abbrev pub values_in : Known → List ℕ → Meaning
-values_in k home = if has_definition k.modules home then (visible k home).values else no_values
+values_in k home = (visible k home).values
 
 -- ---- tags
 

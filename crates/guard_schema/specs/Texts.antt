@@ -21,7 +21,7 @@ pub record IsModuleText (place : ℕ) (text : List ℕ) (tree : WrittenModule) :
   pub written : IsWritten tree (lexemes_of text tokens)
   pub sites : HasSites tree (sites_of tokens)
 
--- It is cut into tokens that write no tree, and the fault names one of them, or the end of the text.
+-- The text is cut into tokens that write no tree, and the fault names one of them, or the end of the text.
 pub record WritesNothing (place : ℕ) (text : List ℕ) (fault : SyntaxFault) : Type 0 where
   pub tokens : List Token
   pub lexes : Lexes place text tokens

@@ -17,28 +17,36 @@ use thiserror::Error;
 /// itself. OutOfMemory may come in place of any answer, and no other variant means it.
 #[derive(Debug, Drop, Error)]
 pub enum SchemaFault {
+    /// L1 to L7: a text has no tokens (X.680 clause 12).
     #[error("{0}")]
     Lex(LexFault),
+    /// P1 to P3: the tokens of a text are no module (X.680 clause 13).
     #[error("{0}")]
     Syntax(SyntaxFault),
+    /// N1 to N7: a name in the modules is declared twice, means nothing, or is that of a definition which uses itself;
+    /// or there are more than 64 texts (X.680 13.1).
     #[error("{0}")]
     Name(NameFault),
+    /// G1 to G12: tags, parts or numbers of a written type are wrong (X.680 clauses 19 to 31).
     #[error("{0}")]
     Tag(TagFault),
-    /// Two components or alternatives that must differ in their tags share one, in the definition whose name is there.
-    /// Their names and the tag are beside the clash.
+    /// S1: two components or alternatives that must differ in their tags share one (X.680 25.6, 27.3, 29.3), in the
+    /// definition whose name is there. Their names and the tag are beside the clash.
     #[error("S1 Clash {0} {way} {first} {second}", way = PathText(&.1.path), first = .1.first, second = .1.second)]
     Clash(Site, Clash, Option<InCommon>),
+    /// C1 to C10: a constraint isn't lawful on its type (X.680 clauses 49 to 51).
     #[error("{0}")]
     Cons(ConsFault),
+    /// V1 to V8: a written value denotes no value of its type (X.680 clause 17).
     #[error("{0}")]
     Value(ValueFault),
-    /// The default or the assigned value that is there is no member of its type.
+    /// S2: the default or the assigned value that is there is no member of its type.
     #[error("S2 DefaultOutside {0}")]
     DefaultOutside(Site),
-    /// With the definition of the name there, constraints, values and contained types are more than 100,000.
+    /// S3: with the definition of the name there, constraints, values and contained types are more than 100,000.
     #[error("S3 TooLarge {0}")]
     TooLarge(Site),
+    /// Memory ran out. Nothing is said of the texts.
     #[error("OutOfMemory")]
     OutOfMemory,
 }

@@ -328,7 +328,7 @@ fn with_done(comp: Comp, filling: Filling) -> Result<Filling, AllocFailed<Comp>>
     Ok(Filling { done, left })
 }
 
-/// Its type's constraints, and then its default.
+/// A component with the constraints of its type filled in, and then its default.
 #[cycle(finishing)]
 fn finished_component(
     alloc: Global,

@@ -46,7 +46,7 @@ impl TypeIndex {
         Ok(TypeIndex { homes })
     }
 
-    /// The place of the type to which the module of this name assigns a name.
+    /// The place of the type to which the module of this name assigns a name; None where it assigns no type to it.
     pub fn find(&self, home: &[u8], name: &[u8]) -> Option<usize>
         ensures { result ≡ place_in self.now home.now name.now }
     {

@@ -1,18 +1,19 @@
 //! Laws of schemas, over the definitions alone. Each is carried by a function that does nothing when it runs.
-ghost use Rattle.std.specs.Prelude.{◌≡◌, ℕ, List, Some, map};
-ghost use Rattle.guard_model.specs.AbstractType.{AbstractType};
+ghost use Rattle.std.specs.Prelude.{◌≡◌, ℕ, List, None, map};
+ghost use Rattle.guard_names.specs.Faults.{AreFaultless};
+ghost use Rattle.guard_names.specs.Meanings.{Means};
+ghost use Rattle.guard_names.specs.Places.{place_in};
 ghost use Rattle.guard_schema.specs.Accepts.{Denotes, Knows};
 ghost use Rattle.guard_schema.specs.EachType.{HaveTheirTypes};
 ghost use Rattle.guard_schema.specs.FinishedSound.{AreSound};
-ghost use Rattle.guard_schema.specs.Known.{Known, values_in, visible};
+ghost use Rattle.guard_schema.specs.Known.{Known, built_at, governed, values_in};
 ghost use Rattle.guard_schema.specs.OneAnswer.{IsDecided};
-ghost use Rattle.guard_schema.specs.Schemas.{schema_of};
 ghost use Rattle.guard_schema.specs.Unfinished.{IsBareAgain, IsTaggedAgain};
 
 use guard_constraints::laws::{law_one_constraint, law_one_fault};
 
-/// Texts denote one schema at most, and then they have no fault. They have one first fault at most, but where the
-/// parser finds none of its trees it may name one token or another of that text.
+/// Texts denote one schema at most, and then they have no fault. They have one first fault at most, but where no tree
+/// of the grammar has the tokens of a text, the fault may name one token or another of that text.
 pub fn law_one_schema(texts: &[&[u8]])
     ensures { IsDecided (Denotes (map (λ t. t.now) texts.now)) }
 {
@@ -29,10 +30,14 @@ pub fn law_one_known(texts: &[&[u8]])
     law_one_fault();
 }
 
-/// In a value that stands alone, names mean what they mean in the module, where that has a type of the schema.
+/// In a value that stands alone a name means what it means in the module, whether that defines the name or imports it:
+/// what is built of the definition that the name means, if that is a value, and nothing where the name means none.
 pub fn law_values_in()
-    ensures { (k : Known) (home name : List ℕ) (t : AbstractType) → (schema_of k).types home name ≡ Some t
-        → values_in k home ≡ (visible k home).values }
+    ensures meant { (k : Known) (home name : List ℕ) (number : ℕ) → AreFaultless k.modules
+        → Means k.modules home name number
+        → values_in k home name ≡ governed (built_at k.built (place_in k.order number)) }
+    ensures none { (k : Known) (home name : List ℕ) → ((number : ℕ) → Means k.modules home name number → ⊥)
+        → values_in k home name ≡ None }
 {}
 
 /// A finished type is what tags and parts make of its tree, and besides only what its tree fills in: without the

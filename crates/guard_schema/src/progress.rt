@@ -19,15 +19,15 @@ use std::sync::Arc;
 /// What is built of one definition.
 #[derive(Drop)]
 pub struct Definition {
-    /// Its type, or the governor of its value.
+    /// The type that is assigned, or the governor of the value that is (X.680 16.1, 16.2).
     pub ty: Ty,
     /// The value of a value assignment.
     pub value: Option<Arc<Value>>,
-    /// Whether its list of components or alternatives was tagged automatically, where it has one.
+    /// Whether the type's list of components or alternatives was tagged automatically, where there is one.
     pub is_automatic: bool,
-    /// The types that it and the definitions before it are made of.
+    /// How many types this definition and those before it are made of.
     pub nodes: usize,
-    /// The constraints, values and contained types that it and the definitions before it hold.
+    /// How many constraints, values and contained types this definition and those before it hold.
     pub held: usize,
 }
 

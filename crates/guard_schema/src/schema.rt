@@ -54,10 +54,10 @@ impl Schema {
         // The schema that the texts denote is answered, unless memory runs out.
         ensures only { (s : AbstractSchema) → Accepts (map (λ t. t.now) texts.now) s →
             Gives schema_view named result (Ok s) }
-        // It has a type for each definition in the texts that assigns one, the finished type of what its tree denotes,
-        // and no others.
+        // The schema has a type for each definition in the texts that assigns one, the finished type of what its tree
+        // denotes, and no others.
         ensures types { IfOk result (λ schema. HasTypesOf (map (λ t. t.now) texts.now) (schema_view schema)) }
-        // Each of its types is sound.
+        // Each type of the schema is sound.
         ensures sound { IfOk result (λ schema. (home name : List ℕ) →
             IfSome ((schema_view schema).types home name) (λ t. IsTrue (is_sound t))) }
     {
@@ -65,7 +65,9 @@ impl Schema {
         schema_of(alloc, texts)
     }
 
-    /// The type to which the module of this name assigns a name. It is sound.
+    /// The type to which the module of this name assigns the name (X.680 16.1), with its constraints and defaults. The
+    /// type is sound. None where no module has this name, or where the module assigns no type to the name: the name may
+    /// be that of a value, or imported, and a type that is imported is found by the module that assigns it.
     pub fn ty(&self, module_name: &str, name: &str) -> Option<&Ty>
         ensures named { option_map (λ ty. model.type_view ty.now) result
             ≡ (schema_view self.now).types module_name.now name.now }
@@ -75,7 +77,8 @@ impl Schema {
         self.known.types.get(place)
     }
 
-    /// The name of the module at this place of the list of texts, from 1.
+    /// The name of the module that the text at this place of the list is (X.680 13.1), from 1 as in sites. None for 0
+    /// and for places behind the last text.
     pub fn module(&self, text: u32) -> Option<&str>
         ensures { option_map (λ name. name.now) result ≡ module_named (schema_view self.now) text }
     {

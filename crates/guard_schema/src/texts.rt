@@ -13,8 +13,9 @@ use guard_syntax::Module;
 use guard_tagging::laws::law_spelled;
 use std::alloc::Global;
 
-/// The modules of texts. More than 64 texts are refused before any is read (N7); then each is read whole before the
-/// next one, its tokens (L1 to L7) and how they follow one another (P1 to P3).
+/// The modules that texts are (X.680 13.1), in the order of the texts, each the text of one. More than 64 texts are
+/// refused before any is read (N7); then each is read whole before the next one, its tokens (L1 to L7) and how they
+/// follow one another (P1 to P3). OutOfMemory may come in place of any answer.
 pub fn read_modules<'a>(alloc: Global, texts: &[&'a [u8]]) -> Result<Vec<Module<'a>>, SchemaFault>
     // What is answered is what the texts are, or a refusal names their first fault.
     ensures read { Answers (λ v. map module_view v.items) named result (ReadsModules (map (λ t. t.now) texts.now)) }

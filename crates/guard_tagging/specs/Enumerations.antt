@@ -47,7 +47,7 @@ numbered items = numbered_from (written_numbers items) (length items) 0 items
 abbrev pub is_among : List ℤ → ℤ → Bool
 is_among taken number = list_any (int_eq number) taken
 
--- it isn't negative, it isn't taken, and each number from 0 up to it is
+-- the number isn't negative, it isn't taken, and each number from 0 up to it is
 abbrev pub IsLeastFree : List ℤ → ℤ → Type 0
 IsLeastFree taken number =
     (n : ℕ) × (number ≡ pos n) × (is_among taken (pos n) ≡ false) × ((m : ℕ) → m < n → is_among taken (pos m) ≡ true)

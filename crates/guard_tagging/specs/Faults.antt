@@ -70,16 +70,19 @@ most_nodes = 100000
 -- ---- tags
 
 abbrev pub is_universal : Option TagClass → Bool
+is_universal None = false
 is_universal (Some word.Universal) = true
-is_universal _ = false
+is_universal (Some word.Application) = false
+is_universal (Some word.Private) = false
 
 abbrev pub universal_tag : List WrittenTag → Option TagFault
 universal_tag [] = None
 universal_tag (w ∷ ws) = option_or (fault_where (is_universal w.class) (UniversalTag w.site)) (universal_tag ws)
 
 abbrev pub is_implicit : Option TagMode → Bool
+is_implicit None = false
 is_implicit (Some mode.Implicit) = true
-is_implicit _ = false
+is_implicit (Some mode.Explicit) = false
 
 -- IMPLICIT on a CHOICE that has no tag (31.2.9). A tag before another one is on a type that has a tag.
 abbrev pub implicit_choice : AbstractType → List WrittenTag → Option TagFault
@@ -104,8 +107,9 @@ is_of_kind collection (type_of tags kind cons) = is_kind_of collection kind
 
 -- one universal tag, as a type has that isn't tagged
 abbrev pub is_plain_tag : List Tag → Bool
+is_plain_tag [] = false
 is_plain_tag (t ∷ []) = nat_eq (class_rank t.class) 0
-is_plain_tag _ = false
+is_plain_tag (t ∷ u ∷ ts) = false
 
 abbrev pub is_tagged : AbstractType → Bool
 is_tagged (type_of tags kind cons) = not (is_plain_tag tags)
@@ -114,7 +118,7 @@ is_tagged (type_of tags kind cons) = not (is_plain_tag tags)
 abbrev pub takes_other_kind : Surroundings → Collection → WrittenType → Bool
 takes_other_kind around kind t = not (is_of_kind kind (denoted around t))
 
--- its own list, or the one that it takes in, is tagged automatically
+-- COMPONENTS OF in a list that is tagged automatically, or of such a list
 abbrev pub takes_automatic : Surroundings → Bool → WrittenType → Bool
 takes_automatic around automatic t = automatic || is_automatic around t
 
@@ -149,8 +153,9 @@ pub record Placed : Type 0 where
   pub number : Option ℤ
 
 abbrev pub same_number : Option ℤ → Option ℤ → Bool
+same_number None b = false
+same_number (Some a) None = false
 same_number (Some a) (Some b) = int_eq a b
-same_number _ _ = false
 
 abbrev pub clash_with : Placed → Placed → Bool
 clash_with a b = bytes_eq a.name b.name || same_number a.number b.number
@@ -257,8 +262,8 @@ own_fault around automatic count (type_node site tags base cons) =
     ∷ fault_where (nat_lt most_nodes count) (SchemaTooLarge site)
     ∷ number_fault base ∷ [])
 
--- How many types COMPONENTS OF puts in: those inside its type, not that type itself; of a type that it may not take in
--- it puts in none.
+-- How many types COMPONENTS OF puts in: those inside its type, not that type itself, and none of a type that may not be
+-- taken in.
 abbrev pub nodes_put_in : Surroundings → Collection → Bool → WrittenType → ℕ
 nodes_put_in around kind automatic t =
     if takes_wrongly around kind automatic t then 0 else nodes_within (denoted around t)

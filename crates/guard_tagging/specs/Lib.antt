@@ -2,6 +2,7 @@
 pub mod Tagging
 pub mod Enumerations
 pub mod Types
+pub mod KnownNames
 pub mod Faults
 pub mod Tagged
 -- the refusals that name a fault, and what the code reads step by step

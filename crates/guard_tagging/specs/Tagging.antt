@@ -57,11 +57,11 @@ with_tags default (w ∷ ws) t = with_tag default w (with_tags default ws t)
 abbrev pub automatic_tag : ℕ → Tag
 automatic_tag number = record { class = class.Context; number = number }
 
--- it has no word, so it is implicit, but explicit on an untagged CHOICE
+-- An automatic tag has no word, so that it is implicit, but explicit on an untagged CHOICE.
 abbrev pub with_automatic_tag : Tag → AbstractType → AbstractType
 with_automatic_tag tag t = put_tag (is_untagged_choice t) tag t
 
--- those of components, from this number on
+-- components with automatic tags, whose numbers begin with this one
 abbrev pub with_automatic_tags : ℕ → Components → Components
 with_automatic_tags number no_components = no_components
 with_automatic_tags number (component name t presence cs) =

@@ -41,7 +41,8 @@ universal_tag n = record { class = Universal; number = n }
 abbrev pub universal : ℕ → List Tag
 universal n = universal_tag n ∷ []
 
--- What a name means. One that means nothing is a fault of names, so that it doesn't matter what is said here.
+-- What a name means. No type comes of a written type with a name that means nothing, and no fault either (`IsTagged` and
+-- `IsFirstFault` ask for `IsKnown`), so what is said here of such a name is never used.
 abbrev pub meant : Option Meaning → AbstractType
 meant (Some m) = m.ty
 meant None = type_of (universal 5) type.null type.no_constraints

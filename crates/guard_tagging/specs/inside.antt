@@ -9,4 +9,3 @@ pub mod ReadParts
 pub mod PartViews
 pub mod ReadBases
 pub mod ReadTypes
-pub mod KnownNames

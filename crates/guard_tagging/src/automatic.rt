@@ -9,7 +9,7 @@ ghost use Rattle.guard_tagging.specs.Types as types;
 use crate::scope::Scope;
 use guard_syntax::{AlternativeTree, BaseTree, CompForm, CompTree, TagDefault, TypeTree};
 
-/// Whether the list of components that the type is, or names, is tagged automatically.
+/// Whether the type is a list of components or alternatives that is tagged automatically, or a name that means one.
 pub fn is_automatic(scope: &Scope, base: &BaseTree) -> bool
     ensures { result ≡ types.is_automatic_base (scope_view scope.now) (written.base_view base.now) }
 {
@@ -41,6 +41,7 @@ pub fn is_automatic_list(default: TagDefault, comps: &[CompTree]) -> bool
     is_automatic_default(default) && !has_tagged_component(comps)
 }
 
+/// Whether the alternatives get automatic tags: under AUTOMATIC TAGS, where no alternative's type begins with a tag.
 pub fn is_automatic_choice(default: TagDefault, alternatives: &[AlternativeTree]) -> bool
     ensures { result
         ≡ types.is_automatic_choice default (alternatives_of (map written.alternative_view alternatives.now)) }
@@ -65,7 +66,7 @@ fn has_tagged_component(comps: &[CompTree]) -> bool
     false
 }
 
-/// The type after COMPONENTS OF doesn't count.
+/// Whether an entry of a list is a component whose type begins with a tag. The type after COMPONENTS OF doesn't count.
 fn is_tagged_component(form: &CompForm) -> bool
     ensures { result ≡ reading.is_tagged_entry (written.component_form_view form.now) }
 {

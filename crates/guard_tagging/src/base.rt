@@ -178,8 +178,8 @@ pub fn of_type(
     Ok(new_type(alloc, whole, kind)?)
 }
 
-/// A copy of a type that a name means, with the tags that are written before the name. It is copied once it is known to
-/// keep the limits.
+/// A copy of a type that a name means, with the tags that are written before the name. The type is copied once it is
+/// known to keep the limits.
 pub fn referred_to(
     alloc: Global,
     node: &Node,
@@ -215,7 +215,7 @@ fn copied(alloc: Global, whole: Whole, ty: &Ty) -> Result<Box<Made>, TagFault>
     )?)
 }
 
-/// Whether it is a CHOICE that has no tag.
+/// Whether a type is a CHOICE that has no tag.
 fn is_untagged_choice(ty: &Ty) -> bool
     ensures { result ≡ tagging.is_untagged_choice (model.type_view ty.now) }
 {

@@ -30,16 +30,22 @@ use std::alloc::{AllocError, Global};
 #[derive(Drop)]
 pub struct TaggedType {
     pub ty: Ty,
-    /// Whether it is a list of components or alternatives that is tagged automatically.
+    /// Whether the type is a list of components or alternatives that is tagged automatically.
     pub is_automatic: bool,
-    /// How many types it and the definitions before it are made of.
+    /// How many types this one and those of the definitions before it are made of, at most 100,000.
     pub nodes: usize,
 }
 
-/// The type of a definition with its tags, its parts and their numbering, or the first fault of its written type; of a
-/// value the type that governs it. `done` are the types of the definitions before it in the order of definitions. A new
-/// type has no constraints yet, and what is a default is pending; a type that is referred to keeps what it has. The
-/// answer may be OutOfMemory in place of any other.
+/// The type of a definition with its tags, its parts and their numbering (X.680 clauses 18 to 32 and 41); of a value
+/// the type that governs it. `done` are the types of the definitions before it in `Names::order`. A new type has no
+/// constraints yet, and its defaults are pending; a type that is referred to keeps what it has.
+///
+/// Conditions: `id` is the definition that comes next in that order after those of `done`; each type of `done` keeps
+/// the limits that `guard_tagcheck::is_within_limits` tests, and all are made of at most 100,000 types; the names in
+/// the modules are texts and the numbers are below 2^128, as in what the parser answers (`law_spelled`).
+///
+/// The error is one of the faults G1 to G12 of [`TagFault`]: parts come before the whole, in written order, and of one
+/// type's faults the first by number counts. OutOfMemory may come in place of any answer.
 pub fn skeleton(alloc: Global, names: &Names, done: &[Ty], id: Id) -> Result<Ty, TagFault>
     requires next { slice_get (order_of names.now) (length done.now) ≡ Some id }
     requires few { nodes_of_all (map type_view done.now) ≤ faults.most_nodes }
@@ -64,8 +70,11 @@ pub fn skeleton(alloc: Global, names: &Names, done: &[Ty], id: Id) -> Result<Ty,
     Ok(ty)
 }
 
-/// What `skeleton` answers, and what a build keeps of the definition beside its type. What it keeps of the definitions
-/// before it is handed in, so that it isn't looked for again for each definition.
+/// What `skeleton` answers, and what a build keeps of the definition beside its type. What is kept of the definitions
+/// before it is handed in as `done`, so that it isn't looked for again for each definition.
+///
+/// Conditions and errors are those of `skeleton`. Besides, `done` says of each definition before this one whether it is
+/// a list that is tagged automatically, and how many types all of them are made of.
 pub fn skeleton_after(
     alloc: Global,
     names: &Names,
@@ -124,7 +133,8 @@ fn scope_in<'s, 'm, 'a, 'd>(
     }
 }
 
-/// Which of the definitions are lists that are tagged automatically, in their order; of as many as there are types.
+/// Whether each of the first definitions in their order, as many as there are types, is a list that is tagged
+/// automatically.
 fn automatic_lists(alloc: Global, names: &Names, types: &[Ty]) -> Result<Vec<bool>, AllocError>
     requires { length types.now ≤ length (order_of names.now) }
     ensures { IfOk result (λ v. AreMeanings (modules_of names.now) (order_of names.now) (map type_view types.now)
@@ -155,7 +165,7 @@ fn is_automatic_definition(names: &Names, done: Done, id: Id) -> bool
     }
 }
 
-/// How many types these are made of. What is too many counts as one more than is allowed.
+/// How many types these are made of; 100,001 where there are more than 100,000.
 fn nodes_of(types: &[Ty]) -> usize
     ensures { result ≡ min (nodes_of_all (map type_view types.now)) 100001 }
 {

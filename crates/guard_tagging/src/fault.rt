@@ -3,8 +3,8 @@ use guard_model::{OutOfMemory, Site};
 use std::alloc::{AllocError, AllocFailed};
 use thiserror::Error;
 
-/// Why a written type has no tags and parts. Each names a place of the text, but the one that says that memory ran out,
-/// which may come in place of any other answer.
+/// Why a written type has no tags and parts. Each fault names a place of the text, but the one that says that memory
+/// ran out, which may come in place of any other answer.
 #[derive(Debug, Drop, Error)]
 pub enum TagFault {
     /// A tag of the universal class is written: at its bracket.

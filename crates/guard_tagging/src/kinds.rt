@@ -17,6 +17,7 @@ pub fn universal(number: u32) -> Tag
     }
 }
 
+/// The number of the universal tag of a type that is written with words alone (X.680 8.4).
 pub fn plain_number(plain: PlainType) -> u32
     ensures { result ≡ types.plain_number plain }
 {
@@ -33,6 +34,7 @@ pub fn plain_number(plain: PlainType) -> u32
     }
 }
 
+/// The number of the universal tag of SEQUENCE and SEQUENCE OF, or of SET and SET OF (X.680 8.4).
 pub fn collection_number(collection: Collection) -> u32
     ensures { result ≡ types.collection_number collection }
 {
@@ -59,6 +61,7 @@ pub fn plain_kind(plain: PlainType) -> Kind
     }
 }
 
+/// SEQUENCE or SET with these components.
 pub fn structure_kind(collection: Collection, comps: Vec<Comp>) -> Kind
     ensures { model.kind_view result
         ≡ types.structure_kind collection (model.components_of (map model.component_view comps.items)) }
@@ -69,6 +72,7 @@ pub fn structure_kind(collection: Collection, comps: Vec<Comp>) -> Kind
     }
 }
 
+/// SEQUENCE OF or SET OF this type.
 pub fn of_kind(collection: Collection, element: Box<Ty>) -> Kind
     ensures { model.kind_view result ≡ types.of_kind collection (model.type_view element.value) }
 {
@@ -78,7 +82,8 @@ pub fn of_kind(collection: Collection, element: Box<Ty>) -> Kind
     }
 }
 
-/// A default isn't known yet.
+/// What a component's presence is by what is written after its type. A default is pending, since its value isn't known
+/// yet.
 pub fn presence_of(presence: &PresenceTree) -> Presence
     ensures { model.presence_view result ≡ types.presence_of (written.presence_view presence.now) }
 {

@@ -13,9 +13,9 @@ pub struct Node<'t> {
     pub tags: &'t [TagTree<'t>],
     /// The tag default of its module.
     pub tag_default: TagDefault,
-    /// Whether it counts as a type. The type after COMPONENTS OF doesn't.
+    /// Whether this counts as a type. The type after COMPONENTS OF doesn't.
     pub counts: bool,
-    /// The tag that it gets as a component or alternative of a list that is tagged automatically.
+    /// The tag that the type gets as a component or alternative of a list that is tagged automatically.
     pub automatic: Option<Tag>,
 }
 
@@ -24,7 +24,7 @@ pub struct Node<'t> {
 pub struct Whole {
     pub tags: Vec<Tag>,
     pub nesting: usize,
-    /// The types up to it and with it, over all definitions.
+    /// How many types there are up to this one and with it, over all definitions.
     pub nodes: usize,
     ghost shallow: { nesting ≤ 32 },
 }
@@ -34,33 +34,34 @@ pub struct Whole {
 pub struct Made {
     pub ty: Ty,
     pub nesting: usize,
-    /// The types up to it and with it, over all definitions.
+    /// How many types there are up to this one and with it, over all definitions.
     pub nodes: usize,
     ghost shallow: { nesting ≤ 32 },
 }
 
-/// Where COMPONENTS OF took in what it may not, the first of a list in each regard: at its word.
+/// Where a list takes in, by COMPONENTS OF, what it may not: of each fault the first place, that of the word
+/// COMPONENTS.
 #[derive(Clone, Copy)]
 pub struct Refused {
-    /// It is no SEQUENCE, in a SET no SET.
+    /// What is taken in is no SEQUENCE, in a SET no SET.
     pub kind: Option<Site>,
-    /// It, or the list that it is put into, is tagged automatically.
+    /// What is taken in, or the list that takes it in, is tagged automatically.
     pub automatic: Option<Site>,
-    /// It has a tag of its own.
+    /// What is taken in has a tag of its own.
     pub tagged: Option<Site>,
 }
 
 /// Components so far.
 #[derive(Drop)]
 pub struct Parts {
-    /// The site of each: its name, or the word COMPONENTS that puts it in.
+    /// The site of each component: its name, or the word COMPONENTS that puts it in.
     pub sites: Vec<Site>,
     pub comps: Vec<Comp>,
-    /// The greatest nesting of one.
+    /// The greatest nesting of a component.
     pub deepest: usize,
-    /// The types up to their end, over all definitions.
+    /// How many types there are up to the end of the components, over all definitions.
     pub nodes: usize,
-    /// What COMPONENTS OF may not take in. It counts for nothing else.
+    /// Where COMPONENTS OF took in what it may not. What was taken in so isn't among the components.
     pub refused: Refused,
     ghost paired: { length sites.items ≡ length comps.items },
 }

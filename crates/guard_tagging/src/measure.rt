@@ -6,11 +6,10 @@ ghost use Rattle.guard_tagging.specs.Faults as faults;
 
 use guard_model::{Comp, DEEPEST_NESTING, Kind, Ty};
 
-/// Types over all definitions.
+/// The most types that all definitions may be made of.
 pub const MOST_NODES: usize = 100000;
 
-/// How deep the parts of a kind are nested, a CHOICE one level deeper. What is too deep counts as one level more than
-/// is allowed.
+/// How deep the parts of a kind are nested, those of a CHOICE one level deeper; 33 where that is more than 32.
 #[cycle(nesting)]
 pub fn nesting_inside(kind: &Kind) -> usize
     ensures { result ≡ min (limits.nesting_inside (kind_view kind.now)) 33 }
@@ -43,7 +42,7 @@ fn deepest(comps: &[Comp]) -> usize
     deepest
 }
 
-/// How many types there are, those in this kind after the ones before them. Too many count as one more than is allowed.
+/// How many types there are with those in this kind, after `before` others; 100,001 where there are more than 100,000.
 #[cycle(counting)]
 pub fn nodes_inside(kind: &Kind, before: usize) -> usize
     ensures { result ≡ min (before + faults.nodes_inside (kind_view kind.now)) 100001 }
@@ -55,8 +54,8 @@ pub fn nodes_inside(kind: &Kind, before: usize) -> usize
     }
 }
 
-/// How many types there are, those that this one is made of, itself among them, after the ones before them. Too many
-/// count as one more than is allowed.
+/// How many types there are with those that this one is made of, itself among them, after `before` others; 100,001
+/// where there are more than 100,000. Types inside constraints don't count.
 #[cycle(counting)]
 pub fn nodes(ty: &Ty, before: usize) -> usize
     ensures { result ≡ min (before + faults.nodes (type_view ty.now)) 100001 }

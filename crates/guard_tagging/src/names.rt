@@ -22,7 +22,7 @@ pub struct Placed<'a> {
     pub number: Option<(bool, u128)>,
 }
 
-/// The site of the first that has the name or the number of one before it.
+/// The site of the first entry that has the name or the number of one before it; None where there is no such one.
 pub fn first_repeated(alloc: Global, all: &[Placed]) -> Result<Option<Site>, AllocError>
     ensures { IfOk result (λ site. site ≡ repeated [] (map place_view all.now)) }
 {
@@ -61,7 +61,7 @@ pub fn name_text(alloc: Global, octets: &[u8]) -> Result<String, AllocError>
     String::from_utf8_lossy(alloc, octets)
 }
 
-/// The places of components, each at its site.
+/// The names of components, each at its site. Condition: there are as many sites as components.
 pub fn component_places<'a>(
     alloc: Global,
     sites: &[Site],
@@ -81,7 +81,7 @@ pub fn component_places<'a>(
     Ok(places)
 }
 
-/// The places of named numbers.
+/// The names of named numbers or named bits, with their sites and numbers.
 pub fn named_places<'a>(
     alloc: Global,
     trees: &[NamedTree<'a>],
@@ -99,7 +99,7 @@ pub fn named_places<'a>(
     Ok(places)
 }
 
-/// The places of items.
+/// The names of items, with their sites and the numbers that are written.
 pub fn item_places<'a>(alloc: Global, trees: &[ItemTree<'a>]) -> Result<Vec<Placed<'a>>, AllocError>
     ensures { IfOk result (λ v. map place_view v.items ≡ map item_place (map written.item_view trees.now)) }
 {
@@ -124,7 +124,8 @@ fn item_placed<'a>(tree: &ItemTree<'a>) -> Placed<'a>
     }
 }
 
-/// Each integer has one key. One with more than 128 bits, which no token has, has the key of the greatest.
+/// A key by which integers are compared: whether the integer is below 0, and how far from 0, or from -1, it is. One
+/// with more than 128 bits, which no token has, has the key of the greatest.
 fn key(number: &NumberTree) -> (bool, u128)
     ensures { signed_key result ≡ near_number (number_view number.now) }
 {

@@ -28,7 +28,8 @@ pub fn tags_of(
     with_written(alloc, node, base)
 }
 
-/// A type with these tags; `inside` is how deep its parts are nested, `before` the number of types before it.
+/// A type with these tags; `inside` is how deep its parts are nested, `before` the number of types before it. TooDeep
+/// above 32 levels, SchemaTooLarge above 100,000 types, at the type's first token.
 #[tactic(auto, unfolding(crate::specs::inside::ReadNodes::whole_with))]
 pub fn whole_with(
     node: &Node,
@@ -50,7 +51,7 @@ pub fn whole_with(
     })
 }
 
-/// The types up to this one and with it.
+/// How many types there are up to this one and with it.
 #[tactic(auto, unfolding(crate::specs::inside::ReadNodes::nodes_with))]
 fn nodes_with(node: &Node, before: usize) -> Result<usize, TagFault>
     ensures { Gives (λ n. n) named result (reading.nodes_with (node_view node.now) before) }
@@ -62,7 +63,7 @@ fn nodes_with(node: &Node, before: usize) -> Result<usize, TagFault>
     Ok(before + one)
 }
 
-/// A new type: it has no constraints of its own.
+/// A new type of this kind, without constraints.
 pub fn new_type(alloc: Global, whole: Whole, kind: Kind) -> Result<Box<Made>, AllocError>
     ensures { IfOk result (λ made. made_view made.value ≡ reading.made_with (whole_view whole) (model.kind_view kind)) }
 {

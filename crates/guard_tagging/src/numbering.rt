@@ -53,7 +53,7 @@ pub fn named_bits(alloc: Global, trees: &[NamedTree]) -> Result<Vec<Named>, TagF
     named_numbers(alloc, trees)
 }
 
-/// The number of each is one of a bit.
+/// Ok where the number of each is one from 0 to 65,535; else NumberTooLarge at the first name whose number isn't.
 fn check_bits(trees: &[NamedTree]) -> Result<(), TagFault>
     ensures { Gives (λ u. u) named result (allowed (reading.bits_fault (map written.named_view trees.now))) }
 {
@@ -65,7 +65,7 @@ fn check_bits(trees: &[NamedTree]) -> Result<(), TagFault>
     Ok(())
 }
 
-/// Whether it is a number from 0 to 65,535.
+/// Whether the number is one from 0 to 65,535.
 fn is_bit(number: &NumberTree) -> bool
     ensures { result ≡ faults.is_bit (number_of (number_view number.now)) }
 {
@@ -75,7 +75,8 @@ fn is_bit(number: &NumberTree) -> bool
     }
 }
 
-/// The number of the item or named number with the name there.
+/// The number of the item or named number whose name is at the site; NumberTooLarge there where it is outside signed
+/// 128 bits.
 fn number_at(site: Site, tree: &NumberTree) -> Result<i128, TagFault>
     ensures { Gives (λ z. z) named result (read_at site (number_view tree.now)) }
 {
@@ -95,7 +96,7 @@ pub fn items(alloc: Global, trees: &[ItemTree]) -> Result<Vec<Named>, TagFault>
     numbered(alloc, trees, &taken)
 }
 
-/// The numbers that are written with items.
+/// The numbers that are written with items, in the order of the text.
 fn written_numbers(alloc: Global, trees: &[ItemTree]) -> Result<Vec<i128>, TagFault>
     ensures { Gives (λ v. v.items) named result (read_written [] (map written.item_view trees.now)) }
 {
@@ -136,7 +137,7 @@ fn set_of(alloc: Global, numbers: &[i128]) -> Result<BTreeSet<i128>, AllocError>
     Ok(set)
 }
 
-/// Numbers the items. Those without a number get the first ones that are free, in their order.
+/// The items with their numbers. Those without a number get the first ones that are free, in their order.
 fn numbered(
     alloc: Global,
     trees: &[ItemTree],

@@ -51,7 +51,7 @@ fn place_tag(place: usize) -> Tag
     }
 }
 
-/// One component more.
+/// The parts with one component more.
 pub fn with_component(
     alloc: Global,
     parts: Box<Parts>,
@@ -76,7 +76,7 @@ fn comp_of(alloc: Global, name: &[u8], ty: Ty, presence: Presence) -> Result<Com
     Ok(Comp { name, ty, presence })
 }
 
-/// The parts with this one, which is nested so deep.
+/// The parts with this component, which is nested so deep.
 fn pushed(
     alloc: Global,
     parts: Box<Parts>,
@@ -109,7 +109,7 @@ fn pushed(
     )?)
 }
 
-/// What COMPONENTS OF puts in at its word: the components of the SEQUENCE or SET.
+/// The parts with what COMPONENTS OF puts in at its word: the components of the SEQUENCE or SET.
 pub fn with_list(
     alloc: Global,
     parts: Box<Parts>,
@@ -124,7 +124,7 @@ pub fn with_list(
     appended(alloc, parts, site, put_in, nesting.saturating_sub(1), nodes)
 }
 
-/// The parts with all these at one site, of which the deepest is nested so deep.
+/// The parts with all these components at one site, of which the deepest is nested so deep.
 fn appended(
     alloc: Global,
     parts: Box<Parts>,
@@ -181,7 +181,8 @@ fn with_sites(sites: Vec<Site>, site: Site, count: usize) -> Result<Vec<Site>, A
     Ok(sites)
 }
 
-/// A list takes in nothing that it may not, its names differ, and there are 64 parts at most.
+/// Ok where a list takes in nothing that it may not, its names differ, and it has 64 parts at most; else the first of
+/// these faults in this order.
 #[tactic(auto, unfolding(crate::specs::inside::ReadParts::check_list))]
 pub fn check_list(alloc: Global, site: Site, parts: &Parts) -> Result<(), TagFault>
     ensures { Gives (λ u. u) named result (reading.check_list site (parts_view parts.now)) }

@@ -8,11 +8,11 @@ use guard_syntax::TagDefault;
 /// The definitions that are built: the first ones in the order of definitions.
 #[derive(Clone, Copy)]
 pub struct Done<'d> {
-    /// The type of each, of a value its governor.
+    /// The type of each definition, of a value its governor.
     pub types: &'d [Ty],
-    /// Whether each is a list of components or alternatives that is tagged automatically.
+    /// Whether each of these types is a list of components or alternatives that is tagged automatically.
     pub automatic: &'d [bool],
-    /// How many types they are made of.
+    /// How many types these are made of.
     pub nodes: usize,
 }
 
@@ -20,7 +20,7 @@ pub struct Done<'d> {
 #[derive(Clone, Copy)]
 pub struct Known<'d> {
     pub ty: &'d Ty,
-    /// Whether it is a list of components or alternatives that is tagged automatically.
+    /// Whether the type is a list of components or alternatives that is tagged automatically.
     pub is_automatic: bool,
 }
 
@@ -29,7 +29,7 @@ pub struct Known<'d> {
 pub struct Scope<'s, 'm, 'a, 'd> {
     /// The tag default of the module, EXPLICIT where none is written.
     pub tag_default: TagDefault,
-    /// The definition in which it is written.
+    /// The definition in which the type is written.
     pub id: Id,
     pub names: &'s Names<'m, 'a>,
     pub done: Done<'d>,
@@ -50,7 +50,7 @@ impl<'d> Done<'d> {
 impl<'s, 'm, 'a, 'd> Scope<'s, 'm, 'a, 'd> {
     ghost use Rattle.guard_tagging.specs.ScopeView.{scope_view, meaning_view};
 
-    /// The type that a name means.
+    /// The type that a name means; None where it means nothing, or a definition that isn't among those that are built.
     pub fn referred(&self, name: &[u8]) -> Option<Known<'d>>
         ensures { option_map meaning_view result ≡ (scope_view self.now).meaning name.now }
     {

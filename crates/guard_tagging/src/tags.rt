@@ -15,7 +15,7 @@ use guard_model::{Class, GREATEST_TAG_NUMBER, Tag};
 use guard_syntax::{TagClass, TagDefault, TagMode, TagTree};
 use std::alloc::{AllocError, Global};
 
-/// No tag may be written with the word UNIVERSAL.
+/// Ok where no tag is written with the word UNIVERSAL; else UniversalTag at the bracket of the first that is.
 pub fn check_universal(written: &[TagTree]) -> Result<(), TagFault>
     ensures { Gives (λ u. u) named result (allowed (faults.universal_tag (map tag_view written.now))) }
 {
@@ -33,7 +33,8 @@ fn is_universal(class: Option<TagClass>) -> bool
     matches!(class, Some(TagClass::Universal))
 }
 
-/// No tag directly before a CHOICE that has none may have the word IMPLICIT (X.680 31.2.9).
+/// Ok unless the tag directly before a CHOICE that has none has the word IMPLICIT (X.680 31.2.9); then ImplicitChoice
+/// at the tag's bracket.
 pub fn check_implicit(written: &[TagTree], on_choice: bool) -> Result<(), TagFault>
     ensures { Gives (λ u. u) named result (allowed (implicit_last on_choice (map tag_view written.now))) }
 {

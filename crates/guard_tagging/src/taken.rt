@@ -15,9 +15,9 @@ use guard_model::{Class, Kind, Site, Tag, Ty};
 use guard_syntax::Collection;
 use std::alloc::{AllocError, Global};
 
-/// The parts with what COMPONENTS OF puts in at its word. It takes a SEQUENCE, in a SET a SET, that has no tag of its
-/// own; and neither list may be tagged automatically. What it may not take in is kept in mind, and is a fault of the
-/// list once all its parts are without one.
+/// The parts with what COMPONENTS OF puts in at its word: the components of a SEQUENCE, in a SET of a SET, that has no
+/// tag of its own; and neither list may be tagged automatically. Of what may not be taken in the place is kept, which
+/// is a fault of the list once all its parts are without one.
 pub fn take(
     alloc: Global,
     parts: Box<Parts>,
@@ -74,7 +74,7 @@ fn with_refused(
     Ok(Box::new(alloc, parts)?)
 }
 
-/// Nothing that COMPONENTS OF may not take in.
+/// No place where COMPONENTS OF took in what it may not.
 pub fn none_refused() -> Refused
     ensures { result ≡ reading.none_refused }
 {
@@ -85,7 +85,8 @@ pub fn none_refused() -> Refused
     }
 }
 
-/// The fault of a list that takes in what it may not.
+/// The fault of a list that takes in what it may not, if it does: ComponentsOfKind, else ComponentsOfAutomatic, else
+/// ComponentsOfTagged.
 pub fn check_taken(refused: Refused) -> Result<(), TagFault>
     ensures { Gives (λ u. u) named result (allowed (reading.refused_fault refused)) }
 {

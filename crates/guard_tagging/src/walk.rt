@@ -3,7 +3,7 @@ ghost use Rattle.std.specs.Prelude.{◌≡◌, map};
 ghost use Rattle.guard_model.specs.Answer.{Gives};
 ghost use Rattle.guard_syntax.specs.Trees.{structure, choice, components_of, alternatives_of};
 ghost use Rattle.guard_syntax.specs.TypeViews as written;
-ghost use Rattle.guard_tagging.specs.inside.KnownNames.{IsKnown, IsKnownInside, IsKnownForm, AreKnown, AreKnownOthers};
+ghost use Rattle.guard_tagging.specs.KnownNames.{IsKnown, IsKnownInside, IsKnownForm, AreKnown, AreKnownOthers};
 ghost use Rattle.guard_tagging.specs.Named.{named};
 ghost use Rattle.guard_tagging.specs.inside.NodeViews.{node_view, made_view};
 ghost use Rattle.guard_tagging.specs.inside.PartViews.{parts_view};
@@ -25,8 +25,8 @@ use guard_model::{Presence, Tag};
 use guard_syntax::{AlternativeTree, BaseTree, Collection, CompForm, CompTree, TypeTree};
 use std::alloc::Global;
 
-/// The type that is written, with the automatic tag that it gets; `before` is the number of types before it. The type
-/// after COMPONENTS OF doesn't count itself.
+/// The type that is written, with the automatic tag that it gets, or its first fault; `before` is the number of types
+/// before it. The type after COMPONENTS OF doesn't count itself. Condition: each type that a name in it means is known.
 #[cycle(walk)]
 #[tactic(auto, unfolding(crate::specs::inside::ReadTypes::read_type))]
 pub fn type_of(
@@ -157,7 +157,7 @@ fn components(
     Ok(parts)
 }
 
-/// The components with those of one more entry of the list.
+/// The components of a list with those of one more entry.
 #[cycle(walk)]
 fn entry(
     alloc: Global,

@@ -92,6 +92,6 @@ abbrev mutual
       × (vs ≡ v ∷ others)
   EntriesSay m t (entry site (Some name) tree rest) vs = ⊥
 
--- It has an encoding of at most 1,048,576 octets besides: this profile's limit on written values.
+-- The tree says the value, which has an encoding of at most 1,048,576 octets: this profile's limit on written values.
 abbrev pub Denotes : Meaning → AbstractType → WrittenValue → AbstractValue → Type 0
 Denotes m t tree v = Says m t tree v × IsTrue (is_short (der t v))

@@ -1,18 +1,14 @@
 -- Why a written value denotes nothing: its faults, in the order in which they are looked for. What is written first comes
 -- first: a form that the type hasn't before what is inside, an entry's name before its value, and what a list lacks
 -- after its last entry. An encoding that is too long is looked for last of all.
-use Rattle.std.specs.Prelude.{◌≡◌, ℕ, suc, ℤ, Bool, true, false, ◌&&◌, ◌||◌, not, List, [], ◌∷◌, ◌++◌, nat_lt, nat_le, Option, Some, None, is_some, if◌then◌else◌, option_to_list, Contains, ◌⊎◌}
+use Rattle.std.specs.Prelude.{ℕ, suc, ℤ, Bool, true, false, ◌&&◌, ◌||◌, not, List, [], ◌∷◌, ◌++◌, nat_lt, Option, Some, None, is_some, if◌then◌else◌, option_to_list}
 use Rattle.std.specs.Option.{option_map}
 use Rattle.guard_model.specs.declared.site.Site.{Site}
 use Rattle.guard_model.specs.AbstractType as type
-use Rattle.guard_model.specs.AbstractType.{AbstractType, AbstractKind, AbstractPresence, Components, NamedNumber, no_components, component}
-use Rattle.guard_model.specs.AbstractValue.{AbstractValue}
+use Rattle.guard_model.specs.AbstractType.{AbstractType, AbstractKind, Components, NamedNumber, no_components, component}
 use Rattle.guard_model.specs.Kinds.{kind_of}
 use Rattle.guard_model.specs.Limits.{fits_128_bits}
 use Rattle.guard_model.specs.SameType.{same_base}
-use Rattle.guard_der.specs.Der.{der}
-use Rattle.guard_der.specs.ProperConstraints.{is_short}
-use Rattle.guard_syntax.specs.declared.tree.StringKind.TheVariants as string
 use Rattle.guard_syntax.specs.Numbers.{number_of}
 use Rattle.guard_syntax.specs.Trees as written
 use Rattle.guard_syntax.specs.Trees.{WrittenArc, WrittenValue, WrittenValueForm, WrittenEntries, value_node, no_entries, entry}
@@ -22,55 +18,9 @@ use Rattle.guard_values.specs.ObjectIdentifiers.{arc_numbers, too_large_arc, are
 use Rattle.guard_values.specs.Meanings.{Governed, Meaning, own_number}
 use Rattle.guard_values.specs.NamedBits.{name_alone, named_bit}
 use Rattle.guard_values.specs.Simple.{text_value}
-use Rattle.guard_values.specs.Places.{Located, located, entry_place, entry_places, is_among}
-use Rattle.guard_values.specs.Denotes.{alternatives_of, Says}
-
--- ---- forms of the notation, by kinds
-
--- nothing, or one number without a minus sign: what an object identifier with too few arcs looks like
-abbrev pub are_too_few_arcs : WrittenEntries → Bool
-are_too_few_arcs no_entries = true
-are_too_few_arcs (entry site None (value_node number (written.integer n)) no_entries) = not n.minus
-are_too_few_arcs _ = false
-
--- strings of digits for BIT STRING and OCTET STRING (clauses 22 and 23), those in double quotes for character strings
--- (clause 41)
-abbrev pub takes_string : AbstractKind → Bool → Bool
-takes_string (type.bit_string names) in_digits = in_digits
-takes_string type.octet_string in_digits = in_digits
-takes_string (type.characters k) in_digits = not in_digits
-takes_string _ in_digits = false
-
--- Braces for components, elements and named bits; those of an object identifier have too few arcs to be one.
-abbrev pub takes_braces : AbstractKind → WrittenEntries → Bool
-takes_braces type.boolean es = false
-takes_braces (type.integer ns) es = false
-takes_braces (type.bit_string []) es = false
-takes_braces (type.bit_string (name ∷ names)) es = true
-takes_braces type.octet_string es = false
-takes_braces type.null es = false
-takes_braces type.object_identifier es = are_too_few_arcs es
-takes_braces (type.enumerated items) es = false
-takes_braces (type.characters k) es = false
-takes_braces (type.sequence cs) es = true
-takes_braces (type.set cs) es = true
-takes_braces (type.choice cs) es = false
-takes_braces (type.sequence_of t) es = true
-takes_braces (type.set_of t) es = true
-
--- The forms of notation that a kind has, references aside.
-abbrev pub takes : AbstractKind → WrittenValueForm → Bool
-takes kind (written.reference name) = true
-takes type.boolean (written.boolean b) = true
-takes type.null written.null = true
-takes (type.integer ns) (written.integer n) = true
-takes (type.choice cs) (written.chosen name tree) = true
-takes type.object_identifier (written.arcs arcs) = true
-takes kind (written.text string.Characters spelling) = takes_string kind false
-takes kind (written.text string.Bits spelling) = takes_string kind true
-takes kind (written.text string.Hexadecimal spelling) = takes_string kind true
-takes kind (written.list es) = takes_braces kind es
-takes _ _ = false
+use Rattle.guard_values.specs.Places.{Located, located, entry_place, entry_places, is_among, may_be_left_out}
+use Rattle.guard_values.specs.Denotes.{alternatives_of}
+use Rattle.guard_values.specs.Forms.{takes, are_few_entries}
 
 abbrev pub unless : Bool → ValueFault → List ValueFault
 unless b f = if b then [] else f ∷ []
@@ -134,12 +84,6 @@ faults_of_bits names (entry site label tree rest) =
 
 -- ---- what a list in braces lacks, or has too many of
 
-abbrev pub may_be_left_out : AbstractPresence → Bool
-may_be_left_out type.optional = true
-may_be_left_out (type.default d) = true
-may_be_left_out type.mandatory = false
-may_be_left_out type.pending = false
-
 -- a component from this place on that may not be left out, and is
 abbrev pub misses : List (Option ℕ) → ℕ → Components → Bool
 misses given i no_components = false
@@ -149,14 +93,6 @@ misses given i (component name t presence rest) =
 -- V3, at the brace: a component without an entry, neither OPTIONAL nor with a DEFAULT (clause 25)
 abbrev pub faults_after : Site → Components → WrittenEntries → List ValueFault
 faults_after site cs es = unless (not (misses (entry_places cs es) 0 cs)) (MissingComponent site)
-
-abbrev pub entry_count : WrittenEntries → ℕ
-entry_count no_entries = 0
-entry_count (entry site name tree rest) = suc (entry_count rest)
-
--- this profile's limit on the elements of an OF type
-abbrev pub are_few_entries : WrittenEntries → Bool
-are_few_entries es = nat_le (entry_count es) 4294967295
 
 abbrev pub faults_of_count : Site → WrittenEntries → List ValueFault
 faults_of_count site es = unless (are_few_entries es) (TooLarge site)
@@ -225,51 +161,3 @@ abbrev mutual
   faults_of_elements m t no_entries = []
   faults_of_elements m t (entry site name tree rest) =
       faults_of_element_name site name ++ (faults_of m t tree ++ faults_of_elements m t rest)
-
--- ---- the values inside a value, each with its governor, and their encodings
-
--- the type of an entry's value
-abbrev pub entry_type : AbstractKind → Option (List ℕ) → Option AbstractType
-entry_type (type.sequence cs) (Some name) = option_map (λ l. l.ty) (located name cs)
-entry_type (type.set cs) (Some name) = option_map (λ l. l.ty) (located name cs)
-entry_type (type.sequence_of t) None = Some t
-entry_type (type.set_of t) None = Some t
-entry_type _ _ = None
-
--- the type of a chosen value
-abbrev pub chosen_type : AbstractKind → List ℕ → Option AbstractType
-chosen_type kind name = option_map (λ l. l.ty) (located name (alternatives_of kind))
-
-abbrev mutual
-  -- It holds of the written value, or of one inside it, each under its type.
-  pub Somewhere : (AbstractType → WrittenValue → Type 0) → AbstractType → WrittenValue → Type 0
-  Somewhere P t (value_node site form) = P t (value_node site form) ⊎ Inside P (kind_of t) form
-
-  pub Inside : (AbstractType → WrittenValue → Type 0) → AbstractKind → WrittenValueForm → Type 0
-  Inside P kind (written.chosen name tree) = (u : AbstractType) × (chosen_type kind name ≡ Some u) × Somewhere P u tree
-  Inside P kind (written.list es) = InEntry P kind es
-  Inside P kind (written.boolean b) = ⊥
-  Inside P kind written.null = ⊥
-  Inside P kind (written.integer n) = ⊥
-  Inside P kind (written.text k spelling) = ⊥
-  Inside P kind (written.reference name) = ⊥
-  Inside P kind (written.arcs arcs) = ⊥
-
-  pub InEntry : (AbstractType → WrittenValue → Type 0) → AbstractKind → WrittenEntries → Type 0
-  InEntry P kind no_entries = ⊥
-  InEntry P kind (entry site name tree rest) =
-      ((u : AbstractType) × (entry_type kind name ≡ Some u) × Somewhere P u tree) ⊎ InEntry P kind rest
-
--- what it says has an encoding of more than 1,048,576 octets, or none
-abbrev pub HasLongEncoding : Meaning → AbstractType → WrittenValue → Type 0
-HasLongEncoding m t tree = (v : AbstractValue) × Says m t tree v × (is_short (der t v) ≡ false)
-
--- V8, at the value: it has such an encoding, or one inside it has
-abbrev pub IsTooLong : Meaning → AbstractType → WrittenValue → ValueFault → Type 0
-IsTooLong m t (value_node site form) f = (f ≡ TooLarge site) × Somewhere (HasLongEncoding m) t (value_node site form)
-
--- ---- all faults
-
--- The fault's condition holds at its site, in the written value or in one inside it.
-abbrev pub IsFaultIn : Meaning → AbstractType → WrittenValue → ValueFault → Type 0
-IsFaultIn m t tree f = Contains (faults_of m t tree) f ⊎ IsTooLong m t tree f

@@ -4,7 +4,8 @@ use Rattle.guard_model.specs.AbstractType.{AbstractType}
 use Rattle.guard_syntax.specs.Trees.{WrittenValue}
 use Rattle.guard_values.specs.declared.fault.ValueFault.{ValueFault}
 use Rattle.guard_values.specs.Meanings.{Meaning}
-use Rattle.guard_values.specs.Faults.{faults_of, IsTooLong}
+use Rattle.guard_values.specs.Faults.{faults_of}
+use Rattle.guard_values.specs.Conditions.{IsTooLong}
 
 -- The first one; or, where there is none, V8 at the value: an encoding that is too long is looked for last.
 abbrev pub IsFirstFault : Meaning → AbstractType → WrittenValue → ValueFault → Type 0

@@ -9,6 +9,8 @@ pub mod Places
 pub mod Arrangement
 -- ---- which value a tree denotes, and why one denotes none
 pub mod Denotes
+pub mod Forms
+pub mod Conditions
 pub mod Faults
 pub mod FirstFault
 pub mod Views

@@ -55,6 +55,13 @@ are_different (Some i ∷ ps) = not (is_among i ps) && are_different ps
 
 -- ---- components that are left out
 
+-- those that are OPTIONAL or have a DEFAULT (clause 25)
+abbrev pub may_be_left_out : AbstractPresence → Bool
+may_be_left_out type.optional = true
+may_be_left_out (type.default d) = true
+may_be_left_out type.mandatory = false
+may_be_left_out type.pending = false
+
 -- An OPTIONAL one is absent, and one with a DEFAULT has that value (clause 25). Another may not be left out.
 abbrev pub LeftOut : AbstractPresence → Option AbstractValue → Type 0
 LeftOut type.optional field = field ≡ None

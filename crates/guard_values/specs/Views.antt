@@ -14,13 +14,14 @@ use Rattle.guard_model.specs.declared.value.Value.{Value}
 use Rattle.guard_values.specs.declared.fault.ValueFault.{ValueFault}
 use Rattle.guard_values.specs.declared.fault.ValueFault.TheVariants as fault
 use Rattle.guard_values.specs.declared.scope.Known.{Known}
+use Rattle.guard_values.specs.declared.scope.ModuleScope.{ModuleScope}
 use Rattle.guard_values.specs.declared.scope.Scope.{Scope}
 use Rattle.guard_values.specs.declared.scope.VisibleValue.{VisibleValue}
 use Rattle.guard_values.specs.Meanings.{Governed, Meaning}
 use Rattle.guard_names.specs.declared.names.Names.{Names}
-use Rattle.guard_names.specs.Meanings.{number_meant_from}
+use Rattle.guard_names.specs.Meanings.{number_meant_in, number_meant_from}
 use Rattle.guard_names.specs.NamesView.{modules_of, order_of}
-use Rattle.guard_names.specs.Places.{place_in}
+use Rattle.guard_names.specs.Places.{place_in, place_meant}
 use Rattle.guard_der.specs.Fits.{fits}
 use Rattle.guard_values.specs.declared.arrangement.Encoded.{Encoded}
 use Rattle.guard_values.specs.Places.{Located}
@@ -90,3 +91,14 @@ meaning_of scope = visible_from scope.names.now scope.known.now scope.id
 
 abbrev pub types_of : Scope → List ℕ → Option AbstractType
 types_of scope = types_from scope.names.now scope.known.now scope.id
+
+-- ---- what values names mean in the module of a name
+
+abbrev pub visible_in : Names → Known → List ℕ → Meaning
+visible_in names known home name = known_definition known (place_meant (modules_of names) (order_of names) home name)
+
+-- in a scope, which has the names, what is known and the place of the module
+abbrev pub values_of : ModuleScope → Meaning
+values_of scope name =
+    known_definition scope.known.now (option_and_then (place_in (order_of scope.names.now))
+    (number_meant_in (modules_of scope.names.now) scope.home name))

@@ -13,7 +13,8 @@ use crate::fault::ValueFault;
 use guard_model::{Comp, Kind, Presence, Site, Ty, Value, set_field};
 use std::alloc::Global;
 
-/// The first component with this name: its place, and its type.
+/// The first component or alternative with this name: its place in the list, from 0, and its type. None where none has
+/// the name.
 pub fn located<'a>(name: &[u8], comps: &'a [Comp]) -> Option<(usize, &'a Ty)>
     ensures found { option_map located_view result
         ≡ places.located name.now (components_of (map component_view comps.now)) }

@@ -8,7 +8,7 @@ ghost use Rattle.guard_der.specs.Fits.{fits};
 ghost use Rattle.guard_syntax.specs.Trees.{entries_of};
 ghost use Rattle.guard_syntax.specs.Views as trees;
 ghost use Rattle.guard_values.specs.Arrangement.{AreEncodings, encoded_value};
-ghost use Rattle.guard_values.specs.Faults.{are_too_few_arcs};
+ghost use Rattle.guard_values.specs.Forms.{are_too_few_arcs};
 ghost use Rattle.guard_values.specs.inside.Reading as reading;
 ghost use Rattle.guard_values.specs.inside.Reading.{limited};
 ghost use Rattle.guard_values.specs.Views.{named, encoded_view};

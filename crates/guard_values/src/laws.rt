@@ -10,6 +10,7 @@ ghost use Rattle.guard_der.specs.Sound.{is_sound};
 ghost use Rattle.guard_syntax.specs.Trees.{WrittenEntry, value_node, list, entries_of};
 ghost use Rattle.guard_syntax.specs.Views as trees;
 ghost use Rattle.guard_values.specs.Denotes.{Denotes};
+ghost use Rattle.guard_values.specs.Conditions.{IsFaultIn};
 ghost use Rattle.guard_values.specs.FirstFault.{IsFirstFault};
 ghost use Rattle.guard_values.specs.declared.fault.ValueFault.{ValueFault};
 ghost use Rattle.guard_values.specs.Views.{visible_from, AreKnownFitting};
@@ -33,6 +34,13 @@ pub fn law_one_fault(names: &Names, known: &Known, id: Id, ty: &Ty, tree: &Value
         IsFirstFault (visible_from names.now known.now id) (type_view ty.now) (trees.value_view tree.now) g → f ≡ g }
 {}
 
+/// The condition of the first fault stands at its site, in the tree or in a value inside it.
+pub fn law_first_stands(names: &Names, known: &Known, id: Id, ty: &Ty, tree: &ValueTree)
+    ensures { (f : ValueFault) →
+        IsFirstFault (visible_from names.now known.now id) (type_view ty.now) (trees.value_view tree.now) f →
+        IsFaultIn (visible_from names.now known.now id) (type_view ty.now) (trees.value_view tree.now) f }
+{}
+
 /// A tree denotes a value or has a first fault.
 pub fn law_one_answer(names: &Names, known: &Known, id: Id, ty: &Ty, tree: &ValueTree)
     ensures { ((v : AbstractValue) × Denotes (visible_from names.now known.now id) (type_view ty.now)
@@ -40,7 +48,7 @@ pub fn law_one_answer(names: &Names, known: &Known, id: Id, ty: &Ty, tree: &Valu
         × IsFirstFault (visible_from names.now known.now id) (type_view ty.now) (trees.value_view tree.now) f) }
 {}
 
-/// It hasn't both: where there is a first fault, nothing is denoted.
+/// A tree hasn't both a value and a first fault. Condition: the type is sound.
 pub fn law_fault_or_value(names: &Names, known: &Known, id: Id, ty: &Ty, tree: &ValueTree)
     requires sound { IsTrue (is_sound (type_view ty.now)) }
     ensures { (f : ValueFault) (v : AbstractValue) →
@@ -48,7 +56,8 @@ pub fn law_fault_or_value(names: &Names, known: &Known, id: Id, ty: &Ty, tree: &
         Denotes (visible_from names.now known.now id) (type_view ty.now) (trees.value_view tree.now) v → ⊥ }
 {}
 
-/// The elements of a SET OF may be written in any order: the value is the same.
+/// The elements of a SET OF may be written in any order (X.680 clause 28): they denote one value. Conditions: the type
+/// of the elements is sound, and each known value is one of its governor's.
 pub fn law_any_order(names: &Names, known: &Known, id: Id, element: &Ty)
     requires sound { IsTrue (is_sound (type_view element.now)) }
     requires fitting { AreKnownFitting known.now }

@@ -7,10 +7,10 @@ ghost use Rattle.guard_model.specs.Limits.{fits_128_bits};
 ghost use Rattle.guard_values.specs.Meanings as meanings;
 ghost use Rattle.guard_values.specs.Simple.{numbered_value};
 ghost use Rattle.guard_values.specs.inside.Reading.{read_reference, read_visible, answered};
-ghost use Rattle.guard_values.specs.Views.{named, shared_view, visible_view, meaning_of};
+ghost use Rattle.guard_values.specs.Views.{named, shared_view, visible_view, values_of};
 
 use crate::fault::ValueFault;
-use crate::scope::{Scope, VisibleValue};
+use crate::scope::{ModuleScope, VisibleValue};
 use guard_model::{Kind, Named, Site, Ty, Value};
 use std::alloc::Global;
 use std::sync::Arc;
@@ -18,12 +18,12 @@ use std::sync::Arc;
 /// The value of a name. A name of the type's own list comes before a visible one.
 pub fn reference(
     alloc: Global,
-    scope: Scope,
+    scope: ModuleScope,
     ty: &Ty,
     site: Site,
     name: &[u8],
 ) -> Result<Value, ValueFault>
-    ensures { Gives value_view named result (read_reference (meaning_of scope.entry) (type_view ty.now) site name.now) }
+    ensures { Gives value_view named result (read_reference (values_of scope.entry) (type_view ty.now) site name.now) }
 {
     match own_number(&ty.kind, name) {
         Some(number) => numbered(&ty.kind, site, number),
@@ -34,13 +34,13 @@ pub fn reference(
 /// The value of a name, as a share: that of a visible one is the one that is known, of which nothing is copied.
 pub fn shared_reference(
     alloc: Global,
-    scope: Scope,
+    scope: ModuleScope,
     ty: &Ty,
     site: Site,
     name: &[u8],
 ) -> Result<Arc<Value>, ValueFault>
     ensures { Gives shared_view named result
-        (read_reference (meaning_of scope.entry) (type_view ty.now) site name.now) }
+        (read_reference (values_of scope.entry) (type_view ty.now) site name.now) }
 {
     match own_number(&ty.kind, name) {
         Some(number) => Ok(Arc::new(alloc, numbered(&ty.kind, site, number)?)?),

@@ -1,22 +1,24 @@
 //! Where something is written, and what visible names mean there.
-ghost use Rattle.std.specs.Prelude.{◌≡◌, option_map};
+ghost use Rattle.std.specs.Prelude.{◌≡◌, option_map, option_and_then};
 ghost use Rattle.guard_model.specs.TypeView.{type_view};
-ghost use Rattle.guard_values.specs.Views.{visible_view, known_at, type_at, place_from, meaning_of, types_of};
+ghost use Rattle.guard_names.specs.NamesView.{order_of};
+ghost use Rattle.guard_names.specs.Places.{place_in};
+ghost use Rattle.guard_values.specs.Views.{visible_view, known_at, type_at, types_of, values_of};
 
 use guard_model::{Ty, Value};
 use guard_names::{Id, Names};
 use std::sync::Arc;
 
-/// What is already built, by the places of definitions in the order: of a value its governor and the value, of a type
-/// the type alone.
+/// What is already built of the definitions, in the order in which each comes after those that it uses: `types` has the
+/// type of each, of a value its governor, and `values` beside it the value, or None for the definition of a type.
 #[derive(Drop)]
 pub struct Known {
     pub types: Vec<Ty>,
     pub values: Vec<Option<Arc<Value>>>,
 }
 
-/// Where something is written: in which definition, among which names, and what is known of the definitions that these
-/// mean.
+/// Where something is written: `id` is the definition in which it stands, `names` are those of all modules, and `known`
+/// is what is built of the definitions that they mean.
 #[derive(Clone, Copy)]
 pub struct Scope<'s, 'm, 'a> {
     pub names: &'s Names<'m, 'a>,
@@ -24,7 +26,16 @@ pub struct Scope<'s, 'm, 'a> {
     pub id: Id,
 }
 
-/// The value that a visible name means, and its governor.
+/// The module in which a value is written: `home` is its place among those of `names`, from 0, or None where it is none
+/// of them; `known` is what is built of the definitions that names mean.
+#[derive(Clone, Copy)]
+pub struct ModuleScope<'s, 'm, 'a> {
+    pub names: &'s Names<'m, 'a>,
+    pub known: &'s Known,
+    pub home: Option<usize>,
+}
+
+/// The value that a visible name means, and its governor: the type that was written before `::=` (X.680 16.2).
 #[derive(Clone, Copy)]
 pub struct VisibleValue<'s> {
     pub ty: &'s Ty,
@@ -32,7 +43,8 @@ pub struct VisibleValue<'s> {
 }
 
 impl Known {
-    /// The value that is known of the definition at this place in the order, and its governor.
+    /// The value that is known of the definition at this place in the order, from 0, and its governor. None where no
+    /// definition that is built has the place, and where the one that has it is of a type.
     pub fn at(&self, place: usize) -> Option<VisibleValue<'_>>
         ensures { option_map visible_view result ≡ known_at self.now place }
     {
@@ -41,7 +53,8 @@ impl Known {
         Some(VisibleValue { ty, value })
     }
 
-    /// The type that is known of the definition at this place in the order.
+    /// The type that is known of the definition at this place in the order, from 0; of a value its governor. None where
+    /// no definition that is built has the place.
     fn type_at(&self, place: usize) -> Option<&Ty>
         ensures { option_map (λ ty. type_view ty.now) result ≡ type_at self.now place }
     {
@@ -49,34 +62,38 @@ impl Known {
     }
 }
 
-impl<'s, 'm, 'a> Scope<'s, 'm, 'a> {
-    /// The value that a name means (X.680 13.1), where it is visible and known.
+impl<'s, 'm, 'a> ModuleScope<'s, 'm, 'a> {
+    /// The value that a lower-case name means in the module (X.680 13.1), and its governor. None where the name isn't
+    /// visible there, where it means a type, and where the value that it means isn't built.
     pub fn meaning(&self, name: &[u8]) -> Option<VisibleValue<'s>>
-        ensures { option_map visible_view result ≡ meaning_of self.now name.now }
+        ensures { option_map visible_view result ≡ values_of self.now name.now }
     {
-        match self.place(name) {
+        match place(self.names, self.names.meaning_in(self.home, name)) {
             Some(place) => self.known.at(place),
             None => None,
         }
     }
+}
 
-    /// The type that a name means, where it is visible and known; of a value its governor.
+impl<'s, 'm, 'a> Scope<'s, 'm, 'a> {
+    /// The type that a name means in the module of the definition (X.680 13.1); of a value its governor. None where the
+    /// name isn't visible there, and where what it means isn't built.
     pub fn type_named(&self, name: &[u8]) -> Option<&'s Ty>
         ensures { option_map (λ ty. type_view ty.now) result ≡ types_of self.now name.now }
     {
-        match self.place(name) {
+        match place(self.names, self.names.meaning_from(self.id, name)) {
             Some(place) => self.known.type_at(place),
             None => None,
         }
     }
+}
 
-    /// The place in the order of the definition that a name means.
-    fn place(&self, name: &[u8]) -> Option<usize>
-        ensures { result ≡ place_from self.now.names.now self.now.id name.now }
-    {
-        match self.names.meaning_from(self.id, name) {
-            Some(id) => self.names.place(id),
-            None => None,
-        }
+/// The place in the order of the definition that a name means, from 0. None where it means none.
+fn place(names: &Names, meant: Option<Id>) -> Option<usize>
+    ensures { result ≡ option_and_then (place_in (order_of names.now)) meant }
+{
+    match meant {
+        Some(id) => names.place(id),
+        None => None,
     }
 }

@@ -160,7 +160,9 @@ fn rest_after(octets: &[u8], count: usize) -> &[u8]
     &octets[count.min(octets.len())..]
 }
 
-/// What is quoted in a string in double quotes: a quote inside is written twice.
+/// The octets that are quoted in a string in double quotes, given with its quotes: a quote inside is written twice
+/// (X.680 12.14). They end at the quote that closes the string, or, where none does, before the last octet. An error
+/// only where a growth was refused.
 pub fn quoted(alloc: Global, spelling: &[u8]) -> Result<Vec<u8>, AllocError>
     ensures { IfOk result (λ v. v.items ≡ quoted spelling.now) }
 {

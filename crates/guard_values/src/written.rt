@@ -14,7 +14,7 @@ ghost use Rattle.guard_values.specs.inside.Reading as reading;
 ghost use Rattle.guard_values.specs.inside.Reading.{read_form, read_chosen, read_list, read_items, read_set_items};
 ghost use Rattle.guard_values.specs.inside.Reading.{read_fields, read_entries, read_elements, entry_at, element_at};
 ghost use Rattle.guard_values.specs.inside.Reading.{read_whole, read_sorted, read_first_fault};
-ghost use Rattle.guard_values.specs.Views.{named, encoded_view, shared_view, meaning_of};
+ghost use Rattle.guard_values.specs.Views.{named, encoded_view, shared_view, values_of};
 
 use crate::arrangement::Encoded;
 use crate::components::{alternative, completed, place_of};
@@ -22,7 +22,7 @@ use crate::elements::{encoded, encoding, listed, listed_set, object_identifier_f
 use crate::fault::ValueFault;
 use crate::named_bits::value_of_names;
 use crate::names::{reference, shared_reference};
-use crate::scope::Scope;
+use crate::scope::ModuleScope;
 use crate::simple::{arcs, boolean, integer, null, text};
 use guard_model::{Comp, Kind, Site, Ty, Value, absent_fields, set_field};
 use guard_syntax::{EntryTree, ValueForm, ValueTree};
@@ -32,14 +32,14 @@ use std::sync::Arc;
 /// The value that the tree denotes under the type, with an encoding of at most 1,048,576 octets; or the first fault.
 pub fn value_within_limit(
     alloc: Global,
-    scope: Scope,
+    scope: ModuleScope,
     tree: &ValueTree,
     ty: &Ty,
 ) -> Result<Arc<Value>, ValueFault>
     requires proper { IsTrue (is_proper (type_view ty.now)) }
-    requires fitting { AreFitting (meaning_of scope) }
+    requires fitting { AreFitting (values_of scope) }
     ensures { Gives shared_view named result
-        (read_whole (meaning_of scope.entry) (type_view ty.now) (trees.value_view tree.now)) }
+        (read_whole (values_of scope.entry) (type_view ty.now) (trees.value_view tree.now)) }
 {
     let value = shared_value(alloc, scope, tree, ty)?;
     let _octets = encoding(alloc, ty, tree.site, &value)?;
@@ -50,14 +50,14 @@ pub fn value_within_limit(
 #[tactic(auto, unfolding(crate::specs::inside::Reading::read))]
 fn shared_value(
     alloc: Global,
-    scope: Scope,
+    scope: ModuleScope,
     tree: &ValueTree,
     ty: &Ty,
 ) -> Result<Arc<Value>, ValueFault>
     requires proper { IsTrue (is_proper (type_view ty.now)) }
-    requires fitting { AreFitting (meaning_of scope) }
+    requires fitting { AreFitting (values_of scope) }
     ensures { Gives shared_view named result
-        (read_sorted (meaning_of scope.entry) (type_view ty.now) (trees.value_view tree.now)) }
+        (read_sorted (values_of scope.entry) (type_view ty.now) (trees.value_view tree.now)) }
 {
     if let ValueForm::Reference(name) = &tree.form {
         return shared_reference(alloc, scope, ty, tree.site, name);
@@ -68,11 +68,16 @@ fn shared_value(
 
 /// The value, its own encoding aside. What is at fault elsewhere comes before an element of a SET OF whose encoding is
 /// too long to sort by.
-fn sorted_value(alloc: Global, scope: Scope, tree: &ValueTree, ty: &Ty) -> Result<Value, ValueFault>
+fn sorted_value(
+    alloc: Global,
+    scope: ModuleScope,
+    tree: &ValueTree,
+    ty: &Ty,
+) -> Result<Value, ValueFault>
     requires proper { IsTrue (is_proper (type_view ty.now)) }
-    requires fitting { AreFitting (meaning_of scope) }
+    requires fitting { AreFitting (values_of scope) }
     ensures { Gives value_view named result
-        (read_sorted (meaning_of scope.entry) (type_view ty.now) (trees.value_view tree.now)) }
+        (read_sorted (values_of scope.entry) (type_view ty.now) (trees.value_view tree.now)) }
 {
     match read(alloc, scope, true, tree, ty) {
         Ok(value) => Ok(value),
@@ -82,11 +87,16 @@ fn sorted_value(alloc: Global, scope: Scope, tree: &ValueTree, ty: &Ty) -> Resul
 }
 
 /// The first fault of what is written, encodings aside; without one the encoding is too long.
-fn first_fault(alloc: Global, scope: Scope, tree: &ValueTree, ty: &Ty) -> Result<Value, ValueFault>
+fn first_fault(
+    alloc: Global,
+    scope: ModuleScope,
+    tree: &ValueTree,
+    ty: &Ty,
+) -> Result<Value, ValueFault>
     requires proper { IsTrue (is_proper (type_view ty.now)) }
-    requires fitting { AreFitting (meaning_of scope) }
+    requires fitting { AreFitting (values_of scope) }
     ensures { Gives value_view named result
-        (read_first_fault (meaning_of scope.entry) (type_view ty.now) (trees.value_view tree.now)) }
+        (read_first_fault (values_of scope.entry) (type_view ty.now) (trees.value_view tree.now)) }
 {
     let _value = read(alloc, scope, false, tree, ty)?;
     Err(ValueFault::TooLarge(tree.site))
@@ -97,15 +107,15 @@ fn first_fault(alloc: Global, scope: Scope, tree: &ValueTree, ty: &Ty) -> Result
 #[tactic(auto, unfolding(crate::specs::inside::Reading::read))]
 fn read(
     alloc: Global,
-    scope: Scope,
+    scope: ModuleScope,
     sorted: bool,
     tree: &ValueTree,
     ty: &Ty,
 ) -> Result<Value, ValueFault>
     requires proper { IsTrue (is_proper (type_view ty.now)) }
-    requires fitting { AreFitting (meaning_of scope) }
+    requires fitting { AreFitting (values_of scope) }
     ensures { Gives value_view named result
-        (reading.read (meaning_of scope.entry) sorted (type_view ty.now) (trees.value_view tree.now)) }
+        (reading.read (values_of scope.entry) sorted (type_view ty.now) (trees.value_view tree.now)) }
 {
     form(alloc, scope, sorted, &tree.form, tree.site, ty)
 }
@@ -114,16 +124,16 @@ fn read(
 #[tactic(auto, unfolding(crate::specs::inside::Reading::read))]
 fn form(
     alloc: Global,
-    scope: Scope,
+    scope: ModuleScope,
     sorted: bool,
     form: &ValueForm,
     site: Site,
     ty: &Ty,
 ) -> Result<Value, ValueFault>
     requires proper { IsTrue (is_proper (type_view ty.now)) }
-    requires fitting { AreFitting (meaning_of scope) }
+    requires fitting { AreFitting (values_of scope) }
     ensures { Gives value_view named result
-        (read_form (meaning_of scope.entry) sorted (type_view ty.now) site (trees.value_form_view form.now)) }
+        (read_form (values_of scope.entry) sorted (type_view ty.now) site (trees.value_form_view form.now)) }
 {
     match form {
         ValueForm::Boolean(truth) => boolean(&ty.kind, site, *truth),
@@ -141,7 +151,7 @@ fn form(
 #[cycle(values)]
 fn chosen(
     alloc: Global,
-    scope: Scope,
+    scope: ModuleScope,
     sorted: bool,
     tree: &ValueTree,
     name: &[u8],
@@ -149,9 +159,9 @@ fn chosen(
     kind: &Kind,
 ) -> Result<Value, ValueFault>
     requires proper { IsTrue (is_proper_kind (kind_view kind.now)) }
-    requires fitting { AreFitting (meaning_of scope) }
+    requires fitting { AreFitting (values_of scope) }
     ensures { Gives value_view named result (read_chosen site (kind_view kind.now) name.now
-        (λ u. reading.read (meaning_of scope.entry) sorted u (trees.value_view tree.now))) }
+        (λ u. reading.read (values_of scope.entry) sorted u (trees.value_view tree.now))) }
 {
     let (place, ty) = alternative(kind, site, name)?;
     let value = read(alloc, scope, sorted, tree, ty)?;
@@ -162,15 +172,15 @@ fn chosen(
 #[cycle(values)]
 fn braces(
     alloc: Global,
-    scope: Scope,
+    scope: ModuleScope,
     sorted: bool,
     entries: &[EntryTree],
     site: Site,
     kind: &Kind,
 ) -> Result<Value, ValueFault>
     requires proper { IsTrue (is_proper_kind (kind_view kind.now)) }
-    requires fitting { AreFitting (meaning_of scope) }
-    ensures { Gives value_view named result (read_list (meaning_of scope.entry) sorted site (kind_view kind.now)
+    requires fitting { AreFitting (values_of scope) }
+    ensures { Gives value_view named result (read_list (values_of scope.entry) sorted site (kind_view kind.now)
         (entries_of (map trees.entry_view entries.now))) }
 {
     match kind {
@@ -188,7 +198,7 @@ fn braces(
 #[cycle(values)]
 fn fields(
     alloc: Global,
-    scope: Scope,
+    scope: ModuleScope,
     sorted: bool,
     entries: &[EntryTree],
     site: Site,
@@ -196,9 +206,9 @@ fn fields(
     comps: &[Comp],
 ) -> Result<Value, ValueFault>
     requires proper { IsTrue (are_proper (components_of (map component_view comps.now))) }
-    requires fitting { AreFitting (meaning_of scope) }
+    requires fitting { AreFitting (values_of scope) }
     ensures { Gives value_view named result (read_fields site (components_of (map component_view comps.now))
-        (read_entries (meaning_of scope.entry) sorted ordered (components_of (map component_view comps.now)) 0
+        (read_entries (values_of scope.entry) sorted ordered (components_of (map component_view comps.now)) 0
         (all_absent (components_of (map component_view comps.now))) (entries_of (map trees.entry_view entries.now)))) }
 {
     let given = entry_fields(alloc, scope, sorted, entries, ordered, comps)?;
@@ -209,17 +219,17 @@ fn fields(
 #[cycle(values)]
 fn entry_fields(
     alloc: Global,
-    scope: Scope,
+    scope: ModuleScope,
     sorted: bool,
     entries: &[EntryTree],
     ordered: bool,
     comps: &[Comp],
 ) -> Result<Vec<Option<Value>>, ValueFault>
     requires proper { IsTrue (are_proper (components_of (map component_view comps.now))) }
-    requires fitting { AreFitting (meaning_of scope) }
+    requires fitting { AreFitting (values_of scope) }
     ensures count { IfOk result (λ v. length v.items ≡ length comps.now) }
     ensures given { Gives (λ v. fields_view v.items) named
-        result (read_entries (meaning_of scope.entry) sorted ordered (components_of (map component_view comps.now)) 0
+        result (read_entries (values_of scope.entry) sorted ordered (components_of (map component_view comps.now)) 0
         (all_absent (components_of (map component_view comps.now))) (entries_of (map trees.entry_view entries.now))) }
 {
     let mut fields = absent_fields(alloc, comps)?;
@@ -238,7 +248,7 @@ fn entry_fields(
 #[cycle(values)]
 fn entry_value(
     alloc: Global,
-    scope: Scope,
+    scope: ModuleScope,
     sorted: bool,
     entry: &EntryTree,
     ordered: bool,
@@ -247,12 +257,12 @@ fn entry_value(
     fields: &[Option<Value>],
 ) -> Result<(usize, Value), ValueFault>
     requires proper { IsTrue (are_proper (components_of (map component_view comps.now))) }
-    requires fitting { AreFitting (meaning_of scope) }
+    requires fitting { AreFitting (values_of scope) }
     requires count { length fields.now ≡ length comps.now }
     ensures within { IfOk result (λ x. x.0 < length comps.now) }
     ensures given { Gives (λ x. (x.0, value_view x.1)) named result (entry_at ordered (components_of (map component_view
         comps.now)) next (fields_view fields.now) (trees.entry_view entry.now).site (trees.entry_view entry.now).name
-        (λ u. reading.read (meaning_of scope.entry) sorted u (trees.entry_view entry.now).value)) }
+        (λ u. reading.read (values_of scope.entry) sorted u (trees.entry_view entry.now).value)) }
 {
     let (place, ty) = place_of(ordered, comps, next, fields, entry.site, entry.name)?;
     let value = read(alloc, scope, sorted, &entry.value, ty)?;
@@ -263,15 +273,15 @@ fn entry_value(
 #[cycle(values)]
 fn items(
     alloc: Global,
-    scope: Scope,
+    scope: ModuleScope,
     sorted: bool,
     entries: &[EntryTree],
     site: Site,
     ty: &Ty,
 ) -> Result<Value, ValueFault>
     requires proper { IsTrue (is_proper (type_view ty.now)) }
-    requires fitting { AreFitting (meaning_of scope) }
-    ensures { Gives value_view named result (read_items (meaning_of scope.entry) sorted site (type_view ty.now)
+    requires fitting { AreFitting (values_of scope) }
+    ensures { Gives value_view named result (read_items (values_of scope.entry) sorted site (type_view ty.now)
         (entries_of (map trees.entry_view entries.now))) }
 {
     let elements = elements(alloc, scope, sorted, entries, ty)?;
@@ -281,14 +291,14 @@ fn items(
 #[cycle(values)]
 fn elements(
     alloc: Global,
-    scope: Scope,
+    scope: ModuleScope,
     sorted: bool,
     entries: &[EntryTree],
     ty: &Ty,
 ) -> Result<Vec<Value>, ValueFault>
     requires proper { IsTrue (is_proper (type_view ty.now)) }
-    requires fitting { AreFitting (meaning_of scope) }
-    ensures { Gives (λ v. map value_view v.items) named result (read_elements (meaning_of scope.entry) sorted false
+    requires fitting { AreFitting (values_of scope) }
+    ensures { Gives (λ v. map value_view v.items) named result (read_elements (values_of scope.entry) sorted false
         (type_view ty.now) (entries_of (map trees.entry_view entries.now))) }
 {
     let mut elements = Vec::with_capacity(alloc, entries.len())?;
@@ -303,15 +313,15 @@ fn elements(
 #[cycle(values)]
 fn set_items(
     alloc: Global,
-    scope: Scope,
+    scope: ModuleScope,
     sorted: bool,
     entries: &[EntryTree],
     site: Site,
     ty: &Ty,
 ) -> Result<Value, ValueFault>
     requires proper { IsTrue (is_proper (type_view ty.now)) }
-    requires fitting { AreFitting (meaning_of scope) }
-    ensures { Gives value_view named result (read_set_items (meaning_of scope.entry) sorted site (type_view ty.now)
+    requires fitting { AreFitting (values_of scope) }
+    ensures { Gives value_view named result (read_set_items (values_of scope.entry) sorted site (type_view ty.now)
         (entries_of (map trees.entry_view entries.now))) }
 {
     if !sorted {
@@ -324,15 +334,15 @@ fn set_items(
 #[cycle(values)]
 fn encoded_elements(
     alloc: Global,
-    scope: Scope,
+    scope: ModuleScope,
     entries: &[EntryTree],
     ty: &Ty,
 ) -> Result<Vec<Encoded>, ValueFault>
     requires proper { IsTrue (is_proper (type_view ty.now)) }
-    requires fitting { AreFitting (meaning_of scope) }
+    requires fitting { AreFitting (values_of scope) }
     ensures encodings { IfOk result (λ v. AreEncodings (type_view ty.now) (map encoded_view v.items)) }
     ensures given { Gives (λ v. map encoded_value (map encoded_view v.items)) named result (read_elements
-        (meaning_of scope.entry) true true (type_view ty.now) (entries_of (map trees.entry_view entries.now))) }
+        (values_of scope.entry) true true (type_view ty.now) (entries_of (map trees.entry_view entries.now))) }
 {
     let mut elements = Vec::with_capacity(alloc, entries.len())?;
     for entry in entries {
@@ -346,16 +356,16 @@ fn encoded_elements(
 #[cycle(values)]
 fn encoded_element(
     alloc: Global,
-    scope: Scope,
+    scope: ModuleScope,
     entry: &EntryTree,
     ty: &Ty,
 ) -> Result<Encoded, ValueFault>
     requires proper { IsTrue (is_proper (type_view ty.now)) }
-    requires fitting { AreFitting (meaning_of scope) }
+    requires fitting { AreFitting (values_of scope) }
     ensures encoding { IfOk result (λ e. der (type_view ty.now) (value_view e.value) ≡ Some e.octets.items) }
     ensures given { Gives (λ e. value_view e.value) named result (element_at true (type_view ty.now) (trees.entry_view
         entry.now).site (trees.entry_view entry.now).name (reading.site_of (trees.entry_view entry.now).value)
-        (reading.read (meaning_of scope.entry) true (type_view ty.now) (trees.entry_view entry.now).value)) }
+        (reading.read (values_of scope.entry) true (type_view ty.now) (trees.entry_view entry.now).value)) }
 {
     let value = element(alloc, scope, true, entry, ty)?;
     encoded(alloc, ty, entry.value.site, value)
@@ -365,16 +375,16 @@ fn encoded_element(
 #[cycle(values)]
 fn element(
     alloc: Global,
-    scope: Scope,
+    scope: ModuleScope,
     sorted: bool,
     entry: &EntryTree,
     ty: &Ty,
 ) -> Result<Value, ValueFault>
     requires proper { IsTrue (is_proper (type_view ty.now)) }
-    requires fitting { AreFitting (meaning_of scope) }
+    requires fitting { AreFitting (values_of scope) }
     ensures { Gives value_view named result (element_at false (type_view ty.now) (trees.entry_view entry.now).site
         (trees.entry_view entry.now).name (reading.site_of (trees.entry_view entry.now).value)
-        (reading.read (meaning_of scope.entry) sorted (type_view ty.now) (trees.entry_view entry.now).value)) }
+        (reading.read (values_of scope.entry) sorted (type_view ty.now) (trees.entry_view entry.now).value)) }
 {
     if entry.name.is_some() {
         return Err(ValueFault::WrongNotation(entry.site));

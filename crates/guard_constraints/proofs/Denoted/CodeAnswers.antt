@@ -11,11 +11,13 @@ use Rattle.guard_constraints.specs.declared.fault.ConsFault.{ConsFault}
 use Rattle.guard_constraints.specs.Visible.{Visible}
 use Rattle.guard_constraints.specs.Denotes.{Denotes}
 use Rattle.guard_constraints.specs.FirstFault.{IsFirstConstraintFault, checks}
+use Rattle.guard_constraints.specs.Conditions.{IsConstraintFaultIn}
 use Rattle.guard_constraints.specs.inside.Reading.{Read, read}
 use Rattle.guard_constraints.specs.Views.{named}
 use Rattle.guard_constraints.proofs.Denoted.Agreement.{Agrees, read_denoted, read_fault, passed_none}
 use Rattle.guard_constraints.proofs.Denoted.WholeTrees.{agrees}
 use Rattle.guard_constraints.proofs.Denoted.DenotedIsRead.{denotes_read}
+use Rattle.guard_constraints.proofs.Denoted.StandingFaults.{first_stands}
 use Rattle.guard_constraints.proofs.Denoted.ProperConstraints.{proper}
 use Rattle.guard_constraints.proofs.Denoted.WrittenValues.{values_said, values_agree, denoted_fits}
 use Rattle.std.specs.Prelude.{List, ℕ}
@@ -44,6 +46,14 @@ module _ (names : Visible) (t : AbstractType) (tree : WrittenConstraint) where
     first_fault : (o : Option ConsFault) → Refuses o (read names t tree) → IfSome o (λ f. IsFirstConstraintFault names t tree f)
     first_fault None h = tt
     first_fault (Some f) h = read_fault names.values (Denotes names t tree) (read names t tree) (checks names t tree) f agreed h
+
+    standing_fault : (o : Option ConsFault) → IfSome o (λ f. IsFirstConstraintFault names t tree f) → IfSome o (λ f. IsConstraintFaultIn names t tree f)
+    standing_fault None h = tt
+    standing_fault (Some f) h = first_stands names t tree f h
+
+    pub gives_holding : (answer : Result Cons ConsFault) → Gives constraint_view named answer (read names t tree) → IfErr answer (λ e. IfSome (named e) (λ f. IsConstraintFaultIn names t tree f))
+    gives_holding (Ok c) h = tt
+    gives_holding (Err e) h = standing_fault (named e) (first_fault (named e) h)
 
     pub gives_first : (answer : Result Cons ConsFault) → Gives constraint_view named answer (read names t tree) → IfErr answer (λ e. IfSome (named e) (λ f. IsFirstConstraintFault names t tree f))
     gives_first (Ok c) h = tt

@@ -1,7 +1,7 @@
 -- Worked examples of constraint trees: which elements apply, the first fault, and what is read. That the definition
 -- says what is read is a law.
 use Rattle.std.specs.Prelude.{◌≡◌, ℕ, ◌+◌, pos, true, false, List, [], ◌∷◌, codes, Option, Some, None, Ok, refl}
-use Rattle.std.proofs.Common.{inl}
+use Rattle.std.proofs.Common.{inl, inr, sym, subst}
 use Rattle.guard_model.specs.declared.site.Site.{Site}
 use Rattle.guard_model.specs.declared.ty.CharKind.TheVariants.{Ia5}
 use Rattle.guard_model.specs.declared.tag.Class.TheVariants.{Universal}
@@ -15,12 +15,14 @@ use Rattle.guard_syntax.specs.Trees as written
 use Rattle.guard_syntax.specs.Trees.{WrittenSet, WrittenDifference, WrittenElementForm, WrittenConstraint, WrittenParts, value_node, set_node, all_except, union, none_united, united, intersection, none_met, met, element_alone, element_node, constraint, no_parts, part}
 use Rattle.guard_values.specs.declared.fault.ValueFault.TheVariants as value_fault
 use Rattle.guard_constraints.specs.declared.fault.ConsFault.TheVariants as fault
+use Rattle.guard_values.specs.Places.{Located}
 use Rattle.guard_constraints.specs.Visible.{Visible}
 use Rattle.guard_constraints.specs.PermittedAlphabets.{items_of, items_of_form}
 use Rattle.guard_constraints.specs.ListedParts.{heads}
 use Rattle.guard_constraints.specs.PartFaults.{part_fault}
 use Rattle.guard_constraints.specs.Faults.{own_fault}
 use Rattle.guard_constraints.specs.FirstFault.{IsFirstConstraintFault}
+use Rattle.guard_constraints.specs.Conditions.{IsConstraintFaultIn}
 use Rattle.guard_constraints.specs.inside.Reading.{read, read_set, read_set_form, read_united, read_intersection, read_met, read_difference, read_element, read_element_form}
 
 -- ---- notation
@@ -217,3 +219,37 @@ size_of_level = written.size (in_parentheses 20 (written.contained false (column
 size_of_flags : IsFirstConstraintFault levels flags (in_parentheses 14 size_of_level)
     (fault.SizeOnNamedBits (column 15))
 size_of_flags = refl
+
+-- ---- conditions that stand at the sites of faults
+
+-- ((L | L) ^ L) on BOOLEAN, where L is INTEGER: C8 at the first L
+other_base_stands : IsConstraintFaultIn levels (tagged 1 type.boolean) met_levels (fault.ContainedMismatch (column 17))
+other_base_stands = inl (inl (inr (inl (inl (inl (refl, refl))))))
+
+-- (SIZE (L)) on a BIT STRING with named bits: C10 at SIZE
+named_bits_stand : IsConstraintFaultIn levels flags (in_parentheses 14 size_of_level)
+    (fault.SizeOnNamedBits (column 15))
+named_bits_stand = inl (inl (inl (refl, refl)))
+
+-- (WITH COMPONENTS {..., b, b})
+abbrev b_twice : WrittenConstraint
+b_twice =
+    in_parentheses 10
+    (written.with_components true (part_at 33 (codes "b") None (part_at 36 (codes "b") None no_parts)))
+
+-- C6 stands at the second b
+repeated_stands : IsConstraintFaultIn nothing (tagged 16 a_and_b) b_twice (fault.RepeatedComponent (column 36))
+repeated_stands = inl (inl (inl (inl (inl (refl, refl)))))
+
+abbrev IsNone : Option Located → Type 0
+IsNone None = Unit {0}
+IsNone (Some l) = ⊥
+
+-- C5 stands nowhere: both parts name a component
+not_unknown : (s : Site) → IsConstraintFaultIn nothing (tagged 16 a_and_b) b_twice (fault.UnknownComponent s) → ⊥
+not_unknown s (inl (inl (inl (inl h)))) = subst IsNone (sym h.1) tt
+not_unknown s (inl (inl (inl (inr (inl h))))) = subst IsNone (sym h.1) tt
+not_unknown s (inl (inl (inl (inr (inr h))))) = h
+not_unknown s (inl (inl (inr h))) = h
+not_unknown s (inl (inr h)) = h
+not_unknown s (inr h) = h

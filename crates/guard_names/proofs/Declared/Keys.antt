@@ -335,9 +335,6 @@ after_insert ms home name old new key x updated = by (module_number ms home) ref
         ∙ ap (λ o. cond (is_key ms (Some home) name key) (Some x) o) (lookup_key ms (Some home) k is old)
 
 -- what names mean within a module
-pub within_is : (w : Within) (m : Meanings) (home name : List ℕ) → w.meanings.now ≡ m → w.home.now ≡ home → meaning_in w.meanings.now w.home.now name ≡ meaning_in m home name
-within_is w m home name first second = ap (λ (x : Meanings). meaning_in x w.home.now name) first ∙ ap (λ h. meaning_in m h name) second
-
 pub moved_within : (w : Within) (m : Meanings) (home : List ℕ) → w.meanings.now ≡ m → w.home.now ≡ home → (P : declared.Numbers → List ℕ → Type 0) → P (meaning_in w.meanings.now) w.home.now → P (meaning_in m) home
 moved_within w m home first second P h = subst (λ x. P (meaning_in m) x) second (subst (λ (x : Meanings). P (meaning_in x) w.home.now) first h)
 

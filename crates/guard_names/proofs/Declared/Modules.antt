@@ -1,10 +1,12 @@
 -- The numbers of modules.
-use Rattle.std.proofs.Common.{◌≡◌, ℕ, zero, suc, ◌<◌, Bool, true, false, cond, List, [], ◌∷◌, map, length, get_or, Option, Some, None, option_map, is_some, Result, Ok, Err, refl, sym, ◌∙◌, ap, arith}
-use Rattle.std.specs.Prelude.{bytes_eq, OnOk}
+use Rattle.std.proofs.Common.{◌≡◌, ℕ, zero, suc, ◌<◌, Bool, true, false, cond, List, [], ◌∷◌, map, length, get_or, Option, Some, None, option_map, is_some, slice_get, Result, Ok, Err, refl, sym, ◌∙◌, ap, arith}
+use Rattle.std.specs.Prelude.{bytes_eq, option_and_then, OnOk}
 use Rattle.std.specs.Cmp.Lexicographic.{bytes_decides}
+use Rattle.std.proofs.lemmas.Option.{same_Some, slice_get-map}
 use Rattle.guard_syntax.specs.Trees.{WrittenModule}
 use Rattle.guard_syntax.specs.declared.tree.Module.{Module}
 use Rattle.guard_syntax.specs.ModuleViews.{module_view}
+use Rattle.guard_names.specs.Meanings.{number_meant, number_meant_in}
 use Rattle.guard_names.specs.TableViews.{module_number}
 
 -- ---- modules of one number have one name
@@ -70,6 +72,57 @@ has_number (y ∷ ys) (suc i) x inside is = by (bytes_eq x.name.now y.name.now) 
     by : (b : Bool) → is_some (module_number (map module_view ys) x.name.now) ≡ true → is_some (cond b (Some 0) (option_map suc (module_number (map module_view ys) x.name.now))) ≡ true
     by true rest = refl
     by false rest = some_later (module_number (map module_view ys) x.name.now) rest
+
+-- ---- what names mean in the module at a place
+
+-- the module that has the number
+there : (ms : List WrittenModule) (home : List ℕ) (n : ℕ) → module_number ms home ≡ Some n → (m : WrittenModule) × (slice_get ms n ≡ Some m) × (m.name ≡ home)
+there [] home n is = absurd cc
+there (m ∷ ms) home n is = by (bytes_eq home m.name) refl is (there ms home)
+  where
+    by : (b : Bool) → bytes_eq home m.name ≡ b → cond b (Some 0) (option_map suc (module_number ms home)) ≡ Some n
+        → ((k : ℕ) → module_number ms home ≡ Some k → (d : WrittenModule) × (slice_get ms k ≡ Some d) × (d.name ≡ home))
+        → (d : WrittenModule) × (slice_get (m ∷ ms) n ≡ Some d) × (d.name ≡ home)
+    by true same is' rest = (m, ap (slice_get (m ∷ ms)) (sym (same_Some 0 n is')), sym ((bytes_decides home m.name).0 same))
+    by false other is' rest =
+        let k = later (module_number ms home) n is' in
+        let d = rest k.0 k.1 in
+        (d.0, ap (slice_get (m ∷ ms)) (sym k.2) ∙ d.1, d.2)
+
+pub meant_there : (ms : List WrittenModule) (home name : List ℕ) → (None ≡ module_number ms home → number_meant ms home name ≡ None)
+    → number_meant_in ms (module_number ms home) name ≡ number_meant ms home name
+meant_there ms home name nowhere = by (module_number ms home) refl
+  where
+    by : (o : Option ℕ) → module_number ms home ≡ o → number_meant_in ms o name ≡ number_meant ms home name
+    by None is = sym (nowhere (sym is))
+    by (Some n) is =
+        let m = there ms home n is in
+        ap (option_and_then (λ (d : WrittenModule). number_meant ms d.name name)) m.1 ∙ ap (λ h. number_meant ms h name) m.2
+
+module _ (xs : List Module) (name : List ℕ) (place : ℕ) where
+  abbrev numbers : List (Option ℕ)
+  numbers = map (λ m. module_number (map module_view xs) m.name.now) xs
+
+  abbrev meant : WrittenModule → Option ℕ
+  meant m = number_meant (map module_view xs) m.name name
+
+  pub meant_at : (number found : Option ℕ) → Some number ≡ slice_get numbers place
+      → ((home : List ℕ) → number ≡ module_number (map module_view xs) home → found ≡ number_meant (map module_view xs) home name)
+      → found ≡ number_meant_in (map module_view xs) (Some place) name
+  meant_at number found at same = by (slice_get xs place) (at ∙ slice_get-map _ xs place) (slice_get-map module_view xs place)
+    where
+      by : (o : Option Module) → Some number ≡ option_map (λ m. module_number (map module_view xs) m.name.now) o
+          → slice_get (map module_view xs) place ≡ option_map module_view o → found ≡ number_meant_in (map module_view xs) (Some place) name
+      by None none is = absurd cc
+      by (Some m) numbered is = same m.name.now (same_Some number _ numbered) ∙ ap (option_and_then meant) (sym is)
+
+  pub meant_nowhere : None ≡ slice_get numbers place → None ≡ number_meant_in (map module_view xs) (Some place) name
+  meant_nowhere at = by (slice_get xs place) (at ∙ slice_get-map _ xs place) (slice_get-map module_view xs place)
+    where
+      by : (o : Option Module) → None ≡ option_map (λ m. module_number (map module_view xs) m.name.now) o
+          → slice_get (map module_view xs) place ≡ option_map module_view o → None ≡ number_meant_in (map module_view xs) (Some place) name
+      by None none is = ap (option_and_then meant) (sym is)
+      by (Some m) numbered is = absurd cc
 
 -- what follows from what holds of success
 pub on_ok : {X E A B : Type 0} (r : Result X E) → (A → B) → OnOk r A → OnOk r B

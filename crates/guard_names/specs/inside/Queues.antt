@@ -40,7 +40,7 @@ module _ (us : List (List ℕ)) where
   IsMetBefore listed number place =
       (i : ℕ) → i < place → IsTrue (is_listed listed (slice_index_or (used_by number) i 0))
 
-  -- it waits for this definition, which isn't listed and is at its place among those that it uses
+  -- the entry waits for this definition, which isn't listed and is at the entry's place among those that it uses
   pub record IsWaitingFor (listed : List ℕ) (used : ℕ) (w : Waiting) : Type 0 where
     pub number : w.number < length us
     pub here : w.met < length (used_by w.number)
@@ -57,7 +57,7 @@ module _ (us : List (List ℕ)) where
     pub ready_met : (k : ℕ) → 0 < ready k → IsMet listed k
     pub waiting_for : (used : ℕ) → All (IsWaitingFor listed used) (slice_index_or waiting used [])
 
-  -- its uses before its place are all listed
+  -- of what the entry's definition uses, all before the entry's place is listed
   pub record IsReleased (listed : List ℕ) (w : Waiting) : Type 0 where
     pub number : w.number < length us
     pub met : IsMetBefore listed w.number w.met

@@ -14,7 +14,7 @@ use Rattle.guard_names.specs.Faults.{duplicate, no_module, not_defined, not_expo
 abbrev pub nothing : {A : Type 0} → A → Unit {0}
 nothing a = tt
 
--- it is refused with this fault where there is a site
+-- a refusal with this fault at the site, where there is one, else Ok
 abbrev pub refused_at : (Site → NameFault) → Option Site → Result (Unit {0}) NameFault
 refused_at fault None = Ok tt
 refused_at fault (Some site) = Err (fault site)

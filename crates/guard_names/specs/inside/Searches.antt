@@ -9,7 +9,7 @@ use Rattle.guard_names.specs.declared.recursion.Pending.{Pending}
 use Rattle.guard_names.specs.Order.{Leads, IsRecursive}
 use Rattle.guard_names.specs.inside.Queues.{UsesIn}
 
--- it is the same, or a chain of uses leads to it
+-- the second is the first, or a chain of uses leads from the first to it
 abbrev pub Reaches : (ℕ → ℕ → Type 0) → ℕ → ℕ → Type 0
 Reaches uses a b = (a ≡ b) ⊎ Leads uses a b
 

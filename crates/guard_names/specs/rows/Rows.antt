@@ -74,7 +74,7 @@ defines_T n name = module_of n name None [] (assigned (n + 1) T null_type ∷ []
 abbrev exports_nothing : ℕ → List ℕ → WrittenModule
 exports_nothing n name = module_of n name (Some (exported [])) [] (assigned (n + 1) T null_type ∷ [])
 
--- it imports T from the module of this name
+-- the module imports T from the module of this name
 abbrev imports_T : ℕ → List ℕ → List ℕ → WrittenModule
 imports_T n name from = module_of n name None (import_at (n + 1) T (n + 2) from ∷ []) []
 

@@ -1,8 +1,8 @@
 -- The bare type that a written type has by its tags is made up of types that are written there, which have no
 -- constraints yet, and of types that names mean, under other tags perhaps. It has the kind that is written, its
 -- components are those that are written, and its tags and its lists keep the limits.
-use Rattle.std.proofs.Common.{◌≡◌, inl, inr, ℕ, suc, ◌+◌, ◌≤◌, Bool, true, false, ◌&&◌, List, [], ◌∷◌}
-use Rattle.std.proofs.Common.{Option, Some, None, option_map, IsTrue, refl, sym, ap, subst, ◌∙◌, ◌⊎◌, arith}
+use Rattle.std.proofs.Common.{◌≡◌, ℕ, suc, ◌+◌, ◌≤◌, Bool, true, false, ◌&&◌, List, [], ◌∷◌}
+use Rattle.std.proofs.Common.{Option, Some, None, option_map, is_some, IsTrue, refl, sym, ap, subst, ◌∙◌, arith}
 use Rattle.std.specs.Prelude.{nat_le, nat_lt}
 use Rattle.std.proofs.lemmas.Bool.{and_parts, and_from}
 use Rattle.std.proofs.lemmas.Bool.Decides.{nat_tests}
@@ -26,6 +26,7 @@ use Rattle.guard_syntax.specs.Trees.{named_bits, enumerated, structure, choice, 
 use Rattle.guard_syntax.specs.Trees.{no_components, component, components_from, WrittenAlternatives, no_alternatives}
 use Rattle.guard_syntax.specs.Trees.{alternative}
 use Rattle.guard_tagging.specs.declared.fault.TagFault.{TagFault}
+use Rattle.guard_tagging.specs.KnownNames.{IsKnown, IsKnownInside, AreKnown, AreKnownOthers}
 use Rattle.guard_tagging.specs.Faults.{fault_where, nodes, nodes_within, nodes_put_in, universal_tag, implicit_choice}
 use Rattle.guard_tagging.specs.Faults.{tag_too_large, own_fault, taken_fault, is_kind_of, is_of_kind}
 use Rattle.guard_tagging.specs.Faults.{duplicate_name, component_names}
@@ -40,11 +41,11 @@ use Rattle.guard_tagging.specs.Types.{denoted_base, denoted_components, denoted_
 use Rattle.guard_tagging.proofs.Lists.AutomaticTags.{tagged_count}
 use Rattle.guard_constraints.specs.Visible.{Visible}
 use Rattle.guard_schema.specs.Finishing.{count_written, count_put_in, count_within, count_of_meant}
-use Rattle.guard_schema.specs.inside.Ready.{constraints_on, has_tags, IsFresh, IsOfName, IsMadeUp, IsMadeUpBase}
+use Rattle.guard_schema.specs.inside.Ready.{constraints_on, has_tags, IsOfName, IsMadeUp, IsMadeUpBase}
 use Rattle.guard_schema.specs.inside.Ready.{AreMadeUp, IsPutIn, IsPutInBase, AreMadeUpOthers}
 use Rattle.guard_schema.proofs.Filled.TakenKinds.{kind_put, kind_tagged, parts_there, of_kind_there, parts_in}
 use Rattle.guard_schema.proofs.Filled.TakenKinds.{not_plain}
-use Rattle.guard_schema.proofs.Filled.TakenKinds.{not_numbers, not_bits, not_enumerated, not_choice, not_of, not_null}
+use Rattle.guard_schema.proofs.Filled.TakenKinds.{not_numbers, not_bits, not_enumerated, not_choice, not_of}
 use Rattle.guard_schema.proofs.Filled.TakenKinds.{neither, TakesRightly, IsListed, takes_rightly, listed_so}
 
 -- ---- how many components it has
@@ -239,31 +240,29 @@ module _ (names : Visible) (around : Surroundings)
       (neither (tag_too_large tags) _ b.1).0
 
   -- what COMPONENTS OF a name takes in
-  meant_taken : (k : Collection) (name : List ℕ) (m : Option Meaning) → around.meaning name ≡ m
-      → is_kind_of k (kind_of (meant m)) ≡ true
+  meant_taken : (name : List ℕ) (m : Option Meaning) → around.meaning name ≡ m → IsTrue (is_some m)
       → (t : AbstractType) × (names.types name ≡ Some t) × (components_in (kind_of (meant m)) ≡ parts_of t)
-  meant_taken k name (Some m) e of = (m.ty, agree name ∙ ap (option_map (λ m. m.ty)) e, sym (parts_there m.ty))
-  meant_taken k name None e of = absurd (not_null k of)
+  meant_taken name (Some m) e known = (m.ty, agree name ∙ ap (option_map (λ m. m.ty)) e, sym (parts_there m.ty))
+  meant_taken name None e known = absurd cc
 
   -- what is said of a type and its kind
   abbrev Base : WrittenBase → AbstractType → Type 0
   Base base t = IsTrue (has_tags t) × IsMadeUpBase names base (kind_of t) (constraints_on t)
 
-  named_up : (name : List ℕ) (m : Option Meaning) → around.meaning name ≡ m
-      → IsTrue (has_tags (meant m)) × (IsFresh (kind_of (meant m)) (constraints_on (meant m))
-      ⊎ IsOfName names name (kind_of (meant m)) (constraints_on (meant m)))
-  named_up name None e = (refl, inl (refl, refl))
-  named_up name (Some m) e =
+  named_up : (name : List ℕ) (m : Option Meaning) → around.meaning name ≡ m → IsTrue (is_some m)
+      → IsTrue (has_tags (meant m)) × IsOfName names name (kind_of (meant m)) (constraints_on (meant m))
+  named_up name None e known = absurd cc
+  named_up name (Some m) e known =
       let is : names.types name ≡ Some m.ty = agree name ∙ ap (option_map (λ m. m.ty)) e in
-      (sound_tags m.ty (proper name m.ty is), inr (m.ty, is, refl, refl))
+      (sound_tags m.ty (proper name m.ty is), (m.ty, is, refl, refl))
 
   mutual
-    pub made_up : (automatic : Bool) (before count : ℕ) (t : WrittenType)
+    pub made_up : (automatic : Bool) (before count : ℕ) (t : WrittenType) → IsKnown around t
         → fault_in around automatic before count t ≡ None → IsMadeUp names t (denoted around t)
-    made_up automatic before count (type_node site tags base cons) h =
+    made_up automatic before count (type_node site tags base cons) known h =
         let n = neither (fault_in_parts around before base)
         (own_fault around automatic count (type_node site tags base cons)) h in
-        let b = base_up before base n.0 (listed_so around automatic count site tags base cons n.1) in
+        let b = base_up before base known n.0 (listed_so around automatic count site tags base cons n.1) in
         retagged names (type_node site tags base cons) (denoted_base around base)
         (with_tags around.tag_default tags (denoted_base around base))
         (kind_tagged around.tag_default tags (denoted_base around base))
@@ -271,10 +270,10 @@ module _ (names : Visible) (around : Surroundings)
         (tags_with around.tag_default tags (denoted_base around base)
         (no_large_tag automatic count site tags base cons n.1) b.0) b
 
-    base_up : (before : ℕ) (base : WrittenBase) → fault_in_parts around before base ≡ None → IsListed around base
-        → Base base (denoted_base around base)
-    base_up before (plain p) h l = ((plain_tags p).0, (refl, (plain_tags p).1))
-    base_up before (structure k cs) h l =
+    base_up : (before : ℕ) (base : WrittenBase) → IsKnownInside around base
+        → fault_in_parts around before base ≡ None → IsListed around base → Base base (denoted_base around base)
+    base_up before (plain p) known h l = ((plain_tags p).0, (refl, (plain_tags p).1))
+    base_up before (structure k cs) known h l =
         let automatic = is_automatic_list around.tag_default cs in
         let few = few_components k cs l in
         let right = takes_rightly around k cs l in (
@@ -286,11 +285,11 @@ module _ (names : Visible) (around : Surroundings)
               refl,
               few_tagged automatic (denoted_components around cs) few,
               tagged_up automatic k cs (denoted_components around cs) few right
-                  (components_up k automatic before cs h right),
+                  (components_up k automatic before cs known h right),
             ),
           ),
         )
-    base_up before (choice others) h l =
+    base_up before (choice others) known h l =
         let automatic = is_automatic_choice around.tag_default others in
         let few = few_alternatives others l in (
           refl,
@@ -301,42 +300,42 @@ module _ (names : Visible) (around : Surroundings)
               refl,
               few_tagged automatic (denoted_alternatives around others) few,
               others_tagged_up automatic others (denoted_alternatives around others) few
-                  (others_up automatic before others h),
+                  (others_up automatic before others known h),
             ),
           ),
         )
-    base_up before (of_type k c t) h l = (
+    base_up before (of_type k c t) known h l = (
       collection_tags k (of_kind k (denoted around t)),
-      (refl, (denoted around t, refl, made_up false before (before + nodes (denoted around t)) t h)),
+      (refl, (denoted around t, refl, made_up false before (before + nodes (denoted around t)) t known h)),
     )
-    base_up before (named_type site name) h l = named_up name (around.meaning name) refl
-    base_up before base h l = (refl, (refl, refl))
+    base_up before (named_type site name) known h l = named_up name (around.meaning name) refl known
+    base_up before base known h l = (refl, (refl, refl))
 
-    components_up : (k : Collection) (automatic : Bool) (before : ℕ) (cs : WrittenComponents)
+    components_up : (k : Collection) (automatic : Bool) (before : ℕ) (cs : WrittenComponents) → AreKnown around cs
         → fault_in_components k automatic around before cs ≡ None
         → TakesRightly around k automatic cs → AreMadeUp names cs (denoted_components around cs)
-    components_up k automatic before no_components h r = refl
-    components_up k automatic before (component site name t presence cs) h r =
+    components_up k automatic before no_components known h r = refl
+    components_up k automatic before (component site name t presence cs) known h r =
         let n = neither (fault_in around automatic before (before + nodes (denoted around t)) t) _ h in (
           denoted around t,
           denoted_components around cs,
           refl,
-          made_up automatic before (before + nodes (denoted around t)) t n.0,
-          components_up k automatic (before + nodes (denoted around t)) cs n.1 r,
+          made_up automatic before (before + nodes (denoted around t)) t known.0 n.0,
+          components_up k automatic (before + nodes (denoted around t)) cs known.1 n.1 r,
         )
-    components_up k automatic before (components_from site t cs) h r =
+    components_up k automatic before (components_from site t cs) known h r =
         let n = neither (fault_in around false before (before + nodes_within (denoted around t)) t) _ h in (
           parts_of (denoted around t),
           denoted_components around cs,
           refl,
-          put_in_up k before (before + nodes_within (denoted around t)) t n.0 r.0 r.2,
-          components_up k automatic (before + nodes_put_in around k automatic t) cs n.1 r.3,
+          put_in_up k before (before + nodes_within (denoted around t)) t known.0 n.0 r.0 r.2,
+          components_up k automatic (before + nodes_put_in around k automatic t) cs known.1 n.1 r.3,
         )
 
-    put_in_up : (k : Collection) (before count : ℕ) (t : WrittenType) → fault_in around false before count t ≡ None
-        → is_of_kind k (denoted around t) ≡ true → is_automatic around t ≡ false
+    put_in_up : (k : Collection) (before count : ℕ) (t : WrittenType) → IsKnown around t
+        → fault_in around false before count t ≡ None → is_of_kind k (denoted around t) ≡ true → is_automatic around t ≡ false
         → IsPutIn names t (parts_of (denoted around t))
-    put_in_up k before count (type_node site tags base cons) h of auto =
+    put_in_up k before count (type_node site tags base cons) known h of auto =
         let n = neither (fault_in_parts around before base)
         (own_fault around false count (type_node site tags base cons)) h in
         let same = kind_tagged around.tag_default tags (denoted_base around base) in
@@ -346,34 +345,34 @@ module _ (names : Visible) (around : Surroundings)
         subst (λ (taken : Components). IsPutInBase names base taken)
         (ap components_in (sym same) ∙ sym
         (parts_there (with_tags around.tag_default tags (denoted_base around base))))
-        (put_in_base_up k before base n.0 (listed_so around false count site tags base cons n.1) kind auto)
+        (put_in_base_up k before base known n.0 (listed_so around false count site tags base cons n.1) kind auto)
 
-    put_in_base_up : (k : Collection) (before : ℕ) (base : WrittenBase) → fault_in_parts around before base ≡ None
-        → IsListed around base → is_kind_of k (kind_of (denoted_base around base)) ≡ true
+    put_in_base_up : (k : Collection) (before : ℕ) (base : WrittenBase) → IsKnownInside around base
+        → fault_in_parts around before base ≡ None → IsListed around base → is_kind_of k (kind_of (denoted_base around base)) ≡ true
         → is_automatic_base around base ≡ false
         → IsPutInBase names base (components_in (kind_of (denoted_base around base)))
-    put_in_base_up k before (plain p) h l of auto = absurd (not_plain k p of)
-    put_in_base_up k before (numbers ns) h l of auto = absurd (not_numbers k _ of)
-    put_in_base_up k before (named_bits ns) h l of auto = absurd (not_bits k _ of)
-    put_in_base_up k before (enumerated items) h l of auto = absurd (not_enumerated k _ of)
-    put_in_base_up k before (structure j cs) h l of auto =
+    put_in_base_up k before (plain p) known h l of auto = absurd (not_plain k p of)
+    put_in_base_up k before (numbers ns) known h l of auto = absurd (not_numbers k _ of)
+    put_in_base_up k before (named_bits ns) known h l of auto = absurd (not_bits k _ of)
+    put_in_base_up k before (enumerated items) known h l of auto = absurd (not_enumerated k _ of)
+    put_in_base_up k before (structure j cs) known h l of auto =
         subst (λ (taken : Components). AreMadeUp names cs taken)
         (sym (parts_in j (tagged_where (is_automatic_list around.tag_default cs) (denoted_components around cs))
         ∙ ap (λ (b : Bool). tagged_where b (denoted_components around cs)) auto))
-        (components_up j (is_automatic_list around.tag_default cs) before cs h (takes_rightly around j cs l))
-    put_in_base_up k before (choice others) h l of auto = absurd (not_choice k _ of)
-    put_in_base_up k before (of_type j c t) h l of auto = absurd (not_of k j (denoted around t) of)
-    put_in_base_up k before (named_type site name) h l of auto = meant_taken k name (around.meaning name) refl of
+        (components_up j (is_automatic_list around.tag_default cs) before cs known h (takes_rightly around j cs l))
+    put_in_base_up k before (choice others) known h l of auto = absurd (not_choice k _ of)
+    put_in_base_up k before (of_type j c t) known h l of auto = absurd (not_of k j (denoted around t) of)
+    put_in_base_up k before (named_type site name) known h l of auto = meant_taken name (around.meaning name) refl known
 
-    others_up : (automatic : Bool) (before : ℕ) (others : WrittenAlternatives)
+    others_up : (automatic : Bool) (before : ℕ) (others : WrittenAlternatives) → AreKnownOthers around others
         → fault_in_alternatives automatic around before others ≡ None
         → AreMadeUpOthers names others (denoted_alternatives around others)
-    others_up automatic before no_alternatives h = refl
-    others_up automatic before (alternative site name t others) h =
+    others_up automatic before no_alternatives known h = refl
+    others_up automatic before (alternative site name t others) known h =
         let n = neither (fault_in around automatic before (before + nodes (denoted around t)) t) _ h in (
           denoted around t,
           denoted_alternatives around others,
           refl,
-          made_up automatic before (before + nodes (denoted around t)) t n.0,
-          others_up automatic (before + nodes (denoted around t)) others n.1,
+          made_up automatic before (before + nodes (denoted around t)) t known.0 n.0,
+          others_up automatic (before + nodes (denoted around t)) others known.1 n.1,
         )

@@ -98,10 +98,6 @@ not_of collection.Sequence collection.Set t e = never e
 not_of collection.Set collection.Sequence t e = never e
 not_of collection.Set collection.Set t e = never e
 
-pub not_null : (k : Collection) → is_kind_of k type.null ≡ true → ⊥
-not_null collection.Sequence e = never e
-not_null collection.Set e = never e
-
 -- ---- what COMPONENTS OF may take in, where there is no fault
 
 pub neither : {A : Type 0} (a b : Option A) → option_or a b ≡ None → (a ≡ None) × (b ≡ None)

@@ -99,13 +99,13 @@ decided_under surroundings before tree = record { one = λ a b h k. h.1 ∙ sym 
     first : (f g : AbstractFault) → HasTagsUnder surroundings before tree (Err f)
         → HasTagsUnder surroundings before tree (Err g)
         → SameFault f g
-    first (Tag f) (Tag g) h k = inl (ap Tag (same_Some f g (sym h.1 ∙ k.1)))
+    first (Tag f) (Tag g) h k = inl (ap Tag (same_Some f g (sym h.1.0 ∙ k.1.0)))
     first (Tag f) _ h k = absurd k
     first _ g h k = absurd h
 
     alone : (t : AbstractType) (f : AbstractFault) → HasTagsUnder surroundings before tree (Ok t)
         → HasTagsUnder surroundings before tree (Err f) → ⊥
-    alone t (Tag f) h k = none_some (sym h.0 ∙ k.1)
+    alone t (Tag f) h k = none_some (sym h.0 ∙ k.1.0)
       where
         none_some : None ≡ Some f → ⊥
         none_some e = cc

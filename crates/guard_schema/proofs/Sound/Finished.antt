@@ -333,11 +333,7 @@ module _ (names : Visible) (fit : AreFitting names.values)
           ap takes_size final ∙ of_takes_size c u,
         )
     kind_part (of_type c o w) ts kind k cons m shaped (bare, is, inr (f, h, e)) = absurd cc
-    kind_part (named_type site name) ts kind k cons (tagged, inl fresh) shaped e = (
-      λ short. fresh_sound ts kind k cons e tagged fresh shaped,
-      λ u there same. subst (λ (x : Constraints). first_long (type_of ts k x) ≡ None) (sym fresh.0) refl,
-    )
-    kind_part (named_type site name) ts kind k cons (tagged, inr (u, there, a, b)) shaped e =
+    kind_part (named_type site name) ts kind k cons (tagged, (u, there, a, b)) shaped e =
         subst (λ (x : AbstractKind). IsPart names (named_type site name) (type_of ts x cons)) (sym (same_Ok k kind e)) (
           λ short. named_sound name ts kind cons u there a b tagged shaped short,
           λ v here same. meant_short name ts kind cons u v there a b here same,

@@ -94,7 +94,7 @@ module _ (k : Known) (d : Definition) (surroundings : Surroundings) (under : IsW
       let before = nodes_of_all (types_of k.built) in (
         subst (λ (x : AbstractType). IsMadeUp (visible k d.home.name) d.assignment.ty x) (sym tagged.1)
             (made_up (visible k d.home.name) surroundings agree proper_types false before
-            (before + nodes (denoted surroundings d.assignment.ty)) d.assignment.ty tagged.0),
+            (before + nodes (denoted surroundings d.assignment.ty)) d.assignment.ty tagged.2 tagged.0),
         and_from (has_distinct_tags bare) (nat_le (nesting bare) deepest_nesting)
             (ap none_clash ((none_where_distinct bare).1 distinct))
             (and_parts (keeps_limits bare) (nat_le (nesting bare) deepest_nesting)

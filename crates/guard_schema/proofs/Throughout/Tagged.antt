@@ -15,7 +15,7 @@ use Rattle.guard_tagging.specs.Types.{Meaning, Surroundings, universal, collecti
 use Rattle.guard_tagging.specs.Types.{presence_of, is_automatic_list, is_automatic_choice, tagged_where, parts_of, join}
 use Rattle.guard_tagging.specs.Types.{denoted, denoted_base, denoted_components, denoted_alternatives}
 use Rattle.guard_tagging.specs.Surroundings.{meaning_at, known_after, known_from}
-use Rattle.guard_tagging.specs.inside.KnownNames.{IsKnown, IsKnownInside, AreKnown, AreKnownOthers}
+use Rattle.guard_tagging.specs.KnownNames.{IsKnown, IsKnownInside, AreKnown, AreKnownOthers}
 use Rattle.guard_schema.proofs.Throughout.Values.{Grows}
 
 module _ (tag_default : TagDefault) (fewer more : List ℕ → Option Meaning) (grows : Grows fewer more) where

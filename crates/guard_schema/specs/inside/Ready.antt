@@ -1,6 +1,6 @@
 -- What the code knows of a bare type before it is finished: the written type has it by its tags, so it is of the kind
 -- that is written, and its parts are those that are written; tags tell these apart, and no limit is broken.
-use Rattle.std.specs.Prelude.{◌≡◌, ◌⊎◌, ℕ, Bool, true, ◌&&◌, List, [], ◌∷◌, ◌++◌, Some, None, IsTrue, nat_le}
+use Rattle.std.specs.Prelude.{◌≡◌, ℕ, Bool, true, ◌&&◌, List, [], ◌∷◌, ◌++◌, Some, None, IsTrue, nat_le}
 use Rattle.guard_model.specs.declared.tag.Tag.{Tag}
 use Rattle.guard_model.specs.AbstractType as type
 use Rattle.guard_model.specs.AbstractType.{AbstractType, AbstractKind, Components, Constraints, type_of}
@@ -81,8 +81,7 @@ module _ (names : Visible) where
         × IsTrue (nat_le (component_count bare) most_components) × AreMadeUpOthers others bare)
     IsMadeUpBase (of_type k c t) kind cons = (cons ≡ type.no_constraints)
         × ((bare : AbstractType) × (kind ≡ of_kind k bare) × IsMadeUp t bare)
-    -- one that means nothing is NULL
-    IsMadeUpBase (named_type site name) kind cons = IsFresh kind cons ⊎ IsOfName name kind cons
+    IsMadeUpBase (named_type site name) kind cons = IsOfName name kind cons
 
     pub AreMadeUp : WrittenComponents → Components → Type 0
     AreMadeUp no_components bare = bare ≡ type.no_components
@@ -165,7 +164,7 @@ module _ (names : Visible) where
   abbrev pub IsShortAsMeant : List ℕ → AbstractType → Type 0
   IsShortAsMeant name t = (u : AbstractType) → names.types name ≡ Some u → tags_on t ≡ tags_on u → first_long t ≡ None
 
-  -- It is sound, but for long values in the constraints of a type that is referred to; an OF type can have SIZE.
+  -- The type is sound, but for long values in the constraints of a type that is referred to; an OF type can have SIZE.
   abbrev pub IsPart : WrittenBase → AbstractType → Type 0
   IsPart (plain p) t = IsTrue (is_sound t)
   IsPart (numbers ns) t = IsTrue (is_sound t)

@@ -17,7 +17,7 @@ use Rattle.guard_tagging.specs.Automatic.{base_of, IsAutomaticList, Automatic, a
 use Rattle.guard_tagging.specs.Skeletons.{AreMeanings}
 use Rattle.guard_tagging.specs.Surroundings.{tag_default_of, surroundings, is_automatic_definition}
 use Rattle.guard_tagging.specs.Types.{Meaning, Surroundings, is_meant_automatic, is_automatic_base, is_automatic}
-use Rattle.guard_tagging.specs.inside.KnownNames.{IsKnown, IsKnownInside}
+use Rattle.guard_tagging.specs.KnownNames.{IsKnown, IsKnownInside}
 use Rattle.guard_tagging.proofs.Definitions.Meanings.{automatic_there}
 use Rattle.guard_tagging.proofs.Definitions.KnownNames.{known_in_type}
 

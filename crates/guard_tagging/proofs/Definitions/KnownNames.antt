@@ -20,7 +20,7 @@ use Rattle.guard_names.proofs.ByNames.SameUses.{are_means}
 use Rattle.guard_tagging.specs.Skeletons.{AreMeanings}
 use Rattle.guard_tagging.specs.Surroundings.{surroundings}
 use Rattle.guard_tagging.specs.Types.{Surroundings, Meaning}
-use Rattle.guard_tagging.specs.inside.KnownNames.{IsKnown, IsKnownInside, AreKnown, AreKnownOthers}
+use Rattle.guard_tagging.specs.KnownNames.{IsKnown, IsKnownInside, AreKnown, AreKnownOthers}
 use Rattle.guard_tagging.proofs.Definitions.Meanings.{as_many}
 
 -- ---- a name of a type that means nothing would be a fault of names

@@ -16,6 +16,7 @@ use Rattle.guard_tagging.specs.inside.ReadTypes.{read_type}
 use Rattle.guard_tagging.specs.Skeletons.{AreSurroundings, IsTypeOf, IsFaultOf}
 use Rattle.guard_tagging.specs.Spelled.{IsSpelled, AreAssigned, IsSpelledModule}
 use Rattle.guard_tagging.specs.Surroundings.{nodes_of_all}
+use Rattle.guard_tagging.specs.KnownNames.{IsKnown}
 use Rattle.guard_tagging.specs.Tagged.{IsTagged, IsFirstFault, KeepLimits}
 use Rattle.guard_tagging.specs.Types.{Surroundings}
 use Rattle.guard_tagging.proofs.Types.Denoted.{given, refused, within, few}
@@ -53,17 +54,17 @@ module _ (ms : List WrittenModule) (order : List ℕ) (types : List AbstractType
     (is : Some d ≡ slice_get (definitions ms) id)
     (around : Surroundings) (are : AreSurroundings ms order types d around) (before : ℕ)
     (counted : before ≡ nodes_of_all types)
-    (spelled : IsSpelled d.assignment.ty) (kept : KeepLimits around) where
+    (spelled : IsSpelled d.assignment.ty) (kept : KeepLimits around) (known : IsKnown around d.assignment.ty) where
   -- the type that was made
   module _ (m : Made) (h : read_type around true None before d.assignment.ty ≡ Ok m) where
     tagged_here : IsTagged around before d.assignment.ty m.ty
-    tagged_here = (given around kept before d.assignment.ty spelled m h).0
+    tagged_here = (given around kept before d.assignment.ty spelled known m h).0
 
     pub tagged_so : IsTypeOf ms order types id m.ty
     tagged_so = (d, sym is, around, are, subst (λ (n : ℕ). IsTagged around n d.assignment.ty m.ty) counted tagged_here)
 
     pub counted_so : m.nodes ≡ before + nodes m.ty
-    counted_so = (given around kept before d.assignment.ty spelled m h).1
+    counted_so = (given around kept before d.assignment.ty spelled known m h).1
 
     pub few_so : m.nodes ≤ most_nodes
     few_so = subst (λ (n : ℕ). n ≤ most_nodes) (sym counted_so) (few around before d.assignment.ty m.ty tagged_here)
@@ -81,5 +82,5 @@ module _ (ms : List WrittenModule) (order : List ℕ) (types : List AbstractType
     around,
     are,
     subst (λ (n : ℕ). IsFirstFault around n d.assignment.ty f) counted
-        (refused around kept before d.assignment.ty spelled f h),
+        (refused around kept before d.assignment.ty spelled known f h),
   )

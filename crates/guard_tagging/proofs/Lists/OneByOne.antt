@@ -10,7 +10,7 @@ use Rattle.guard_syntax.specs.declared.tree.Collection.{Collection}
 use Rattle.guard_syntax.specs.declared.tree.CompTree.{CompTree}
 use Rattle.guard_syntax.specs.declared.tree.AlternativeTree.{AlternativeTree}
 use Rattle.guard_tagging.specs.declared.fault.TagFault.{TagFault}
-use Rattle.guard_tagging.specs.inside.KnownNames.{IsKnown, IsKnownForm, AreKnown, AreKnownOthers}
+use Rattle.guard_tagging.specs.KnownNames.{IsKnown, IsKnownForm, AreKnown, AreKnownOthers}
 use Rattle.guard_tagging.specs.inside.ReadParts.{PartList, next_tag, with_component, taken_in}
 use Rattle.guard_tagging.specs.inside.ReadTypes.{read_type, read_components, read_alternatives, read_entry, read_component, read_one}
 use Rattle.guard_tagging.specs.Types.{Surroundings, presence_of, is_automatic}

@@ -9,13 +9,15 @@ use Rattle.guard_tagging.specs.Named.{unless}
 use Rattle.guard_tagging.specs.inside.ReadNodes.{Made}
 use Rattle.guard_tagging.specs.inside.ReadTypes.{read_type}
 use Rattle.guard_tagging.specs.Spelled.{IsSpelled}
+use Rattle.guard_tagging.specs.KnownNames.{IsKnown}
 use Rattle.guard_tagging.specs.Tagged.{IsTagged, IsFirstFault, KeepLimits}
 use Rattle.guard_tagging.specs.Types.{Surroundings, denoted}
 use Rattle.guard_tagging.proofs.Types.WithinLimits as limits
 use Rattle.guard_tagging.proofs.Types.WithoutParts.{counted_is, made_of}
 use Rattle.guard_tagging.proofs.Types.WrittenTypes.{type_is}
 
-module _ (around : Surroundings) (kept : KeepLimits around) (before : ℕ) (t : WrittenType) (spelled : IsSpelled t) where
+module _ (around : Surroundings) (kept : KeepLimits around) (before : ℕ) (t : WrittenType) (spelled : IsSpelled t)
+    (known : IsKnown around t) where
   abbrev made : Made
   made = record { ty = denoted around t; nesting = (made_of true None before (denoted around t)).nesting; nodes = before + nodes (denoted around t) }
 
@@ -31,8 +33,8 @@ module _ (around : Surroundings) (kept : KeepLimits around) (before : ℕ) (t : 
   Answers (Err f) = IsFirstFault around before t f
 
   answered : (f : Option TagFault) → first_fault around before t ≡ f → Answers (unless f made)
-  answered None none = ((none, refl), refl)
-  answered (Some f) some = some
+  answered None none = ((none, refl, known), refl)
+  answered (Some f) some = (some, known)
 
   answers : Answers (read_type around true None before t)
   answers = subst Answers (sym read) (answered (first_fault around before t) refl)

@@ -30,7 +30,7 @@ use Rattle.guard_values.specs.Places.{Located, located, entry_place, entry_place
 use Rattle.guard_values.specs.Arrangement.{arranged, are_short}
 use Rattle.guard_values.specs.Denotes.{alternatives_of, ChosenDenotes, are_few, BracesDenote, Says, FormSays, EntrySays, EntriesSay}
 use Rattle.guard_values.specs.inside.Reading.{Read, answered, read_places, read_integer, string_fault, limited_arcs, read_arcs, read_named, placed, entry_at, settled, completed, limited, few, read_chosen, read_fields, read_braces, perhaps_limited, site_of, element_at, read, read_form, read_entries, read_elements}
-use Rattle.guard_values.specs.Faults.{are_too_few_arcs}
+use Rattle.guard_values.specs.Forms.{are_too_few_arcs}
 use Rattle.guard_values.proofs.Denoted.SettledFields.{field_at, HasFields, has_absent, has_filled, nothing_at, filled_there, kept_elsewhere, unfilled_elsewhere, located_type}
 
 -- ---- without a value inside

@@ -29,10 +29,12 @@ use Rattle.guard_values.specs.Meanings.{Governed, Meaning, own_number}
 use Rattle.guard_model.specs.Kinds.{kind_of}
 use Rattle.guard_values.specs.NamedBits.{name_alone, named_bit, ones_at}
 use Rattle.guard_values.specs.Simple.{bits_value, boolean_value, null_value, text_value}
-use Rattle.guard_values.specs.Places.{Located, located, entry_place, entry_places, is_among}
+use Rattle.guard_values.specs.Places.{Located, located, entry_place, entry_places, is_among, may_be_left_out}
 use Rattle.guard_values.specs.Arrangement.{arranged}
 use Rattle.guard_values.specs.Denotes.{alternatives_of, are_few}
-use Rattle.guard_values.specs.Faults.{entry_type, Somewhere, InEntry, takes, are_too_few_arcs, may_be_left_out, misses, is_below_some, entry_count, HasLongEncoding, where_taken, unless, faults_of_name, faults_of_arcs, faults_of_place, faults_after, faults_of_bit, faults_of_bits, faults_of_count, faults_of_list, faults_there, faults_of, faults_of_entries, faults_of_elements}
+use Rattle.guard_values.specs.Forms.{takes, are_too_few_arcs, entry_count}
+use Rattle.guard_values.specs.Conditions.{entry_type, Somewhere, InEntry, HasLongEncoding}
+use Rattle.guard_values.specs.Faults.{misses, is_below_some, where_taken, unless, faults_of_name, faults_of_arcs, faults_of_place, faults_after, faults_of_bit, faults_of_bits, faults_of_count, faults_of_list, faults_there, faults_of, faults_of_entries, faults_of_elements}
 use Rattle.guard_values.specs.inside.Reading.{Read, answered, read_bit, read_places, read_integer, read_text, limited_arcs, read_arcs, read_named, placed, entry_at, settled, completed, few, read_chosen, read_fields, read_set_of, read_braces, perhaps_limited, site_of, element_at, read, read_form, read_entries, read_elements}
 use Rattle.guard_values.proofs.Denoted.SettledFields.{field_at, HasFields, has_absent, has_filled, none_filled, filled_there, unfilled_elsewhere, located_type}
 use Rattle.guard_values.proofs.Denoted.ReadIsDenoted.{read_said, entry_ok}

@@ -1,7 +1,6 @@
 -- What whole values come to: the value that is denoted, or the first fault, which holds at its site.
 use Rattle.std.proofs.Common.{◌≡◌, Bool, true, false, cond, List, [], ◌∷◌, Some, Ok, Err, inl, inr, refl, sym, ap, ◌∙◌, subst}
 use Rattle.std.specs.Prelude.{slice_get}
-use Rattle.std.proofs.lemmas.Option.{slice_get_within, get_or_from_slice_get}
 use Rattle.guard_model.specs.Answer.{◌>>=◌}
 use Rattle.guard_model.proofs.Results.{same_Err, bind_ok, bind_err}
 use Rattle.guard_model.specs.declared.site.Site.{Site}
@@ -14,11 +13,13 @@ use Rattle.guard_values.specs.declared.fault.ValueFault.{ValueFault}
 use Rattle.guard_values.specs.declared.fault.ValueFault.TheVariants.{TooLarge}
 use Rattle.guard_values.specs.Meanings.{Meaning}
 use Rattle.guard_values.specs.Denotes.{Denotes}
-use Rattle.guard_values.specs.Faults.{Somewhere, HasLongEncoding, faults_of, IsFaultIn}
+use Rattle.guard_values.specs.Faults.{faults_of}
+use Rattle.guard_values.specs.Conditions.{Somewhere, HasLongEncoding, IsFaultIn}
 use Rattle.guard_values.specs.FirstFault.{IsFirstFault}
 use Rattle.guard_values.specs.inside.Reading.{Read, limited, site_of, read, read_first_fault, sorted_or, read_sorted, read_whole}
 use Rattle.guard_values.proofs.Denoted.DenotedIsRead.{says_read}
 use Rattle.guard_values.proofs.Denoted.ReadIsDenoted.{read_said, limited_ok}
+use Rattle.guard_values.proofs.FirstFaults.StandingFaults.{first_stands}
 use Rattle.guard_values.proofs.FirstFaults.ReadingRefuses.{Tells, IsLong, here_somewhere, read_tells}
 
 limited_err : (site : Site) (t : AbstractType) (v : AbstractValue) (f : ValueFault) → limited site t v ≡ Err f → (is_short (der t v) ≡ false) × (TooLarge site ≡ f)
@@ -65,7 +66,7 @@ whole_first m tree t f e = elim (bind_err (read_sorted m t tree) (λ v. limited 
 ]
 
 pub first_holds : (m : Meaning) (tree : WrittenValue) (t : AbstractType) (f : ValueFault) → IsFirstFault m t tree f → IsFaultIn m t tree f
-first_holds m tree t f (inl h) = inl (0, slice_get_within (faults_of m t tree) 0 f h, get_or_from_slice_get (faults_of m t tree) 0 f f h)
+first_holds m tree t f (inl h) = inl (first_stands m tree t f h)
 first_holds m tree t f (inr h) = inr h.1
 
 pub whole_holds : (m : Meaning) (tree : WrittenValue) (t : AbstractType) (f : ValueFault) → read_whole m t tree ≡ Err f → IsFaultIn m t tree f

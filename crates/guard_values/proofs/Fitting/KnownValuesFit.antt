@@ -7,7 +7,7 @@ use Rattle.guard_values.specs.declared.scope.Known.{Known}
 use Rattle.guard_values.specs.Meanings.{AreFitting}
 use Rattle.guard_values.specs.Views.{known_definition, place_from, visible_from, AreKnownFitting}
 
-known_fits : (known : Known) → AreKnownFitting known → (place : Option ℕ)
+pub known_fits : (known : Known) → AreKnownFitting known → (place : Option ℕ)
     → IfSome (known_definition known place) (λ g. IsTrue (fits g.ty g.value))
 known_fits known fit None = tt
 known_fits known fit (Some place) = fit place

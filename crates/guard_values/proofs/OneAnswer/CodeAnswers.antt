@@ -1,8 +1,9 @@
 -- What whole values come to, by the code's answers.
-use Rattle.std.proofs.Common.{◌≡◌, Option, Some, None, List, ℕ, false, true, ◌&&◌, Result, Ok, Err, ◌∙◌, IfOk, IfErr, IfSome, IsTrue}
+use Rattle.std.proofs.Common.{◌≡◌, Option, Some, None, List, ℕ, false, true, ◌&&◌, Result, Ok, Err, ap, subst, ◌∙◌, IfOk, IfErr, IfSome, IsTrue}
 use Rattle.std.specs.Global.{Global}
 use Rattle.std.specs.declared.sync.Arc.{Arc}
-use Rattle.std.specs.Prelude.{nat_le}
+use Rattle.std.specs.Prelude.{nat_le, option_and_then}
+use Rattle.std.proofs.Math.Path.{fun_ext}
 use Rattle.std.proofs.lemmas.Bool.{and_parts}
 use Rattle.guard_model.specs.Answer.{Gives, Refuses}
 use Rattle.guard_model.proofs.Results.{bind_ok}
@@ -15,13 +16,18 @@ use Rattle.guard_der.specs.Fits.{fits}
 use Rattle.guard_der.specs.Sound.{is_sound, is_proper, has_distinct_tags}
 use Rattle.guard_model.specs.Limits.{deepest_nesting}
 use Rattle.guard_syntax.specs.Trees.{WrittenValue, WrittenEntry}
+use Rattle.guard_names.specs.declared.names.Names.{Names}
+use Rattle.guard_names.specs.Meanings.{number_meant_in}
+use Rattle.guard_names.specs.NamesView.{modules_of, order_of}
+use Rattle.guard_names.specs.Places.{place_in}
 use Rattle.guard_values.specs.declared.fault.ValueFault.{ValueFault}
+use Rattle.guard_values.specs.declared.scope.Known.{Known}
 use Rattle.guard_values.specs.Meanings.{Meaning, AreFitting}
 use Rattle.guard_values.specs.Denotes.{Denotes}
-use Rattle.guard_values.specs.Faults.{IsFaultIn}
+use Rattle.guard_values.specs.Conditions.{IsFaultIn}
 use Rattle.guard_values.specs.FirstFault.{IsFirstFault}
 use Rattle.guard_values.specs.inside.Reading.{Read, element_at, site_of, read, read_sorted, read_whole}
-use Rattle.guard_values.specs.Views.{named, shared_view}
+use Rattle.guard_values.specs.Views.{named, shared_view, known_definition}
 use Rattle.guard_values.proofs.Denoted.ReadIsDenoted.{read_said}
 use Rattle.guard_values.proofs.Fitting.DenotedValuesFit.{says_fits}
 use Rattle.guard_values.proofs.FirstFaults.WholeValues.{whole_first, whole_holds, sorted_ok, whole_denotes, whole_denotes_none}
@@ -45,6 +51,15 @@ pub sorted_fits : (m : Meaning) → AreFitting m → (tree : WrittenValue) (t : 
 sorted_fits m fit tree t v proper e = read_fits m fit tree t v proper (sorted_ok m tree t v e)
 
 -- ---- what a call answers
+
+-- what is read in the module at a place is read by what the names mean there
+pub read_there : (names : Names) (known : Known) (place : Option ℕ) (meant : List ℕ → Option ℕ)
+    → ((name : List ℕ) → number_meant_in (modules_of names) place name ≡ meant name)
+    → (t : AbstractType) (tree : WrittenValue) (answer : Result (Arc Value Global) ValueFault)
+    → Gives shared_view named answer (read_whole (λ name. known_definition known (option_and_then (place_in (order_of names)) (number_meant_in (modules_of names) place name))) t tree)
+    → Gives shared_view named answer (read_whole (λ name. known_definition known (option_and_then (place_in (order_of names)) (meant name))) t tree)
+read_there names known place meant same t tree answer = subst (λ (m : Meaning). Gives shared_view named answer (read_whole m t tree))
+    (fun_ext (λ name. ap (λ (o : Option ℕ). known_definition known (option_and_then (place_in (order_of names)) o)) (same name)))
 
 module _ (m : Meaning) (t : AbstractType) (tree : WrittenValue) where
   pub gives_denoted : (answer : Result (Arc Value Global) ValueFault) → Gives shared_view named answer (read_whole m t tree) → IfOk answer (λ v. Denotes m t tree (shared_view v))

@@ -23,7 +23,8 @@ use Rattle.guard_model.specs.Kinds.{kind_of}
 use Rattle.guard_values.specs.Places.{Located, located, entry_places, is_among, are_different}
 use Rattle.guard_values.specs.Arrangement.{are_short}
 use Rattle.guard_values.specs.Denotes.{alternatives_of, Says, FormSays, BracesDenote, ChosenDenotes, EntrySays, EntriesSay, Denotes}
-use Rattle.guard_values.specs.Faults.{entry_type, chosen_type, Somewhere, Inside, InEntry, HasLongEncoding, faults_of}
+use Rattle.guard_values.specs.Faults.{faults_of}
+use Rattle.guard_values.specs.Conditions.{entry_type, chosen_type, Somewhere, Inside, InEntry, HasLongEncoding}
 use Rattle.guard_values.specs.FirstFault.{IsFirstFault}
 use Rattle.guard_values.specs.inside.Reading.{Read, read_whole}
 use Rattle.guard_values.specs.Views.{named}
@@ -186,7 +187,7 @@ first_read m tree t f (Err g) sound is h = ap Err (one_first m tree t g f (whole
 pub refused_first : (m : Meaning) (t : AbstractType) (tree : WrittenValue) (f : ValueFault) → is_sound t ≡ true → (read_whole m t tree ≡ Err f) ↔ IsFirstFault m t tree f
 refused_first m t tree f sound = (λ e. whole_first m tree t f e, λ h. first_read m tree t f (read_whole m t tree) sound refl h)
 
--- It gives the value denoted, and no other.
+-- Reading gives the value denoted, and no other.
 pub read_denoted : (m : Meaning) (t : AbstractType) (tree : WrittenValue) (v : AbstractValue) → (read_whole m t tree ≡ Ok v) ↔ Denotes m t tree v
 read_denoted m t tree v = (λ e. whole_denotes m tree t v e, λ h. denotes_whole m tree t v h)
 

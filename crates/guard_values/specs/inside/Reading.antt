@@ -24,7 +24,7 @@ use Rattle.guard_values.specs.Simple.{bits_value, boolean_value, null_value, int
 use Rattle.guard_values.specs.Places.{Located, located}
 use Rattle.guard_values.specs.Arrangement.{arranged}
 use Rattle.guard_values.specs.Denotes.{are_few}
-use Rattle.guard_values.specs.Faults.{are_too_few_arcs}
+use Rattle.guard_values.specs.Forms.{are_too_few_arcs}
 
 abbrev pub Read : Type 0 → Type 0
 Read A = Result A ValueFault

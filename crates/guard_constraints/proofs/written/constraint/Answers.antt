@@ -1,7 +1,7 @@
 use Rattle.guard_model.specs.TypeView.{type_view}
 use Rattle.guard_syntax.specs.SetViews as views
 use Rattle.guard_constraints.specs.Views.{visible_at}
-use Rattle.guard_constraints.proofs.Denoted.CodeAnswers.{gives_denoted, gives_proper, gives_faultless, gives_first, gives_none}
+use Rattle.guard_constraints.proofs.Denoted.CodeAnswers.{gives_denoted, gives_proper, gives_faultless, gives_holding, gives_first, gives_none}
 use Rattle.guard_values.proofs.Fitting.KnownValuesFit.{visible_fit}
 use Rattle.guard_constraints.proofs.Denoted.WrittenValues.{visible_sound}
 use Rattle.guard_constraints.proofs.written.constraint.Goals as goal
@@ -19,6 +19,11 @@ returns-clause-proper c =
 pub returns-clause-faultless : goal.returns-clause-faultless
 returns-clause-faultless c =
     gives_faultless (visible_at c.args.names.now c.args.known.now c.args.id) (type_view c.args.ty.now) (views.constraint_view c.args.tree.now)
+    (visible_fit c.args.names.now c.args.known.now c.args.id c.requires.fitting) c.requires.sound c.on_type.result c.on_type.ensures
+
+pub returns-clause-holds : goal.returns-clause-holds
+returns-clause-holds c =
+    gives_holding (visible_at c.args.names.now c.args.known.now c.args.id) (type_view c.args.ty.now) (views.constraint_view c.args.tree.now)
     (visible_fit c.args.names.now c.args.known.now c.args.id c.requires.fitting) c.requires.sound c.on_type.result c.on_type.ensures
 
 pub returns-clause-first : goal.returns-clause-first

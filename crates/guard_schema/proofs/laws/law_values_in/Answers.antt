@@ -1,5 +1,8 @@
-use Rattle.guard_schema.proofs.Alone.{values_beside}
+use Rattle.guard_schema.proofs.Alone.{means_value, means_none}
 use Rattle.guard_schema.proofs.laws.law_values_in.Goals as goal
 
-pub returns : goal.returns
-returns c = values_beside
+pub returns-clause-meant : goal.returns-clause-meant
+returns-clause-meant c = means_value
+
+pub returns-clause-none : goal.returns-clause-none
+returns-clause-none c = means_none

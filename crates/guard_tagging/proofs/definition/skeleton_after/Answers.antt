@@ -19,7 +19,7 @@ use Rattle.guard_tagging.specs.Automatic.{Automatic}
 use Rattle.guard_tagging.specs.declared.fault.TagFault.{TagFault}
 use Rattle.guard_tagging.specs.declared.made.Made.{Made}
 use Rattle.guard_tagging.specs.Faults.{nodes, most_nodes}
-use Rattle.guard_tagging.specs.inside.KnownNames.{IsKnown}
+use Rattle.guard_tagging.specs.KnownNames.{IsKnown}
 use Rattle.guard_tagging.specs.Named.{named}
 use Rattle.guard_tagging.specs.inside.NodeViews.{made_view}
 use Rattle.guard_tagging.specs.inside.ReadTypes.{read_type}
@@ -99,12 +99,13 @@ module _ (c : After-deref) where
   no_fault = none_is (fault_of_names ms) c.args.names.now.faultless
 
   -- the names in its type
+  all_known : IsKnown around d.assignment.ty
+  all_known =
+      subst (λ (a : Surroundings). IsKnown a d.assignment.ty) (sym same)
+      (known_in_type ms no_fault order c.args.names.now.ordered types known c.requires.known c.args.id next d (sym is))
+
   names_known : IsKnown around (written.type_view c.deref.result.now)
-  names_known =
-      let here =
-      known_in_type ms no_fault order c.args.names.now.ordered types known c.requires.known c.args.id next d (sym is) in
-      subst (λ (t : TypeTree). IsKnown around (written.type_view t)) (sym tree)
-      (subst (λ (a : Surroundings). IsKnown a d.assignment.ty) (sym same) here)
+  names_known = subst (λ (t : TypeTree). IsKnown around (written.type_view t)) (sym tree) all_known
 
   -- whether it is a list that is tagged automatically
   automatic : (flag : Bool) → flag ≡ is_automatic_definition ms order known (slice_get (definitions ms) c.args.id)
@@ -118,7 +119,7 @@ module _ (c : After-deref) where
   refusal : (f : Option TagFault) → Refuses f (read_type around true None before (written.type_view c.deref.result.now))
       → IfSome f (IsFaultOf ms order types c.args.id)
   refusal f met =
-      refused_so ms order types c.args.id d is around are before c.requires.counted spelled kept f
+      refused_so ms order types c.args.id d is around are before c.requires.counted spelled kept all_known f
       (subst (λ (t : TypeTree). Refuses f (read_type around true None before (written.type_view t))) tree met)
 
   -- the type that it made
@@ -128,10 +129,10 @@ module _ (c : After-deref) where
   answer m read =
       let made : read_type around true None before d.assignment.ty ≡ Ok (made_view m) =
       ap (λ (t : TypeTree). read_type around true None before (written.type_view t)) (sym tree) ∙ read in (
-        tagged_so ms order types c.args.id d is around are before c.requires.counted spelled kept (made_view m) made,
-        within_so ms order types c.args.id d is around are before c.requires.counted spelled kept (made_view m) made,
-        counted_so ms order types c.args.id d is around are before c.requires.counted spelled kept (made_view m) made,
-        few_so ms order types c.args.id d is around are before c.requires.counted spelled kept (made_view m) made,
+        tagged_so ms order types c.args.id d is around are before c.requires.counted spelled kept all_known (made_view m) made,
+        within_so ms order types c.args.id d is around are before c.requires.counted spelled kept all_known (made_view m) made,
+        counted_so ms order types c.args.id d is around are before c.requires.counted spelled kept all_known (made_view m) made,
+        few_so ms order types c.args.id d is around are before c.requires.counted spelled kept all_known (made_view m) made,
       )
 
 pub type_of-requires : goal.type_of-requires

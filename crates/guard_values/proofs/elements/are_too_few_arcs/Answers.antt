@@ -4,7 +4,7 @@ use Rattle.guard_syntax.specs.Trees as written
 use Rattle.guard_syntax.specs.Trees.{WrittenValue, WrittenEntries, entry, value_node, entries_of}
 use Rattle.guard_syntax.specs.Views as trees
 use Rattle.guard_syntax.specs.declared.tree.EntryTree.{EntryTree}
-use Rattle.guard_values.specs.Faults.{are_too_few_arcs}
+use Rattle.guard_values.specs.Forms.{are_too_few_arcs}
 use Rattle.guard_values.proofs.elements.are_too_few_arcs.Goals as goal
 
 more : (site : Site) (name : Option (List ℕ)) (tree : WrittenValue) (other : Site) (called : Option (List ℕ)) (second : WrittenValue) (rest : WrittenEntries) → are_too_few_arcs (entry site name tree (entry other called second rest)) ≡ false

@@ -1,33 +1,38 @@
+use Rattle.guard_model.specs.Answer.{Gives}
 use Rattle.guard_model.specs.TypeView.{type_view}
+use Rattle.guard_names.specs.Meanings.{number_meant_from}
+use Rattle.guard_names.specs.NamesView.{modules_of}
 use Rattle.guard_syntax.specs.Views as trees
-use Rattle.guard_values.specs.Views.{visible_from}
-use Rattle.guard_values.proofs.Fitting.KnownValuesFit.{visible_fit}
-use Rattle.guard_values.proofs.OneAnswer.CodeAnswers.{sound_proper, gives_denoted, gives_fitting, gives_fault, gives_first, gives_none}
+use Rattle.guard_values.specs.inside.Reading.{read_whole}
+use Rattle.guard_values.specs.Views.{named, shared_view, visible_from}
+use Rattle.guard_values.proofs.Fitting.KnownValuesFit.{known_fits}
+use Rattle.guard_values.proofs.OneAnswer.CodeAnswers.{sound_proper, read_there, gives_denoted, gives_fitting, gives_fault, gives_first, gives_none}
 use Rattle.guard_values.proofs.values.shared_value.Goals as goal
 
 pub value_within_limit-requires-clause-proper : goal.value_within_limit-requires-clause-proper
 value_within_limit-requires-clause-proper c = sound_proper (type_view c.args.ty.now) c.requires.sound
 
 pub value_within_limit-requires-clause-fitting : goal.value_within_limit-requires-clause-fitting
-value_within_limit-requires-clause-fitting c = visible_fit c.args.names.now c.args.known.now c.args.id c.requires.fitting
+value_within_limit-requires-clause-fitting c = λ name. known_fits c.args.known.now c.requires.fitting _
+
+given : (c : goal.After-value_within_limit) → Gives shared_view named c.value_within_limit.result
+    (read_whole (visible_from c.args.names.now c.args.known.now c.args.id) (type_view c.args.ty.now) (trees.value_view c.args.tree.now))
+given c = read_there c.args.names.now c.args.known.now c.module_of-home.result (number_meant_from (modules_of c.args.names.now) c.args.id)
+    c.module_of-home.ensures.meant (type_view c.args.ty.now) (trees.value_view c.args.tree.now) c.value_within_limit.result c.value_within_limit.ensures
 
 pub returns-clause-denoted : goal.returns-clause-denoted
-returns-clause-denoted c =
-    gives_denoted (visible_from c.args.names.now c.args.known.now c.args.id) (type_view c.args.ty.now) (trees.value_view c.args.tree.now) c.value_within_limit.result c.value_within_limit.ensures
+returns-clause-denoted c = gives_denoted _ (type_view c.args.ty.now) (trees.value_view c.args.tree.now) c.value_within_limit.result (given c)
 
 pub returns-clause-fits : goal.returns-clause-fits
-returns-clause-fits c =
-    gives_fitting (visible_from c.args.names.now c.args.known.now c.args.id) (type_view c.args.ty.now) (trees.value_view c.args.tree.now)
-    (visible_fit c.args.names.now c.args.known.now c.args.id c.requires.fitting) (sound_proper (type_view c.args.ty.now) c.requires.sound) c.value_within_limit.result c.value_within_limit.ensures
+returns-clause-fits c = gives_fitting _ (type_view c.args.ty.now) (trees.value_view c.args.tree.now)
+    (λ name. known_fits c.args.known.now c.requires.fitting _) (sound_proper (type_view c.args.ty.now) c.requires.sound)
+    c.value_within_limit.result (given c)
 
 pub returns-clause-holds : goal.returns-clause-holds
-returns-clause-holds c =
-    gives_fault (visible_from c.args.names.now c.args.known.now c.args.id) (type_view c.args.ty.now) (trees.value_view c.args.tree.now) c.value_within_limit.result c.value_within_limit.ensures
+returns-clause-holds c = gives_fault _ (type_view c.args.ty.now) (trees.value_view c.args.tree.now) c.value_within_limit.result (given c)
 
 pub returns-clause-none : goal.returns-clause-none
-returns-clause-none c =
-    gives_none (visible_from c.args.names.now c.args.known.now c.args.id) (type_view c.args.ty.now) (trees.value_view c.args.tree.now) c.value_within_limit.result c.value_within_limit.ensures
+returns-clause-none c = gives_none _ (type_view c.args.ty.now) (trees.value_view c.args.tree.now) c.value_within_limit.result (given c)
 
 pub returns-clause-first : goal.returns-clause-first
-returns-clause-first c =
-    gives_first (visible_from c.args.names.now c.args.known.now c.args.id) (type_view c.args.ty.now) (trees.value_view c.args.tree.now) c.value_within_limit.result c.value_within_limit.ensures
+returns-clause-first c = gives_first _ (type_view c.args.ty.now) (trees.value_view c.args.tree.now) c.value_within_limit.result (given c)

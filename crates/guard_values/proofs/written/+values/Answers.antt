@@ -12,7 +12,7 @@ use Rattle.guard_syntax.specs.Views as trees
 use Rattle.guard_syntax.specs.declared.tree.ValueForm.{the_lemmas}
 use Rattle.guard_values.specs.Arrangement.{AreEncodings, encoded_value}
 use Rattle.guard_values.specs.inside.Reading.{read_entries, read_elements, read_list}
-use Rattle.guard_values.specs.Views.{named, encoded_view, located_view, meaning_of}
+use Rattle.guard_values.specs.Views.{named, encoded_view, located_view, values_of}
 use Rattle.guard_values.proofs.SetOf.MadeEncodings.{one_more_encoding}
 use Rattle.guard_values.proofs.Braces.ProperComponents.{kind_proper}
 use Rattle.guard_values.proofs.Braces.EntriesInTurn.{list_is, plain_element, entry_found, elements_from, with_front, elements_on, elements_refused, elements_done, entries_put, entries_refused, entries_done}
@@ -23,7 +23,7 @@ use Rattle.guard_values.proofs.written.+values.Goals as goal
 
 pub form-returns-in-List : goal.form-returns-in-List
 form-returns-in-List t c =
-    subst (λ r. Gives value_view named c.braces.result r) (sym (list_is (meaning_of c.args.scope) c.args.sorted c.args.ty.now c.args.site c.args.form.now c.in-List.entries c.in-List.is)) (rw c.deref-in-List.ensures.value at c.braces.ensures)
+    subst (λ r. Gives value_view named c.braces.result r) (sym (list_is (values_of c.args.scope) c.args.sorted c.args.ty.now c.args.site c.args.form.now c.in-List.entries c.in-List.is)) (rw c.deref-in-List.ensures.value at c.braces.ensures)
 
 pub form-chosen-requires : goal.form-chosen-requires
 form-chosen-requires t c = (search (rules, the_lemmas), (kind_proper c.args.ty.now c.requires.proper, c.requires.fitting))
@@ -38,22 +38,22 @@ chosen-read-requires t c = (search (rules, the_lemmas), (c.in_ok-place.ensures.p
 
 pub braces-returns-in-Sequence : goal.braces-returns-in-Sequence
 braces-returns-in-Sequence t c =
-    subst (λ k. Gives value_view named c.fields.result (read_list (meaning_of c.args.scope) c.args.sorted c.args.site k (entries_of (map trees.entry_view c.args.entries.now))))
+    subst (λ k. Gives value_view named c.fields.result (read_list (values_of c.args.scope) c.args.sorted c.args.site k (entries_of (map trees.entry_view c.args.entries.now))))
     (sym (ap kind_view c.in-Sequence.is ∙ kind_view_sequence c.in-Sequence.comps)) (rw c.deref.ensures.value at c.fields.ensures)
 
 pub braces-returns-in-Set : goal.braces-returns-in-Set
 braces-returns-in-Set t c =
-    subst (λ k. Gives value_view named c.fields-in-Set.result (read_list (meaning_of c.args.scope) c.args.sorted c.args.site k (entries_of (map trees.entry_view c.args.entries.now))))
+    subst (λ k. Gives value_view named c.fields-in-Set.result (read_list (values_of c.args.scope) c.args.sorted c.args.site k (entries_of (map trees.entry_view c.args.entries.now))))
     (sym (ap kind_view c.in-Set.is ∙ kind_view_set c.in-Set.comps)) (rw c.deref-in-Set.ensures.value at c.fields-in-Set.ensures)
 
 pub braces-returns-in-SequenceOf : goal.braces-returns-in-SequenceOf
 braces-returns-in-SequenceOf t c =
-    subst (λ k. Gives value_view named c.items.result (read_list (meaning_of c.args.scope) c.args.sorted c.args.site k (entries_of (map trees.entry_view c.args.entries.now))))
+    subst (λ k. Gives value_view named c.items.result (read_list (values_of c.args.scope) c.args.sorted c.args.site k (entries_of (map trees.entry_view c.args.entries.now))))
     (sym (ap kind_view c.in-SequenceOf.is ∙ kind_view_sequence_of c.in-SequenceOf.ty)) (rw c.deref-in-SequenceOf.ensures at c.items.ensures)
 
 pub braces-returns-in-SetOf : goal.braces-returns-in-SetOf
 braces-returns-in-SetOf t c =
-    subst (λ k. Gives value_view named c.set_items.result (read_list (meaning_of c.args.scope) c.args.sorted c.args.site k (entries_of (map trees.entry_view c.args.entries.now))))
+    subst (λ k. Gives value_view named c.set_items.result (read_list (values_of c.args.scope) c.args.sorted c.args.site k (entries_of (map trees.entry_view c.args.entries.now))))
     (sym (ap kind_view c.in-SetOf.is ∙ kind_view_set_of c.in-SetOf.ty)) (rw c.deref-in-SetOf.ensures at c.set_items.ensures)
 
 -- ---- components
@@ -63,7 +63,7 @@ entry_value-read-requires t c = (search (rules, the_lemmas), (c.in_ok-place.ensu
 
 pub entry_value-returns-clause-given : goal.entry_value-returns-clause-given
 entry_value-returns-clause-given t c =
-    entry_found (meaning_of c.args.scope) c.args.sorted c.args.ordered (components_of (map component_view c.args.comps.now)) c.args.next (fields_view c.args.fields.now) c.args.entry.now (located_view (c.in_ok-place.place, c.in_ok-place.ty)) (value_view c.in_ok-value.value)
+    entry_found (values_of c.args.scope) c.args.sorted c.args.ordered (components_of (map component_view c.args.comps.now)) c.args.next (fields_view c.args.fields.now) c.args.entry.now (located_view (c.in_ok-place.place, c.in_ok-place.ty)) (value_view c.in_ok-value.value)
     c.in_ok-place.ensures.given c.in_ok-value.ensures
 
 pub entry_fields-loop-entry-preserved : goal.entry_fields-loop-entry-preserved
@@ -71,8 +71,8 @@ entry_fields-loop-entry-preserved t c =
     let cs = components_of (map component_view c.args.comps.now) in
     record {
       count = ap length c.set_field.ensures ∙ length-set c.loop-entry.fields.items c.in_ok-place.place _ ∙ c.loop-entry.invariant.count;
-      so_far = entries_put (meaning_of c.args.scope) c.args.sorted c.args.ordered cs c.args.entries.now c.loop-entry.next c.loop-entry.fields.items c.set_field.new.fields.items c.loop-entry.entry-index c.entry-item.result c.in_ok-place.place c.in_ok-place.value
-          (read_entries (meaning_of c.args.scope) c.args.sorted c.args.ordered cs 0 (all_absent cs) (entries_of (map trees.entry_view c.args.entries.now))) c.loop-entry-test.true c.entry-item.is
+      so_far = entries_put (values_of c.args.scope) c.args.sorted c.args.ordered cs c.args.entries.now c.loop-entry.next c.loop-entry.fields.items c.set_field.new.fields.items c.loop-entry.entry-index c.entry-item.result c.in_ok-place.place c.in_ok-place.value
+          (read_entries (values_of c.args.scope) c.args.sorted c.args.ordered cs 0 (all_absent cs) (entries_of (map trees.entry_view c.args.entries.now))) c.loop-entry-test.true c.entry-item.is
           (rw c.deref.ensures.value at c.in_ok-place.ensures.given) (subst (λ n. c.in_ok-place.place < n) (sym c.loop-entry.invariant.count) c.in_ok-place.ensures.within) c.set_field.ensures c.loop-entry.invariant.so_far;
     }
 
@@ -80,24 +80,24 @@ pub entry_fields-returns-in_err-place-clause-given : goal.entry_fields-returns-i
 entry_fields-returns-in_err-place-clause-given t c =
     let cs = components_of (map component_view c.args.comps.now) in
     let p = err_from_is_err_and c.from_residual-in_err-place.result c.from_residual-in_err-place.ensures.1 in
-    rw (p.1, p.2) (entries_refused (meaning_of c.args.scope) c.args.sorted c.args.ordered cs c.args.entries.now (named c.in_err-place.field-0.0) c.loop-entry.next (fields_view c.loop-entry.fields.items) c.loop-entry.entry-index c.entry-item.result
-    (read_entries (meaning_of c.args.scope) c.args.sorted c.args.ordered cs 0 (all_absent cs) (entries_of (map trees.entry_view c.args.entries.now))) c.loop-entry-test.true c.entry-item.is (rw c.deref.ensures.value at c.in_err-place.ensures.given) c.loop-entry.invariant.so_far)
+    rw (p.1, p.2) (entries_refused (values_of c.args.scope) c.args.sorted c.args.ordered cs c.args.entries.now (named c.in_err-place.field-0.0) c.loop-entry.next (fields_view c.loop-entry.fields.items) c.loop-entry.entry-index c.entry-item.result
+    (read_entries (values_of c.args.scope) c.args.sorted c.args.ordered cs 0 (all_absent cs) (entries_of (map trees.entry_view c.args.entries.now))) c.loop-entry-test.true c.entry-item.is (rw c.deref.ensures.value at c.in_err-place.ensures.given) c.loop-entry.invariant.so_far)
 
 pub entry_fields-returns-clause-given : goal.entry_fields-returns-clause-given
 entry_fields-returns-clause-given t c =
     let cs = components_of (map component_view c.args.comps.now) in
-    entries_done (meaning_of c.args.scope) c.args.sorted c.args.ordered cs c.args.entries.now c.loop-entry.next (fields_view c.loop-entry.fields.items) c.loop-entry.entry-index
-    (read_entries (meaning_of c.args.scope) c.args.sorted c.args.ordered cs 0 (all_absent cs) (entries_of (map trees.entry_view c.args.entries.now))) c.loop-entry-test.false c.loop-entry.invariant.so_far
+    entries_done (values_of c.args.scope) c.args.sorted c.args.ordered cs c.args.entries.now c.loop-entry.next (fields_view c.loop-entry.fields.items) c.loop-entry.entry-index
+    (read_entries (values_of c.args.scope) c.args.sorted c.args.ordered cs 0 (all_absent cs) (entries_of (map trees.entry_view c.args.entries.now))) c.loop-entry-test.false c.loop-entry.invariant.so_far
 
 -- ---- elements
 
 pub element-returns : goal.element-returns
 element-returns t c =
-    subst (λ r. Gives value_view named c.read.result r) (sym (plain_element (meaning_of c.args.scope) c.args.sorted (type_view c.args.ty.now) c.args.entry.now (sym c.is_some.ensures ∙ c.if-is_some.false))) c.read.ensures
+    subst (λ r. Gives value_view named c.read.result r) (sym (plain_element (values_of c.args.scope) c.args.sorted (type_view c.args.ty.now) c.args.entry.now (sym c.is_some.ensures ∙ c.if-is_some.false))) c.read.ensures
 
 pub elements-loop-entry-preserved : goal.elements-loop-entry-preserved
 elements-loop-entry-preserved t c =
-    let m = meaning_of c.args.scope in
+    let m = values_of c.args.scope in
     let total = read_elements m c.args.sorted false (type_view c.args.ty.now) (entries_of (map trees.entry_view c.args.entries.now)) in
     let more = elements_on m c.args.sorted false (type_view c.args.ty.now) c.args.entries.now c.loop-entry.entry-index c.entry-item.result (map value_view c.loop-entry.elements.items) (value_view c.in_ok-value.value) total c.loop-entry-test.true c.entry-item.is
     c.in_ok-value.ensures c.loop-entry.invariant in
@@ -106,14 +106,14 @@ elements-loop-entry-preserved t c =
 
 pub elements-returns-in_err-value : goal.elements-returns-in_err-value
 elements-returns-in_err-value t c =
-    let m = meaning_of c.args.scope in
+    let m = values_of c.args.scope in
     let p = err_from_is_err_and c.from_residual-in_err-value.result c.from_residual-in_err-value.ensures.1 in
     rw (p.1, p.2) (elements_refused m c.args.sorted false (type_view c.args.ty.now) c.args.entries.now (named c.in_err-value.field-0.0) c.loop-entry.entry-index c.entry-item.result (map value_view c.loop-entry.elements.items)
     (read_elements m c.args.sorted false (type_view c.args.ty.now) (entries_of (map trees.entry_view c.args.entries.now))) c.loop-entry-test.true c.entry-item.is c.in_err-value.ensures c.loop-entry.invariant)
 
 pub elements-returns : goal.elements-returns
 elements-returns t c =
-    let m = meaning_of c.args.scope in
+    let m = values_of c.args.scope in
     elements_done m c.args.sorted false (type_view c.args.ty.now) c.args.entries.now c.loop-entry.entry-index (map value_view c.loop-entry.elements.items)
     (read_elements m c.args.sorted false (type_view c.args.ty.now) (entries_of (map trees.entry_view c.args.entries.now))) c.loop-entry-test.false c.loop-entry.invariant
 
@@ -121,11 +121,11 @@ elements-returns t c =
 
 pub encoded_element-encoded-requires : goal.encoded_element-encoded-requires
 encoded_element-encoded-requires t c =
-    element_fits (meaning_of c.args.scope) c.requires.fitting (type_view c.args.ty.now) (trees.entry_view c.args.entry.now) (value_view c.in_ok-value.value) c.requires.proper c.in_ok-value.ensures
+    element_fits (values_of c.args.scope) c.requires.fitting (type_view c.args.ty.now) (trees.entry_view c.args.entry.now) (value_view c.in_ok-value.value) c.requires.proper c.in_ok-value.ensures
 
 pub encoded_elements-loop-entry-preserved : goal.encoded_elements-loop-entry-preserved
 encoded_elements-loop-entry-preserved t c =
-    let m = meaning_of c.args.scope in
+    let m = values_of c.args.scope in
     let total = read_elements m true true (type_view c.args.ty.now) (entries_of (map trees.entry_view c.args.entries.now)) in
     let before = map encoded_view c.loop-entry.elements.items in
     let pushed : map encoded_view c.push.new.self.items ≡ before ++ encoded_view c.in_ok-element.element ∷ [] = ap (map encoded_view) c.in_ok-push.ensures.items ∙ map_push encoded_view c.loop-entry.elements.items c.in_ok-element.element in
@@ -139,13 +139,13 @@ encoded_elements-loop-entry-preserved t c =
 
 pub encoded_elements-returns-in_err-element-clause-given : goal.encoded_elements-returns-in_err-element-clause-given
 encoded_elements-returns-in_err-element-clause-given t c =
-    let m = meaning_of c.args.scope in
+    let m = values_of c.args.scope in
     let p = err_from_is_err_and c.from_residual-in_err-element.result c.from_residual-in_err-element.ensures.1 in
     rw (p.1, p.2) (elements_refused m true true (type_view c.args.ty.now) c.args.entries.now (named c.in_err-element.field-0.0) c.loop-entry.entry-index c.entry-item.result (map encoded_value (map encoded_view c.loop-entry.elements.items))
     (read_elements m true true (type_view c.args.ty.now) (entries_of (map trees.entry_view c.args.entries.now))) c.loop-entry-test.true c.entry-item.is c.in_err-element.ensures.given c.loop-entry.invariant.so_far)
 
 pub encoded_elements-returns-clause-given : goal.encoded_elements-returns-clause-given
 encoded_elements-returns-clause-given t c =
-    let m = meaning_of c.args.scope in
+    let m = values_of c.args.scope in
     elements_done m true true (type_view c.args.ty.now) c.args.entries.now c.loop-entry.entry-index (map encoded_value (map encoded_view c.loop-entry.elements.items))
     (read_elements m true true (type_view c.args.ty.now) (entries_of (map trees.entry_view c.args.entries.now))) c.loop-entry-test.false c.loop-entry.invariant.so_far

@@ -1,4 +1,4 @@
--- Written types in which each name of a type means something.
+-- Written types in which each name of a type means a type (X.680 14.1), as it does where names have no fault (N2).
 use Rattle.std.specs.Prelude.{IsTrue, is_some}
 use Rattle.guard_syntax.specs.Trees.{WrittenType, type_node, WrittenBase, plain, numbers, named_bits, enumerated, structure, choice, of_type, named_type, WrittenComponents, no_components, component, components_from, WrittenAlternatives, no_alternatives, alternative, WrittenComponentForm, named, components_of_type}
 use Rattle.guard_tagging.specs.Types.{Surroundings}

@@ -345,11 +345,11 @@ module _ (policy : Policy) (route : AbstractRoute) (octets numbers : List ℕ) (
       → Tells (policy_view policy) route octets answer
   tells rules passing.Goes are (marks, walked, lets) =
       (by_marks marks walked).0 (subst (λ (r : RouteRules). LetsGo r marks.members) are lets)
-  tells rules (passing.Stays (Some marks)) are (walked, stays) = (
+  tells rules (passing.Stopped (Some marks)) are (walked, stays) = (
     λ goes. stays (subst (λ (r : RouteRules). LetsGo r marks.members) (sym are) ((by_marks marks walked).1 goes)),
     marks_of marks walked,
   )
-  tells rules (passing.Stays None) are nothing = (λ goes. encoded goes nothing, tt)
+  tells rules (passing.Stopped None) are nothing = (λ goes. encoded goes nothing, tt)
 
   -- where no allowing rule speaks of the route, none of its rules allows anything
   unallowed_by : (rules : RouteRules) → rules ≡ rules_on m.routing route → rules.allowing ≡ none

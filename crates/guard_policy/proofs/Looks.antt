@@ -13,7 +13,7 @@ use Rattle.guard_policy.proofs.Listed.{with_numbers}
 pub tells_exactly : (p : AbstractPolicy) (route : AbstractRoute) (octets : List ℕ) (told : Passing) → Tells p route octets told
     → IsTrue (is_going told) ↔ Goes p route octets
 tells_exactly p route octets passing.Goes goes = (λ is. goes, λ goes_so. refl)
-tells_exactly p route octets (passing.Stays marks) stays = (λ is. absurd (false≢true is), λ goes. absurd (stays.0 goes))
+tells_exactly p route octets (passing.Stopped marks) stays = (λ is. absurd (false≢true is), λ goes. absurd (stays.0 goes))
 
 -- no message goes that isn't declared
 undeclared : (p : AbstractPolicy) (route : AbstractRoute) (o : Option AbstractType) → declared_type p route.message ≡ o
@@ -22,7 +22,7 @@ undeclared p route None is none = is
 undeclared p route (Some t) is none = absurd (let e = none in cc)
 
 pub undeclared_stays : (p : AbstractPolicy) (route : AbstractRoute) (octets : List ℕ)
-    → None ≡ option_map (with_numbers p.rules route.message) (declared_type p route.message) → Tells p route octets (passing.Stays None)
+    → None ≡ option_map (with_numbers p.rules route.message) (declared_type p route.message) → Tells p route octets (passing.Stopped None)
 undeclared_stays p route octets none = (
   λ goes. let e = sym (undeclared p route (declared_type p route.message) refl none) ∙ goes.2 in cc,
   tt,

@@ -9,7 +9,7 @@ use Rattle.guard_policy.specs.declared.entry.Key.TheVariants.{Modules, Message, 
 abbrev pub IsDocument : List ℕ → Members → Type 0
 IsDocument text top = IsUtf8 text × (parse_document text ≡ Some top)
 
--- it is none
+-- the text is no document of TOML
 abbrev pub IsNoDocument : List ℕ → Type 0
 IsNoDocument text = IsUtf8 text → parse_document text ≡ None
 

@@ -4,13 +4,13 @@ use Rattle.std.specs.Str.{bytes_eq}
 use Rattle.guard_model.specs.AbstractType.{AbstractType}
 use Rattle.guard_policy.specs.declared.policy.Effect.{Effect}
 
--- its declared type, and the name of the module that assigns it
+-- a message: its name, its declared type, and the name of the module that assigns the type
 pub record AbstractMessage : Type 0 where
   pub name : List ℕ
   pub home : List ℕ
   pub ty : AbstractType
 
--- its sender and its receiver may each be `*`, for every one
+-- a rule; its sender and its receiver may each be `*`, for every one
 pub record AbstractRule : Type 0 where
   pub name : List ℕ
   pub effect : Effect
@@ -48,7 +48,7 @@ message_among (m ∷ ms) name = if bytes_eq m.name name then Some m else message
 abbrev pub declared_message : AbstractPolicy → List ℕ → Option AbstractMessage
 declared_message p name = message_among p.messages name
 
--- its declared type
+-- the declared type of the first message of this name
 abbrev pub declared_among : List AbstractMessage → List ℕ → Option AbstractType
 declared_among [] name = None
 declared_among (m ∷ ms) name = if bytes_eq m.name name then Some m.ty else declared_among ms name

@@ -24,10 +24,10 @@ pub record AreMarksOf (p : AbstractPolicy) (message octets : List ℕ) (marks : 
 
 abbrev pub is_going : Passing → Bool
 is_going passing.Goes = true
-is_going (passing.Stays marks) = false
+is_going (passing.Stopped marks) = false
 
 -- the message goes, or it doesn't, and marks that are told are those of its octets
 abbrev pub Tells : AbstractPolicy → AbstractRoute → List ℕ → Passing → Type 0
 Tells p route octets passing.Goes = Goes p route octets
-Tells p route octets (passing.Stays marks) =
+Tells p route octets (passing.Stopped marks) =
     (Goes p route octets → ⊥) × IfSome marks (AreMarksOf p route.message octets)

@@ -1,6 +1,6 @@
 //! What types and constraints ask of values, and of the components of values, as far as no union and no exception says
-//! it. `guard_tables` takes these apart as well, into terms with slots of their own, for which it needs room; that
-//! isn't what is asked here.
+//! so. `guard_tables` takes types and constraints apart as well, but into terms with slots of their own, for which a
+//! node has to have room. What is asked for here needs no slots.
 ghost use Rattle.std.specs.Prelude.{◌≡◌, ◌++◌, map, option_map, OnOk, IfOk};
 ghost use Rattle.guard_model.specs.Components.{components_in, component_at};
 ghost use Rattle.guard_model.specs.TypeView.{type_view, kind_view, component_view, constraint_view, element_view};
@@ -15,7 +15,8 @@ use guard_model::{Comp, Cons, Kind, OutOfMemory, Part, Rule, Ty};
 use guard_tables::Demand;
 use std::alloc::Global;
 
-/// What is asked of the component at this place of a value of which all this is asked.
+/// What is asked of the component at this place, from 0, of a value of which all this is asked. OutOfMemory is the only
+/// error.
 pub(crate) fn demands_within<'a>(
     alloc: Global,
     place: usize,
@@ -57,7 +58,7 @@ fn push_within_type<'a>(
     push_within_all(&ty.cons, place, &ty.kind, inner)
 }
 
-/// The type of the component itself.
+/// Adds what the type of the component itself asks.
 fn push_part<'a>(
     place: usize,
     kind: &'a Kind,
@@ -127,7 +128,7 @@ fn push_within_rule<'a>(
     }
 }
 
-/// What listed parts say of the component.
+/// Adds what the listed parts of WITH COMPONENTS say of the component.
 fn push_within_parts<'a>(
     place: usize,
     kind: &'a Kind,
@@ -163,7 +164,7 @@ fn push_within_part<'a>(
     }
 }
 
-/// The component or alternative at this place.
+/// The component or alternative at this place, from 0; None where there is none.
 fn component(kind: &Kind, place: usize) -> Option<&Comp>
     ensures { option_map (λ c. component_view c.now) result ≡ component_at place (components_in (kind_view kind.now)) }
 {

@@ -28,7 +28,7 @@ impl Policy {
     /// The answer is exact for an INTEGER, whose constraints are all looked at. For strings and lists only SIZE is
     /// looked at, and for SEQUENCE and SET each component that isn't OPTIONAL, with what WITH COMPONENTS asks of it
     /// unless a union or an exception says so. Other kinds, PRESENT and ABSENT aren't looked at: the answer is false.
-    /// It fails only where memory runs out.
+    /// OutOfMemory is the only error.
     pub fn is_barren(&self, alloc: Global, rule: usize) -> Result<bool, OutOfMemory>
         ensures { IfOk result (λ barren. barren ≡ is_barren_rule (policy_view self.now) rule) }
     {
@@ -52,7 +52,7 @@ fn is_barren(alloc: Global, declared: &Ty, ty: &Ty) -> Result<bool, OutOfMemory>
     kind_has_no_value(alloc, &declared.kind, &demands)
 }
 
-/// Whether no value of this kind meets all.
+/// Whether integers and sizes alone show that no value of this kind meets all demands.
 #[cycle(barren)]
 fn kind_has_no_value(alloc: Global, kind: &Kind, demands: &[Demand]) -> Result<bool, OutOfMemory>
     ensures { IfOk result (λ none. none ≡ kind_has_no_value (kind_view kind.now) (demands_view demands.now)) }
@@ -93,7 +93,7 @@ fn some_has_no_value(
 
 // ---- integers and sizes
 
-/// Whether no integer meets all.
+/// Whether no integer meets all demands.
 fn have_no_number(alloc: Global, demands: &[Demand]) -> Result<bool, OutOfMemory>
     ensures { IfOk result (λ none. none ≡ have_no_number (demands_view demands.now)) }
 {
@@ -104,7 +104,7 @@ fn have_no_number(alloc: Global, demands: &[Demand]) -> Result<bool, OutOfMemory
     Ok(is_empty(&left))
 }
 
-/// The integers that meet it, as far as it is asked of an INTEGER.
+/// The integers that meet the demand; all of them for a constraint on a kind other than INTEGER.
 fn numbers_met(alloc: Global, demand: Demand) -> Result<IntSet, OutOfMemory>
     ensures { IfOk result (λ set. (z : ℤ)
         → holds set z ≡ (fits_128_bits z && demand_has_number z (demand_view demand.entry))) }
@@ -127,7 +127,7 @@ fn have_no_size(alloc: Global, demands: &[Demand]) -> Result<bool, OutOfMemory>
     Ok(is_empty(&left))
 }
 
-/// The sizes that values which meet it may have.
+/// The sizes that values which meet the demand may have.
 fn sizes_met(alloc: Global, demand: Demand) -> Result<IntSet, OutOfMemory>
     ensures { IfOk result (λ set. (z : ℤ)
         → holds set z ≡ (fits_128_bits z && demand_may_have_size z (demand_view demand.entry))) }

@@ -20,7 +20,8 @@ use guard_eval::{first_violation, member};
 use guard_model::{OutOfMemory, Ty, Value};
 use std::alloc::Global;
 
-/// The verdict on a value of the declared type, by the rules of these numbers.
+/// The verdict on a value of the declared type, by the rules of these numbers. Conditions: the type is sound, the value
+/// fits it, and it fits the type of each rule that speaks of the route.
 pub fn judge(
     alloc: Global,
     kept: &Kept,
@@ -45,7 +46,7 @@ pub fn judge(
     judge_by_allowing(alloc, kept, numbers, route, value)
 }
 
-/// The number of the first of these rules that speaks of the route and denies the value.
+/// The number of the first of these rules that speaks of the route and denies the value; None where none does.
 fn first_denying_rule(kept: &Kept, numbers: &[usize], route: &Route, value: &Value) -> Option<usize>
     requires { AreApplicable (route_view route.now) (value_view value.now) (rules_kept kept.now) }
     ensures { result ≡ first_denying (heard (route_view route.now) (rules_at (rules_kept kept.now) numbers.now))
@@ -99,7 +100,7 @@ fn denies_at(kept: &Kept, number: usize, route: &Route, value: &Value) -> bool
     }
 }
 
-/// The rule of this number, where it speaks of the route and allows something.
+/// The rule of this number, if it speaks of the route and is an allowing one; else None.
 fn allowing_at<'a>(kept: &'a Kept, number: usize, route: &Route) -> Option<SaidRule<'a>>
     ensures { option_map said_view result ≡ allowing_at (rules_kept kept.now) number (route_view route.now) }
 {
@@ -117,7 +118,7 @@ fn rule_denies(rule: &SaidRule, value: &Value) -> bool
     rule.effect == Effect::Deny && member(rule.ty, value)
 }
 
-/// The rule is an allowing one of the route.
+/// Whether the rule is an allowing one and speaks of the route.
 fn may_allow(route: &Route, rule: &SaidRule) -> bool
     ensures { result ≡ speaks_of (route_view route.now) (said_view rule.now) && is_allowing (said_view rule.now) }
 {

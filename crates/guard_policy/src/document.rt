@@ -24,7 +24,7 @@ pub(crate) struct Top<'a> {
     pub rules: Vec<&'a Table>,
 }
 
-/// The document of a text. A refusal other than Toml says that memory ran out.
+/// The document of a text. The error is Toml where the text is no document of TOML, or OutOfMemory.
 pub(crate) fn document(alloc: Global, text: &[u8]) -> Result<Table, PolicyFault>
     ensures document { IfOk result (λ top. IsDocument text.now (table_view top)) }
     ensures none { IfErr result (λ f. IfSome (named f) (λ fault. (fault ≡ no_toml) × IsNoDocument text.now)) }
@@ -36,7 +36,8 @@ pub(crate) fn document(alloc: Global, text: &[u8]) -> Result<Table, PolicyFault>
     }
 }
 
-/// What the top lists: the files of modules, and the tables of messages and rules.
+/// What the top lists: the files of modules, and the tables of messages and rules; or the first fault of the top, by an
+/// unknown key, else by a key that is missing or has something of another kind.
 pub(crate) fn top_of<'a>(alloc: Global, top: &'a Table) -> Result<Top<'a>, PolicyFault>
     ensures met { Meets (top_fault (table_view top.now)) result }
     ensures files { IfOk result (λ found. texts_at Key.Modules (table_view top.now)
@@ -63,7 +64,8 @@ pub(crate) fn top_of<'a>(alloc: Global, top: &'a Table) -> Result<Top<'a>, Polic
     })
 }
 
-/// Refuses the entry for a key that isn't among these, or for one of these at which it has no text.
+/// Ok where the entry has these keys alone and a text at each; else UnknownKey for the first other key, or MissingKey
+/// for the first of these without a text.
 pub(crate) fn check_entry(
     alloc: Global,
     entry: Entry,
@@ -76,7 +78,7 @@ pub(crate) fn check_entry(
     check_texts(entry, keys, table)
 }
 
-/// Refuses the entry for the first of the keys at which it has no text.
+/// Ok where the entry has a text at each of the keys; else MissingKey for the first at which it has none.
 fn check_texts(entry: Entry, keys: &[Key], table: &Table) -> Result<(), PolicyFault>
     ensures { Meets (missing_in entry keys.now (table_view table.now)) result }
 {
@@ -88,7 +90,7 @@ fn check_texts(entry: Entry, keys: &[Key], table: &Table) -> Result<(), PolicyFa
     Ok(())
 }
 
-/// Refuses the entry for the first key that it has and that isn't among these.
+/// Ok where each key of the entry is among these; else UnknownKey for the first that isn't, in the order of octets.
 fn check_keys(alloc: Global, entry: Entry, keys: &[Key], table: &Table) -> Result<(), PolicyFault>
     ensures { Meets (unknown_in entry keys.now (table_view table.now)) result }
 {
@@ -107,14 +109,14 @@ fn is_key(keys: &[Key], word: &str) -> bool
     keys.iter().any(|key| key.text() == word)
 }
 
-/// The text at a key of an entry that has one there.
+/// The text at a key of an entry; empty where there is none.
 pub(crate) fn text_of<'a>(table: &'a Table, key: Key) -> &'a str
     ensures { result.now ≡ text_of key (table_view table.now) }
 {
     text_at(table, key).unwrap_or("")
 }
 
-/// The text at a key, if one is there.
+/// The text at a key; None where there is none.
 fn text_at<'a>(table: &'a Table, key: Key) -> Option<&'a str>
     ensures { option_map (λ text. text.now) result ≡ text_at key (table_view table.now) }
 {
@@ -130,7 +132,7 @@ fn value_at<'a>(table: &'a Table, key: Key) -> Option<&'a Value>
     table.get(key.text())
 }
 
-/// The list of texts at a key, if one is there.
+/// The list of texts at a key; None where there is none.
 fn texts_at<'a>(
     alloc: Global,
     table: &'a Table,
@@ -162,7 +164,7 @@ fn texts_in<'a>(alloc: Global, items: &'a [Value]) -> Result<Option<Vec<&'a str>
     Ok(Some(texts))
 }
 
-/// The list of tables at a key; it may be missing.
+/// The list of tables at a key, which is empty where the key is missing; None where something else is there.
 fn tables_at<'a>(
     alloc: Global,
     table: &'a Table,

@@ -4,12 +4,13 @@ ghost use Rattle.guard_policy.specs.Documents.{key_text};
 
 use std::fmt;
 
-/// A place in the text of a policy. It prints as `top`, `message 1` or `rule 1`.
+/// A place in the text of a policy, which prints as `top`, `message 1` or `rule 1`.
 #[derive(Clone, Copy, Debug, PartialEq, Eq)]
 pub enum Entry {
     Top,
-    /// By its number from 1, in the order of the text.
+    /// The message of this number, from 1, in the order of the text.
     Message(usize),
+    /// The rule of this number, from 1, in the order of the text.
     Rule(usize),
 }
 
@@ -23,7 +24,7 @@ impl fmt::Display for Entry {
     }
 }
 
-/// A key of an entry. It prints as it is written.
+/// A key of an entry, which prints as it is written.
 #[derive(Clone, Copy, Debug, PartialEq, Eq)]
 pub enum Key {
     Modules,
@@ -38,6 +39,7 @@ pub enum Key {
 }
 
 impl Key {
+    /// The key as it is written in the text of a policy: `modules`, and `type` for `TypeName`.
     pub fn text(self) -> &'static str
         ensures { result.now ≡ key_text self }
     {

@@ -14,10 +14,10 @@ use thiserror::Error;
 /// there.
 #[derive(Debug, Drop, Error)]
 pub enum PolicyFault {
-    /// It is no document of TOML.
+    /// The text is no document of TOML.
     #[error("Q1 Toml")]
     Toml,
-    /// The entry has this key, which says nothing; it is the first such one in the order of their octets.
+    /// The entry has this key, which says nothing; of such keys this one is the first in the order of their octets.
     #[error("Q2 UnknownKey {0} {1}")]
     UnknownKey(Entry, String),
     /// The entry lacks this key, or something of another kind is there.

@@ -8,8 +8,8 @@ use super::document::{document, top_of};
 use super::fault::PolicyFault;
 use std::alloc::{AllocError, Global};
 
-/// The files of modules that the text of a policy lists, in order. Only the top of the document is looked at, so its
-/// refusals are Q1 and those of the top; OutOfMemory may come in place of any answer.
+/// The files of modules that the text of a policy lists, in order. Only the top of the document is looked at, so the
+/// errors are Toml, and UnknownKey and MissingKey of the top; OutOfMemory may come in place of any answer.
 pub fn module_files(alloc: Global, text: &[u8]) -> Result<Vec<String>, PolicyFault>
     ensures files { IfOk result (λ files. ListsFiles text.now (map string_bytes files.items)) }
     ensures refused { IfErr result (λ f. IfSome (named f) (ListsNoFiles text.now)) }

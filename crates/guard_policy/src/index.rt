@@ -13,7 +13,7 @@ use std::alloc::{AllocError, Global};
 pub(crate) struct Listed {
     /// The place of the first message of this name.
     pub place: usize,
-    /// The numbers of the rules that speak of it.
+    /// The numbers of the rules that speak of the message.
     pub rules: Vec<usize>,
 }
 
@@ -43,7 +43,7 @@ impl Index {
         Ok(Index { listed })
     }
 
-    /// What the name leads to, where a message has it.
+    /// What the name leads to; None where no message has it.
     pub fn find(&self, name: &[u8]) -> Option<&Listed>
         ensures { option_map (λ listed. listed_view listed.now) result ≡ found_in self.now name.now }
     {

@@ -69,7 +69,7 @@ pub(crate) struct Kept {
 impl Kept {
     ghost use Rattle.guard_policy.specs.inside.KeptRules.{rules_kept};
 
-    /// The rule of this number.
+    /// The rule of this number, from 0; None where there is none.
     pub fn rule(&self, number: usize) -> Option<SaidRule<'_>>
         ensures { option_map said_view result ≡ slice_get (rules_kept self.now) number }
     {
@@ -94,7 +94,8 @@ impl Kept {
     }
 }
 
-/// Each rule without its type, and how names lead to messages and rules.
+/// Each rule without its type, and how names lead to messages and rules. Condition: the message of each rule is among
+/// the messages. OutOfMemory is the only error.
 pub(crate) fn keep_rules(
     alloc: Global,
     messages: &[SaidMessage],
@@ -103,7 +104,7 @@ pub(crate) fn keep_rules(
     requires declared { AreDeclared (map said_message_view messages.now) (map said_view rules.now) }
     ensures index { IfOk result (λ kept. IsIndex (map said_message_view messages.now)
         (map said_view rules.now) kept.0) }
-    // With the tables of the messages they are the rules.
+    // Together with the tables of the messages, what is kept are the rules.
     ensures rules { IfOk result (λ kept. (with_tables : List KeptMessage) →
         map tabled_view with_tables ≡ map (tabled (map said_view rules.now)) (map said_message_view messages.now) →
         map (kept_rule_view with_tables) kept.1.items ≡ map said_view rules.now) }
@@ -138,7 +139,7 @@ fn count_before(numbers: &[usize], number: usize) -> usize
     numbers.iter().filter(|other| **other < number).count()
 }
 
-/// The rule, its type being there.
+/// The rule without its type, which is at this place.
 fn without_type(alloc: Global, rule: &SaidRule, ty: TypePlace) -> Result<KeptRule, AllocError>
     ensures { IfOk result (λ kept. IsSaid (said_view rule.now) kept × (kept.ty ≡ ty)) }
 {

@@ -17,9 +17,9 @@ use std::alloc::{AllocError, Global};
 /// What a route leads to.
 #[derive(Clone, Copy)]
 pub(crate) struct Lead {
-    /// The place of its message.
+    /// The place of the route's message.
     pub place: usize,
-    /// The rules that speak of it.
+    /// The rules that speak of the route.
     pub rules: RouteRules,
 }
 
@@ -50,7 +50,7 @@ impl Leads {
         Ok(Leads { routes })
     }
 
-    /// The place of the route with these octets, and what it leads to.
+    /// The place of the route with these octets, and what it leads to; None where no rule gives such a route.
     pub fn find(&self, names: &[u8]) -> Option<(usize, &Lead)>
         ensures { option_map (λ found. found.1.now) result ≡ found_lead self.now names.now }
     {
@@ -58,7 +58,8 @@ impl Leads {
         Some((place, lead))
     }
 
-    /// What the route at this place leads to, where the octets begin with its own, and what comes after these.
+    /// What the route at this place leads to, if the octets begin with the route's own, and what comes after these;
+    /// else None.
     pub fn find_at<'a>(&'a self, place: usize, octets: &'a [u8]) -> Option<(&'a Lead, &'a [u8])>
         ensures { IfSome result (λ found. (names : List ℕ) × (octets.now ≡ names ++ found.1.now)
             × (found_lead self.now names ≡ Some found.0.now)) }
@@ -69,7 +70,7 @@ impl Leads {
     }
 }
 
-/// What a route of three names leads to.
+/// What a route of three names leads to; None where its message isn't declared.
 fn lead_of(index: &Index, messages: &[KeptMessage], route: &Route) -> Option<Lead>
     ensures { result ≡ (if is_plain (route_view route.now)
         then lead_of index.now messages.now (route_view route.now) else None) }

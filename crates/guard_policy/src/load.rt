@@ -18,10 +18,10 @@ use std::alloc::Global;
 use toml::Table;
 
 impl Policy {
-    /// The policy of a text, over the types of a schema.
+    /// The policy that a text says, over the types of a schema.
     ///
-    /// A refusal names the first fault: Q1, then those of the top, of each message, of each rule, and of each message's
-    /// table. OutOfMemory may come in place of any answer.
+    /// The error is the first fault, Q1 to Q9: Toml, else that of the top, of a message, of a rule, of a message's
+    /// table, in this order. OutOfMemory may come in place of any answer.
     pub fn load<S: Types>(alloc: Global, text: &[u8], schema: &S) -> Result<Policy, PolicyFault>
         // What is answered is what the text says,
         ensures loads { IfOk result (λ p. Loads text.now (S.types schema.now) (policy_view p)) }

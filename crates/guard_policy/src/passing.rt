@@ -13,25 +13,27 @@ use super::routing::{RouteRules, meets};
 use guard_reader::{Marks, walk};
 use guard_tables::Slots;
 
-/// Whether a message goes, and what the pass over its octets told of one that stays.
+/// Whether a message goes, and what the pass over its octets told of one that is stopped.
 #[derive(Clone, Copy)]
 pub enum Passing {
+    /// The octets encode a value that some rule of the route allows and none denies.
     Goes,
-    /// Marks that are told are those of the value that its octets encode.
-    Stays(Option<Marks>),
+    /// The message is stopped. Marks are told only where its octets encode a value of the declared type, and are that
+    /// value's.
+    Stopped(Option<Marks>),
 }
 
 impl Passing {
     ghost use Rattle.std.specs.Prelude.{◌≡◌};
     ghost use Rattle.guard_policy.specs.Told.{is_going};
 
-    /// Whether it goes.
+    /// Whether the message goes.
     pub fn goes(self) -> bool
         ensures { result ≡ is_going self }
     {
         match self {
             Passing::Goes => true,
-            Passing::Stays(_) => false,
+            Passing::Stopped(_) => false,
         }
     }
 }
@@ -45,28 +47,28 @@ impl Policy {
     ghost use Rattle.guard_policy.specs.Told.{Tells};
 
     /// Whether a message goes on its route: its octets are the encoding of a value of its declared type that some rule
-    /// of the route allows and none denies. It takes no memory.
+    /// of the route allows and none denies. No memory is taken.
     pub fn passes(&self, route: &Route, octets: &[u8]) -> bool
         ensures { IsTrue result ↔ Goes (policy_view self.now) (route_view route.now) octets.now }
     {
         self.look_at(route, octets).goes()
     }
 
-    /// Whether a message goes on its route, and what `reason` need not find out again where it stays. It takes no
-    /// memory.
+    /// Whether a message goes on its route, and what `reason` need not find out again where it stays. No memory is
+    /// taken.
     pub fn look_at(&self, route: &Route, octets: &[u8]) -> Passing
         ensures { Tells (policy_view self.now) (route_view route.now) octets.now result }
     {
         let Some((message, _)) = self.found(route.message) else {
-            return Passing::Stays(None);
+            return Passing::Stopped(None);
         };
         let rules = message.routing.rules(route);
         told_by_walk(message, &rules, octets)
     }
 
     /// Whether a message goes on the route that these octets are: three names, each after one octet with its length, as
-    /// some rule gives them. None for octets that are no such route. It takes no memory, and costs one look-up and one
-    /// pass over the octets at most.
+    /// some rule gives them. None exactly where no rule gives such a route. No memory is taken, and the cost is one
+    /// look-up and one pass over the octets at most.
     pub fn passes_as_given(&self, names: &[u8], octets: &[u8]) -> Option<bool>
         // Where some rule gives the route, whether the message goes on it;
         ensures given { IfSome result (λ goes. (route : AbstractRoute)
@@ -80,7 +82,8 @@ impl Policy {
         Some(told.goes())
     }
 
-    /// What `passes_as_given` says, and what `reason` need not find out again; and `last` is where the route was found.
+    /// Whether a message goes on the route that these octets are, as `passes_as_given` says, and what `reason` need not
+    /// find out again. None exactly where no rule gives such a route; else `last` is then where it was found.
     pub fn passes_and_found(
         &self,
         names: &[u8],
@@ -100,7 +103,8 @@ impl Policy {
     }
 
     /// What `passes_and_found` says of the message of a frame, where the frame's body begins with the names of the
-    /// route that was found last; none says nothing of it. It takes no memory and looks nothing up.
+    /// route that was found last. None says nothing of the message: the body begins with other octets, or `last` is no
+    /// route's place. No memory is taken, and nothing is looked up.
     pub fn passes_as_last(&self, last: LastRoute, body: &[u8]) -> Option<Passing>
         ensures { IfSome result (λ told. (route : AbstractRoute) × (names : List ℕ) × (message : List ℕ)
             × (body.now ≡ names ++ message) × IsGiven (policy_view self.now).rules names route
@@ -118,12 +122,12 @@ fn told_by_walk(message: &KeptMessage, rules: &RouteRules, octets: &[u8]) -> Pas
     ensures { IsAnswer message.now.table rules.now octets.now result }
 {
     let Some(marks) = walk(&message.table, octets) else {
-        return Passing::Stays(None);
+        return Passing::Stopped(None);
     };
     if marks.of_type() && lets_go(rules, &marks.members) {
         return Passing::Goes;
     }
-    Passing::Stays(Some(marks))
+    Passing::Stopped(Some(marks))
 }
 
 /// Whether some allowing rule and no denying one is among those that have the value.

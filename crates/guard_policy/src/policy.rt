@@ -61,10 +61,11 @@ impl Policy {
     ghost use Rattle.guard_policy.specs.inside.Keeping.{AreDeclared, IsFirst};
     ghost use Rattle.guard_tables.specs.TableView.{declared_of};
 
-    /// A policy of messages and rules, where the message that each rule speaks of is among them.
+    /// A policy of messages and rules. Conditions: all types are sound, and the message that each rule speaks of is
+    /// among the messages.
     ///
-    /// It refuses with Table, and the number of the first message whose type and those of its rules make no table.
-    /// OutOfMemory may come in place of any answer.
+    /// The error is Table, with the number, from 1, of the first message whose type and those of its rules make no
+    /// table. OutOfMemory may come in place of any answer.
     pub(crate) fn of_named(
         alloc: Global,
         messages: &[SaidMessage],
@@ -92,35 +93,35 @@ impl Policy {
         self.kept.messages.len()
     }
 
-    /// How many rules it has.
+    /// How many rules the policy has.
     pub fn rules(&self) -> usize
         ensures { result ≡ length (policy_view self.now).rules }
     {
         self.kept.rules.len()
     }
 
-    /// The name of a message by its place, from 0.
+    /// The name of a message by its place in file order, from 0; None where there is no message at this place.
     pub fn message_name(&self, message: usize) -> Option<&str>
         ensures { option_map (λ name. name.now) result ≡ message_name_of (policy_view self.now) message }
     {
         Some(self.kept.messages.get(message)?.name.as_str())
     }
 
-    /// A rule by its number, from 0.
+    /// A rule by its number in file order, from 0; None where there is no rule of this number.
     pub fn rule(&self, number: usize) -> Option<SaidRule<'_>>
         ensures { option_map said_view result ≡ slice_get (policy_view self.now).rules number }
     {
         self.kept.rule(number)
     }
 
-    /// The name of a rule by its number, from 0.
+    /// The name of a rule by its number in file order, from 0; None where there is no rule of this number.
     pub fn rule_name(&self, rule: usize) -> Option<&str>
         ensures { option_map (λ name. name.now) result ≡ rule_name_of (policy_view self.now) rule }
     {
         Some(self.kept.rules.get(rule)?.name.as_str())
     }
 
-    /// The message of this name. Its type is sound.
+    /// The message of this name, whose type is sound; None where the policy declares none.
     pub fn message(&self, name: &[u8]) -> Option<SaidMessage<'_>>
         ensures declared { option_map said_message_view result ≡ declared_message (policy_view self.now) name.now }
         ensures sound { IfSome result (λ m. IsTrue (is_sound (type_view m.ty.now))) }
@@ -133,7 +134,7 @@ impl Policy {
         })
     }
 
-    /// The declared type of the message of this name.
+    /// The declared type of the message of this name; None where the policy declares no such message.
     pub fn declared(&self, message: &[u8]) -> Option<&Ty>
         ensures { option_map (λ ty. type_view ty.now) result ≡ declared_type (policy_view self.now) message.now }
     {
@@ -141,7 +142,8 @@ impl Policy {
         Some(ty)
     }
 
-    /// The declared type of the message of this name, and the numbers of the rules that speak of it.
+    /// The declared type of the message of this name, and the numbers of the rules that speak of it; None where the
+    /// policy declares no such message.
     fn listed(&self, message: &[u8]) -> Option<(&Ty, &[usize])>
         ensures { option_map {U = AbstractType × List ℕ} (λ p. (type_view p.0.now, p.1.now)) result
             ≡ option_map {U = AbstractType × List ℕ} (λ t. (t, numbers_for message.now 0 (policy_view self.now).rules))
@@ -151,7 +153,8 @@ impl Policy {
         Some((message.table.declared(), numbers))
     }
 
-    /// The message of this name, and the numbers of the rules that speak of it.
+    /// The message of this name, and the numbers of the rules that speak of it; None where the policy declares no such
+    /// message.
     pub(crate) fn found(&self, message: &[u8]) -> Option<(&KeptMessage, &[usize])>
         ensures listed { option_map {U = AbstractType × List ℕ} (λ p. (declared_of p.0.now.table, p.1.now)) result
             ≡ option_map {U = AbstractType × List ℕ} (λ t. (t, numbers_for message.now 0 (policy_view self.now).rules))
@@ -163,7 +166,7 @@ impl Policy {
         Some((found, &listed.rules))
     }
 
-    /// The name of the module at this place of the list of texts, from 1.
+    /// The name of the module at this place of the list of texts, from 1; None where there is no such place.
     pub fn module(&self, text: u32) -> Option<&str>
         ensures { option_map (λ name. name.now) result ≡ module_name (policy_view self.now) text }
     {
@@ -180,7 +183,8 @@ impl Policy {
     ghost use Rattle.guard_policy.specs.Verdicts.{AbstractVerdict, verdict_view, pass};
     ghost use Rattle.guard_policy.specs.Decisions.{IsReason, Goes};
 
-    /// What becomes of a message on its route. It fails only where memory runs out.
+    /// What becomes of a message on its route, and why: the first verdict of `Verdict` that stands, which is Pass
+    /// exactly where `passes` says so. OutOfMemory is the only error.
     pub fn verdict(
         &self,
         alloc: Global,
@@ -193,13 +197,13 @@ impl Policy {
         // and the only one.
         ensures only { (w : AbstractVerdict) → IsReason (policy_view self.now) (route_view route.now) octets.now w
             → IfOk result (λ x. verdict_view x ≡ w) }
-        // It is to pass exactly where the message goes.
+        // The verdict is to pass exactly where the message goes.
         ensures passes { IfOk result (λ w. (verdict_view w ≡ pass)
             ↔ Goes (policy_view self.now) (route_view route.now) octets.now) }
     {
         match self.look_at(route, octets) {
             Passing::Goes => Ok(Verdict::Pass),
-            Passing::Stays(marks) => self.reason(alloc, route, octets, marks),
+            Passing::Stopped(marks) => self.reason(alloc, route, octets, marks),
         }
     }
 }

@@ -26,8 +26,10 @@ impl Policy {
     ghost use Rattle.guard_policy.specs.Told.{AreMarksOf};
     ghost use Rattle.guard_policy.specs.inside.Listings.{numbers_for};
 
-    /// What becomes of a message on its route, where these are its marks. It walks over no octets: without marks all is
-    /// found by the value that they encode.
+    /// What becomes of a message on its route, and why, as `verdict` says, where these are its marks. No pass over the
+    /// octets finds the marks again: without marks all is found by the value that the octets encode. Condition: marks
+    /// that are given are those of the value that the octets encode, as `look_at` tells them. OutOfMemory is the only
+    /// error.
     pub fn reason(
         &self,
         alloc: Global,
@@ -49,7 +51,8 @@ impl Policy {
         self.reason_by_value(alloc, route, message.table.declared(), numbers, octets)
     }
 
-    /// By the value that the octets encode, where the message has this type and the rules of these numbers speak of it.
+    /// The verdict by the value that the octets encode, where the message has this type and the rules of these numbers
+    /// speak of it.
     fn reason_by_value(
         &self,
         alloc: Global,
@@ -72,7 +75,7 @@ impl Policy {
     }
 }
 
-/// The verdict, where there are marks and they tell it.
+/// The verdict that the marks tell; None without marks, and where they tell none.
 fn reason_by_marks(rules: &RouteRules, numbers: &[usize], marks: Option<Marks>) -> Option<Verdict>
     ensures { IfSome result (λ w. IsMarked rules.now numbers.now marks (verdict_view w)) }
 {
@@ -85,7 +88,7 @@ fn reason_by_marks(rules: &RouteRules, numbers: &[usize], marks: Option<Marks>) 
     told_by(rules, numbers, &found.members)
 }
 
-/// The verdict on a value that the declared type has and the types in these slots, where they tell it.
+/// The verdict on a value of the declared type, by the slots of the types that have it; None where these don't tell it.
 fn told_by(rules: &RouteRules, numbers: &[usize], members: &Slots) -> Option<Verdict>
     ensures { IfSome result (λ w. IsToldBy rules.now numbers.now members.now (verdict_view w)) }
 {
@@ -99,7 +102,8 @@ fn told_by(rules: &RouteRules, numbers: &[usize], members: &Slots) -> Option<Ver
     None
 }
 
-/// The number of the first of these rules whose slot is in the set. A table has slots for 255 of them at most.
+/// The number of the first of these rules whose slot is in the set; None where there is none. A table has slots for 255
+/// of them at most.
 fn first_in(slots: &Slots, numbers: &[usize]) -> Option<usize>
     ensures { IfSome result (λ number. first_in slots.now 1 numbers.now ≡ Some number) }
 {

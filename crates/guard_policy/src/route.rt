@@ -13,13 +13,16 @@ pub(crate) const ANYONE: &str = "*";
 /// The sender, the receiver and the name of the message, as a frame gives them. They are taken as given.
 #[derive(Clone, Copy)]
 pub struct Route<'a> {
+    /// The sender's name.
     pub from: &'a [u8],
+    /// The receiver's name.
     pub to: &'a [u8],
+    /// The name of the message, and not its octets.
     pub message: &'a [u8],
 }
 
 impl<'a> Route<'a> {
-    /// Whether all three are names.
+    /// Whether all three are names, as `is_name` says.
     pub fn is_plain(&self) -> bool
         ensures { result ≡ is_plain (route_view self.now) }
     {

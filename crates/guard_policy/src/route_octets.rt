@@ -26,7 +26,7 @@ pub(crate) struct OctetsOf<'a> {
 }
 
 impl RouteOctets {
-    /// Those of this route.
+    /// The octets of this route. Condition: all three are names.
     pub fn of(alloc: Global, route: &Route) -> Result<RouteOctets, AllocError>
         requires { IsTrue (is_plain (route_view route.now)) }
         ensures { IfOk result (λ names. names.octets.items ≡ route_octets (route_view route.now)) }
@@ -38,7 +38,7 @@ impl RouteOctets {
         Ok(RouteOctets { octets })
     }
 
-    /// What comes after them, where the octets begin with them.
+    /// What comes after these octets, if the others begin with them; else None.
     pub fn after<'a>(&self, octets: &'a [u8]) -> Option<&'a [u8]>
         ensures { IfSome result (λ rest. octets.now ≡ self.now.octets.items ++ rest.now) }
     {

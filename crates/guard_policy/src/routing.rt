@@ -27,7 +27,7 @@ pub(crate) enum Side {
 #[derive(Drop)]
 pub(crate) struct Parties {
     named: IndexMap<Vec<u8>, Slots>,
-    /// For those that no rule names.
+    /// The rules for those parties that no rule names.
     others: Slots,
 }
 
@@ -65,7 +65,7 @@ impl Parties {
         })
     }
 
-    /// The rules that speak of this one.
+    /// The rules that speak of the party of this name.
     fn rules(&self, name: &[u8]) -> Slots
         ensures { result ≡ slots_for self.now name.now }
     {
@@ -77,7 +77,7 @@ impl Parties {
 }
 
 impl Routing {
-    /// The routing of the rules of a message.
+    /// The routing of the rules of a message. Condition: there are at most 255.
     pub fn of(alloc: Global, rules: &[&SaidRule]) -> Result<Routing, AllocError>
         requires few { length rules.now ≤ 255 }
         ensures { IfOk result (IsRouting (rules_view rules.now)) }
@@ -109,7 +109,7 @@ impl RouteRules {
     ghost use Rattle.std.specs.Prelude.{◌≡◌, ◌↔◌, IsTrue};
     ghost use Rattle.guard_tables.specs.Slots.{none};
 
-    /// Whether none of them allows anything.
+    /// Whether none of the rules allows anything.
     pub fn allow_nothing(&self) -> bool
         ensures { IsTrue result ↔ (self.now.allowing ≡ none) }
     {
@@ -124,7 +124,7 @@ pub(crate) fn meets(first: &Slots, second: &Slots) -> bool
     common(first, second) != Slots::none()
 }
 
-/// The slots of both.
+/// The slots that both sets have.
 pub(crate) fn common(first: &Slots, second: &Slots) -> Slots
     ensures { result ≡ common first.now second.now }
 {

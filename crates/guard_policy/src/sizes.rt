@@ -11,6 +11,7 @@ use guard_model::{Cons, OutOfMemory, Rule};
 use guard_tables::numbers_of;
 use std::alloc::Global;
 
+/// The sizes that values under the constraint may have, as far as SIZE tells. OutOfMemory is the only error.
 #[cycle(sizes)]
 pub(crate) fn sizes_of(alloc: Global, constraint: &Cons) -> Result<IntSet, OutOfMemory>
     ensures { IfOk result (λ set. (z : ℤ)

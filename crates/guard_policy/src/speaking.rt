@@ -12,7 +12,7 @@ impl<'a> SaidRule<'a> {
     ghost use Rattle.guard_policy.specs.PolicyView.{route_view};
     ghost use Rattle.guard_policy.specs.SaidView.{said_view};
 
-    /// The route of the rule's own sender, receiver and message.
+    /// The route of the rule's own sender, receiver and message, where `*` stands as it is.
     pub fn route(&self) -> Route<'a>
         ensures { route_view result ≡ own_route (said_view self.now) }
     {
@@ -23,7 +23,8 @@ impl<'a> SaidRule<'a> {
         }
     }
 
-    /// Whether the rule speaks of this sender, receiver and message.
+    /// Whether the rule speaks of the route: its message is the route's, and its sender and its receiver each are the
+    /// route's or `*`.
     pub fn speaks_of(&self, route: &Route) -> bool
         ensures { result ≡ speaks_of (route_view route.now) (said_view self.now) }
     {

@@ -1,4 +1,4 @@
-//! The tables of messages: of the type of each and those of its rules.
+//! The table of each message, made of its declared type and the types of its rules.
 ghost use Rattle.std.specs.Prelude.{◌≡◌, ◌∷◌, All, map, option_map, IfOk, IsTrue};
 ghost use Rattle.guard_der.specs.Sound.{is_sound};
 ghost use Rattle.guard_model.specs.TypeView.{type_view};
@@ -22,7 +22,8 @@ use guard_model::Ty;
 use guard_tables::{Table, TableFault};
 use std::alloc::{AllocError, Global};
 
-/// Each message with its table, or the fault of the first whose types make none with those of its rules.
+/// Each message with its table, or the fault Table of the first whose type and those of its rules make none. Condition:
+/// all types are sound.
 pub(crate) fn keep_messages(
     alloc: Global,
     messages: &[SaidMessage],

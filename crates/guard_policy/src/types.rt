@@ -15,10 +15,10 @@ use guard_model::Ty;
 use std::alloc::{AllocError, Global};
 use toml::Table;
 
-/// How many modules there may be.
+/// The most modules that a schema may have.
 const MOST_MODULES: u32 = 64;
 
-/// The type that the entry names.
+/// The type that the entry names, which is sound; NoSuchType where the schema has none of this name.
 pub(crate) fn type_named<'a, S: Types>(
     schema: &'a S,
     entry: Entry,
@@ -48,7 +48,7 @@ pub(crate) fn module_names<S: Types>(alloc: Global, schema: &S) -> Result<Vec<St
     Ok(names)
 }
 
-/// A copy of the name of the module at this place, from 1.
+/// A copy of the name of the module at this place, from 1; None where there is no such place.
 fn module_name<S: Types>(alloc: Global, schema: &S, text: u32) -> Result<Option<String>, AllocError>
     ensures { IfOk result (λ name. option_map string_bytes name ≡ module_at (S.types schema.now).modules text) }
 {

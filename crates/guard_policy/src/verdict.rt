@@ -2,7 +2,8 @@
 use guard_der::Breach;
 use guard_eval::Violation;
 
-/// The first of these that holds. Rules are numbered from 0 in the order of the policy.
+/// What becomes of a message, and why: the first of these in the order UnknownMessage, Undecodable, OutsideType,
+/// DeniedBy, Pass, NotAllowed, NoRule that holds. Rules are numbered from 0 in the order of the policy.
 #[derive(Debug, Drop)]
 pub enum Verdict {
     /// Some allowing rule of the route has the value, and no denying one.

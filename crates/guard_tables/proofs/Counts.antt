@@ -5,8 +5,7 @@ use Rattle.std.proofs.lemmas.Bool.Decides.{leb_tells}
 use Rattle.guard_model.specs.AbstractType.{Components, no_components, component}
 use Rattle.guard_model.specs.Components.{component_at}
 use Rattle.guard_model.specs.TypeView.{OneComponent}
-use Rattle.guard_tables.specs.Conditions.{of_type, of_component}
-use Rattle.guard_tables.specs.inside.Counting.{counted}
+use Rattle.guard_tables.specs.Conditions.{counted, of_type, of_component}
 
 -- nothing is to come
 pub none_more : (count all : ℕ) → count ≤ 18446744073709551615 → counted (count + 0) ≡ counted all → count ≡ counted all

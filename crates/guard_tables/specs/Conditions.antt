@@ -1,6 +1,6 @@
 -- What types ask of a value, node by node.
-use Rattle.std.specs.Prelude.{ℕ, zero, suc, ◌+◌, Bool, not, nat_le, nat_eq, List, [], ◌∷◌, if◌then◌else◌}
-use Rattle.std.specs.List.{list_any}
+use Rattle.std.specs.Prelude.{ℕ, zero, suc, ◌+◌, Bool, not, min, nat_le, nat_eq, List, [], ◌∷◌, Option, if◌then◌else◌}
+use Rattle.std.specs.List.{list_any, find}
 use Rattle.guard_model.specs.AbstractType as type
 use Rattle.guard_model.specs.AbstractType.{AbstractType, AbstractKind, Components, Constraint, Constraints, Element, Parts, type_of, no_components, component, at, no_constraints, constraint}
 use Rattle.guard_tables.specs.Nodes.{ways}
@@ -91,3 +91,11 @@ is_crowded types way = not (nat_le (conditions types way) most_conditions)
 -- at some node of the type
 abbrev pub has_crowded_node : List AbstractType → AbstractType → Bool
 has_crowded_node types t = list_any (is_crowded types) (ways t)
+
+-- the way to the first such node, where a type comes before its parts, and these in written order
+abbrev pub crowded_node : List AbstractType → AbstractType → Option (List ℕ)
+crowded_node types t = find (is_crowded types) (ways t)
+
+-- as a usize of 64 bits holds it: so many, but never more than its greatest number
+abbrev pub counted : ℕ → ℕ
+counted n = min n 18446744073709551615

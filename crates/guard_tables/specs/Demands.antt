@@ -52,7 +52,7 @@ pub data Atom : Type 0 where
   each : Demand → Atom
   -- the component or the chosen alternative at this place, if it is there, meets this
   within : ℕ → Demand → Atom
-  -- it is there, or isn't (51.8.6 to 51.8.9)
+  -- the component or the alternative at this place is there, or isn't (51.8.6 to 51.8.9)
   sent : ℕ → Atom
   unsent : ℕ → Atom
 

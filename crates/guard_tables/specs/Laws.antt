@@ -66,7 +66,7 @@ abbrev pub SpeakLaw : Type 0
 SpeakLaw = (kind : AbstractKind) (d : Demand) → IsApt kind d → (k : Slots) (n : ℕ)
     → AllSpeak kind (form k d (nothing_yet n)).terms
 
--- It takes no more slots, its own among them, than conditions are counted.
+-- A demand takes no more slots, its own among them, than conditions are counted.
 abbrev pub CountLaw : Type 0
 CountLaw = (k : Slots) (d : Demand) (f : Formula) → (form k d f).next + 1 ≤ f.next + of_demand d []
 

@@ -25,16 +25,16 @@ pub record AbstractCondition : Type 0 where
 -- What is said of a component, beside its type. Of an alternative `present` alone counts: what fails where it is the
 -- chosen one.
 pub record Side : Type 0 where
-  -- what fails where it isn't there; none where it has to be there
+  -- what fails where the part isn't there; None where it has to be there
   pub absent : Option Slots
-  -- what fails where it is there
+  -- what fails where the part is there
   pub present : Slots
-  -- of its default the octets inside the outermost tag
+  -- of the part's default the octets inside the outermost tag
   pub default : Option (List ℕ)
 
 mutual
-  -- its tags from the outside in, each but the last a wrapper, and whether the last has the constructed form: as of
-  -- a type
+  -- tags from the outside in, each but the last a wrapper, as of a type; whether the last has the constructed form; and
+  -- what is inside them
   pub data Plan : Type 0 where
     plan : List Tag → Bool → Body → Plan
 

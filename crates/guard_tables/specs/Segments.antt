@@ -10,13 +10,13 @@ use Rattle.guard_tables.specs.Slots.{added}
 abbrev pub Fails : List AbstractCondition → ℤ → Slots → Type 0
 Fails cs z slots = (f : Facts) (m : Slots) → f.number ≡ Some z → conditions_marked cs f m ≡ added m slots
 
--- for both numbers the same
+-- the same conditions fail for both numbers
 abbrev pub FailsAlike : List AbstractCondition → ℤ → ℤ → Type 0
 FailsAlike cs y z =
     (f g : Facts) (m : Slots) → f.number ≡ Some y → g.number ≡ Some z
     → conditions_marked cs f m ≡ conditions_marked cs g m
 
--- its slots fail for each of its numbers, and all conditions are on numbers
+-- the segment's slots fail for each of its numbers, and all conditions are on numbers
 abbrev pub IsSegment : List AbstractCondition → Segment → Type 0
 IsSegment cs s = (z : ℤ) → s.first ≤ℤ z → z ≤ℤ s.last → (are_on_numbers cs ≡ true) × Fails cs z s.failed
 

@@ -168,7 +168,7 @@ has_inner kind.Formula = true
 
 -- what holds of a node at place k beside these
 pub record IsNode (h : Hot) (c : Cold) (spots : List Spot) (k : ℕ) : Type 0 where
-  -- its parts are before it
+  -- the node's parts are before it
   pub before : h.first + h.count ≤ k
   pub inner : has_inner h.kind ≡ true → h.first < k
   -- no more of them than a type has components

@@ -3,8 +3,8 @@ use guard_model::OutOfMemory;
 use std::alloc::Global;
 use std::marker::Model;
 
-/// The codes of the permitted characters, as ranges with both ends in, in ascending order, of which no two touch or
-/// overlap.
+/// The codes of the permitted characters (X.680 51.7), as ranges with both ends in, in ascending order, of which no two
+/// touch or overlap.
 #[derive(Drop)]
 pub struct Alphabet {
     ranges: Vec<(u32, u32)>,
@@ -36,6 +36,7 @@ impl Alphabet {
         Ok(Alphabet { ranges })
     }
 
+    /// The ranges, both ends in, in ascending order; no two of them touch or overlap.
     pub fn ranges(&self) -> &[(u32, u32)]
         ensures same { result.now ≡ self.now }
         ensures apart { IsTrue (are_apart result.now) }
@@ -64,7 +65,7 @@ fn joined(alloc: Global, ordered: &[(u32, u32)]) -> Result<Vec<(u32, u32)>, OutO
     Ok(ranges)
 }
 
-/// With the characters of one range more, which begins where the others do or after them.
+/// Adds the characters of one range more, which begins where the others do or after them.
 fn add(ranges: &mut Vec<(u32, u32)>, low: u32, high: u32) -> Result<(), OutOfMemory>
     requires apart { IsTrue (are_apart ranges.old.items) }
     requires order { IsTrue (begin_by low ranges.old.items) }

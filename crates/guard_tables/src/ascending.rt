@@ -25,7 +25,7 @@ pub(crate) fn ascend(comps: &[Comp]) -> bool
     true
 }
 
-/// The outermost tag of a type; a CHOICE may have none.
+/// The outermost tag of a type; None where it has no tag, as a CHOICE may.
 fn outer_tag(ty: &Ty) -> Option<Tag>
     ensures { result ≡ outer_tag (tags_of (type_view ty.now)) }
 {

@@ -28,7 +28,7 @@ pub(crate) struct Stacked {
     pub first: usize,
 }
 
-/// With the one that wasn't with them.
+/// The nodes with the one that wasn't with them yet, which is the last now.
 pub(crate) fn with_last(laid: Assembled) -> Result<Stacked, OutOfMemory>
     ensures { IfOk result (λ s. Stacks laid s.builder s.first) }
 {
@@ -39,7 +39,7 @@ pub(crate) fn with_last(laid: Assembled) -> Result<Stacked, OutOfMemory>
 
 // ---- in front of a node
 
-/// What is asked of a value that has parts as a whole; where that is nothing no node comes in front.
+/// The nodes with one in front that has these conditions on the whole value; without conditions no node comes in front.
 pub(crate) fn with_conditions(
     alloc: Global,
     laid: Assembled,
@@ -64,7 +64,7 @@ pub(crate) fn with_conditions(
     })
 }
 
-/// Formulas over what fails there; where they imply nothing no node comes in front.
+/// The nodes with one in front that has these formulas over what fails there; without formulas no node comes in front.
 pub(crate) fn with_formulas(
     alloc: Global,
     laid: Assembled,
@@ -89,7 +89,7 @@ pub(crate) fn with_formulas(
     })
 }
 
-/// An explicit tag round it.
+/// The nodes with one in front that is an explicit tag round the whole.
 fn wrapped(alloc: Global, laid: Assembled, tag: Tag) -> Result<Assembled, OutOfMemory>
     requires { 0 < length (tags_in (plan_in laid)) }
     ensures { IfOk result (λ l. Lays laid.builder l
@@ -105,7 +105,7 @@ fn wrapped(alloc: Global, laid: Assembled, tag: Tag) -> Result<Assembled, OutOfM
     })
 }
 
-/// The last tag, which is the kind's own; a CHOICE may have none.
+/// The last of the tags, which is the kind's own; None where there is none, as of a CHOICE.
 pub(crate) fn innermost(tags: &[Tag]) -> Option<Tag>
     ensures { own_tags result ≡ drop (length tags.now - 1) tags.now }
 {
@@ -115,7 +115,7 @@ pub(crate) fn innermost(tags: &[Tag]) -> Option<Tag>
     Some(tags[tags.len() - 1])
 }
 
-/// All tags but the last round it, from the inside out.
+/// The nodes with all tags but the last round the whole, from the inside out.
 pub(crate) fn with_tags(
     alloc: Global,
     laid: Assembled,
@@ -136,7 +136,7 @@ pub(crate) fn with_tags(
 
 // ---- round elements and parts
 
-/// A list of such elements.
+/// The nodes with one in front that is a list of such elements.
 pub(crate) fn as_elements(
     alloc: Global,
     element: Assembled,
@@ -156,7 +156,7 @@ pub(crate) fn as_elements(
     })
 }
 
-/// A node that has these parts, and whether they ascend.
+/// The nodes with one that has these parts, of which it is said whether they ascend by their tags.
 pub(crate) fn as_parts(
     alloc: Global,
     parts: AssembledParts,
@@ -177,7 +177,7 @@ pub(crate) fn as_parts(
     Ok(Assembled { builder, node })
 }
 
-/// One part more, of which this is said.
+/// The parts with one more after them, of which this is said beside its type.
 pub(crate) fn with_part(
     part: Assembled,
     others: Vec<Node>,
@@ -194,7 +194,7 @@ pub(crate) fn with_part(
     })
 }
 
-/// The parts side by side.
+/// The nodes with all parts side by side at their end.
 fn with_all(parts: AssembledParts) -> Result<Builder, OutOfMemory>
     requires { MayCome parts }
     ensures { IfOk result (λ b. spots_so_far b ≡ spots_so_far parts.builder

@@ -3,10 +3,10 @@
 ghost use Rattle.std.specs.Prelude.{◌≡◌, ◌∷◌, map};
 ghost use Rattle.guard_model.specs.TypeView.{type_view, kind_view, component_view, constraint_view, element_view};
 ghost use Rattle.guard_model.specs.TypeView.{part_view, components_of, constraints_of, parts_of};
-ghost use Rattle.guard_tables.specs.Conditions.{conditions, is_crowded, of_type, of_kind, of_component};
+ghost use Rattle.guard_tables.specs.Conditions.{conditions, counted, is_crowded, of_type, of_kind, of_component};
 ghost use Rattle.guard_tables.specs.Conditions.{of_constraints, of_constraint, of_element, of_parts};
 ghost use Rattle.guard_tables.specs.Tables.{types_view};
-ghost use Rattle.guard_tables.specs.inside.Counting.{counted, of_part, of_each, of_listed};
+ghost use Rattle.guard_tables.specs.inside.Counting.{of_part, of_each, of_listed};
 
 use guard_model::{Comp, Cons, Kind, Part, Rule, Ty};
 
@@ -18,7 +18,15 @@ const MOST_CONDITIONS: usize = 256;
 pub(crate) fn is_crowded(declared: &Ty, rules: &[&Ty], way: &[usize]) -> bool
     ensures { result ≡ is_crowded (type_view declared.now ∷ types_view rules.now) way.now }
 {
-    of_type(declared, way).saturating_add(of_types(rules, way)) > MOST_CONDITIONS
+    conditions_at(declared, rules, way) > MOST_CONDITIONS
+}
+
+/// How many conditions all types together lay on the node at the end of this way, a way of `crowded_node`; never more
+/// than the greatest number of a usize. On a node that no type has there are none.
+pub fn conditions_at(declared: &Ty, rules: &[&Ty], way: &[usize]) -> usize
+    ensures { result ≡ counted (conditions (type_view declared.now ∷ types_view rules.now) way.now) }
+{
+    of_type(declared, way).saturating_add(of_types(rules, way))
 }
 
 fn of_types(types: &[&Ty], way: &[usize]) -> usize
@@ -38,7 +46,8 @@ fn of_type(ty: &Ty, way: &[usize]) -> usize
     of_kind(&ty.kind, way).saturating_add(of_constraints(&ty.cons, way))
 }
 
-/// One of the type itself, and what the type of each part lays.
+/// How many conditions a type of this kind lays at the end of the way: one where the way is empty, else those of the
+/// part's type to which it goes on.
 #[cycle(conditions)]
 fn of_kind(kind: &Kind, way: &[usize]) -> usize
     ensures { result ≡ counted (of_kind (kind_view kind.now) way.now) }
@@ -55,7 +64,7 @@ fn of_kind(kind: &Kind, way: &[usize]) -> usize
     }
 }
 
-/// Those of the component or alternative at this place.
+/// How many conditions the component or alternative at this place lays at the end of the way.
 #[cycle(conditions)]
 fn of_component(comps: &[Comp], place: usize, way: &[usize]) -> usize
     ensures { result ≡ counted (of_component (components_of (map component_view comps.now)) place way.now) }
@@ -77,7 +86,8 @@ fn of_constraints(constraints: &[Cons], way: &[usize]) -> usize
     count
 }
 
-/// One of the constraint itself, and those of what is in it.
+/// How many conditions a constraint lays at the end of the way: one of the constraint itself, and those of what is in
+/// it.
 #[cycle(conditions)]
 fn of_constraint(constraint: &Cons, way: &[usize]) -> usize
     ensures { result ≡ counted (of_constraint (constraint_view constraint.now) way.now) }
@@ -86,7 +96,7 @@ fn of_constraint(constraint: &Cons, way: &[usize]) -> usize
     own.saturating_add(of_rule(&constraint.rule, way))
 }
 
-/// Inside SIZE are conditions on a number, which don't count.
+/// How many conditions a rule lays at the end of the way. Inside SIZE are conditions on a number, which don't count.
 #[cycle(conditions)]
 fn of_rule(rule: &Rule, way: &[usize]) -> usize
     ensures { result ≡ counted (of_element (element_view rule.now) way.now) }
@@ -135,7 +145,8 @@ fn of_parts(parts: &[Part], place: usize, way: &[usize]) -> usize
     count
 }
 
-/// Those of one part of WITH COMPONENTS, where it is the one at this place.
+/// How many conditions a part of WITH COMPONENTS lays at the end of the way, where it is the one at this place; else
+/// none.
 #[cycle(conditions)]
 fn of_part(part: &Part, place: usize, way: &[usize]) -> usize
     ensures { result ≡ counted (of_part (part_view part.now) place way.now) }

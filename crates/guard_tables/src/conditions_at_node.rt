@@ -36,7 +36,8 @@ const FALSE: u8 = 0;
 
 const TRUE: u8 = 255;
 
-/// Of the values of this kind.
+/// The conditions that the terms of a node lay on values of this kind. Condition: each term is one that may be said of
+/// such values. OutOfMemory is the only error.
 pub(crate) fn conditions_of(
     alloc: Global,
     kind: &Kind,
@@ -62,7 +63,7 @@ fn list_of(alloc: Global, kind: &Kind, terms: &[Term<'_>]) -> Result<Vec<Conditi
     Ok(conditions)
 }
 
-/// At most one: what is asked of parts, and what each value passes, is none.
+/// Adds the condition of a term: none where it asks something of parts, or each value passes it.
 fn push_condition(
     alloc: Global,
     kind: &Kind,
@@ -98,7 +99,7 @@ fn test_of(alloc: Global, kind: &Kind, atom: &Atom<'_>) -> Result<Option<Test>, 
     }
 }
 
-/// The value has the contents octets of this one.
+/// The test that a value has the contents octets of this one.
 fn stored_test(alloc: Global, kind: &Kind, value: &Value) -> Result<Test, OutOfMemory>
     requires { IsTrue (fits_kind (kind_view kind.now) (value_view value.now)) }
     ensures { IfOk result
@@ -110,7 +111,7 @@ fn stored_test(alloc: Global, kind: &Kind, value: &Value) -> Result<Test, OutOfM
     }
 }
 
-/// The value is one that a constraint on a type of the kind `own` has.
+/// The test that a value is one that a constraint on a type of the kind `own` has.
 fn scalar_test(
     alloc: Global,
     kind: &Kind,
@@ -131,7 +132,7 @@ fn scalar_test(
     }
 }
 
-/// None where both truth values pass.
+/// The test that a BOOLEAN is one that a constraint has; None where both truth values pass.
 fn truth_test(
     alloc: Global,
     kind: &Kind,
@@ -155,7 +156,7 @@ fn truth_test(
     }
 }
 
-/// The number is that of an item which the constraint has.
+/// The test that a number is that of an item which the constraint has.
 fn item_test(
     alloc: Global,
     kind: &Kind,
@@ -175,7 +176,7 @@ fn item_test(
     Ok(Test::Numbers(IntSet::union_of(alloc, &sets)?))
 }
 
-/// Its number, where the constraint has the item.
+/// Adds the number of an item, where the constraint has the item.
 fn push_item(
     alloc: Global,
     kind: &Kind,

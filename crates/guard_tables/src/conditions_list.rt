@@ -11,7 +11,7 @@ use crate::slots::Slots;
 use guard_model::OutOfMemory;
 use std::alloc::Global;
 
-/// What is asked of the value at a node.
+/// What is asked of the value at a node: conditions, and what they come to for a number, which `failed_at` looks up.
 #[derive(Drop)]
 pub struct Conditions {
     pub list: Vec<Condition>,
@@ -27,7 +27,7 @@ impl Conditions {
     ghost use Rattle.guard_tables.specs.NodeViews.{condition_view};
     ghost use Rattle.guard_tables.specs.Slots.{added};
 
-    /// Nothing.
+    /// No conditions. No memory is taken for them.
     pub fn none(alloc: Global) -> Conditions
         ensures { result.list.items ≡ [] }
     {
@@ -37,7 +37,7 @@ impl Conditions {
         }
     }
 
-    /// All of these.
+    /// These conditions. OutOfMemory is the only error.
     pub fn new(alloc: Global, list: Vec<Condition>) -> Result<Conditions, OutOfMemory>
         ensures { IfOk result (λ c. c.list ≡ list) }
     {
@@ -45,7 +45,7 @@ impl Conditions {
         Ok(Conditions { list, segments })
     }
 
-    /// Which slots fail for this number; None where one of them isn't on a number.
+    /// The slots of the conditions that this number doesn't pass; None where one of the conditions isn't on a number.
     pub fn failed_at(&self, number: i128) -> Option<Slots>
         ensures numbers { is_some result ≡ are_on_numbers (map condition_view self.now.list.items) }
         ensures failed { IfSome result (λ slots. (f : Facts) (m : Slots) → f.number ≡ Some number

@@ -35,9 +35,9 @@ pub enum Atom<'a> {
     Each(Demand<'a>),
     /// The component or the chosen alternative at this place, if it is there, meets this.
     Within(usize, Demand<'a>),
-    /// It is there.
+    /// The component at this place is there, or the alternative there is the chosen one.
     Sent(usize),
-    /// It isn't.
+    /// The component at this place isn't there, or the alternative there isn't the chosen one.
     Unsent(usize),
 }
 
@@ -48,7 +48,7 @@ pub struct Term<'a> {
     pub atom: Atom<'a>,
 }
 
-/// One term more.
+/// Adds a term with these slots.
 pub(crate) fn push<'a>(
     terms: &mut Vec<Term<'a>>,
     slots: Slots,

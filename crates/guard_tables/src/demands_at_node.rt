@@ -21,7 +21,8 @@ pub(crate) struct Formulas<'a> {
     pub implications: Vec<Implication>,
 }
 
-/// They need no more slots than conditions are counted.
+/// The terms and the formulas of a node of which all this is asked. Condition: 256 slots suffice for the terms of the
+/// demands.
 pub(crate) fn forms_of<'a>(
     alloc: Global,
     demands: &[SlotDemand<'a>],
@@ -42,7 +43,7 @@ pub(crate) fn forms_of<'a>(
     })
 }
 
-/// So many slots are taken.
+/// No terms yet, and so many slots taken.
 fn nothing_yet<'a>(alloc: Global, taken: usize) -> Tests<'a>
     ensures { formula_of result [] ≡ nothing_yet taken }
 {
@@ -52,7 +53,7 @@ fn nothing_yet<'a>(alloc: Global, taken: usize) -> Tests<'a>
     }
 }
 
-/// All of them with their own slots; the formulas of those that aren't conjunctions.
+/// The terms of all demands with their own slots, and the formulas of those that aren't conjunctions.
 fn conjoined<'a>(
     alloc: Global,
     demands: &[SlotDemand<'a>],
@@ -75,7 +76,7 @@ fn conjoined<'a>(
     Ok(forms)
 }
 
-/// Each of them with a slot of the node's own.
+/// The terms and formulas of the demands, each with a slot of the node's own.
 fn forms_from<'a>(alloc: Global, demands: &[SlotDemand<'a>]) -> Result<Formulas<'a>, OutOfMemory>
     requires { (forms_from 0 (slot_demands_view demands.now) (nothing_yet (length demands.now))).next ≤ 256 }
     ensures terms { IfOk result (λ f. terms_view f.terms.items
@@ -98,7 +99,7 @@ fn forms_from<'a>(alloc: Global, demands: &[SlotDemand<'a>]) -> Result<Formulas<
     })
 }
 
-/// With this slot: where it fails, by the slots of the node.
+/// Adds the terms of a demand that has this slot, and answers where it fails, by the slots of the node.
 fn form_with<'a>(
     alloc: Global,
     demand: Demand<'a>,

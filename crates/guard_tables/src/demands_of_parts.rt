@@ -14,11 +14,11 @@ use std::alloc::Global;
 /// What is asked of one part.
 #[derive(Drop)]
 pub(crate) struct PartDemands<'a> {
-    /// What is asked of its value.
+    /// What is asked of the part's value.
     pub demands: Vec<SlotDemand<'a>>,
-    /// What fails where it isn't there.
+    /// The slots that fail where the part isn't there.
     pub absent: Slots,
-    /// What fails where it is there.
+    /// The slots that fail where the part is there.
     pub present: Slots,
 }
 
@@ -33,7 +33,7 @@ impl<'a> PartDemands<'a> {
         }
     }
 
-    /// With what one term more asks of it, where it is the part at this place.
+    /// Adds what one term more asks of the part at this place.
     fn receive(&mut self, exclusive: bool, place: usize, term: Term<'a>) -> Result<(), OutOfMemory>
         ensures demands { OnOk result (slot_demands_view self.new.demands.items
             ≡ slot_demands_view self.old.demands.items
@@ -70,8 +70,8 @@ impl<'a> PartDemands<'a> {
     }
 }
 
-/// Of so many parts; `exclusive` where only one of them is there, as of a CHOICE: that it is another one speaks of
-/// each.
+/// What the terms ask of each of so many parts. `exclusive` says that only one of the parts is there, as of a CHOICE: a
+/// term that asks for one of them then speaks of all others too.
 pub(crate) fn demands_of_parts<'a>(
     alloc: Global,
     exclusive: bool,
@@ -115,7 +115,7 @@ fn add_term<'a>(
     }
 }
 
-/// To the part at this place, if there is one.
+/// Adds what a term asks to the part at this place, if there is one.
 fn add_at<'a>(
     exclusive: bool,
     place: usize,

@@ -6,7 +6,7 @@ ghost use Rattle.guard_der.specs.Encoding.{refusal, or_too_long};
 use guard_der::EncodeFault;
 use guard_model::OutOfMemory;
 
-/// What was encoded; none where a length in it would need more than four octets.
+/// The octets that were encoded; None where a length in them would need more than four octets.
 pub(crate) fn if_short(answer: Result<Vec<u8>, EncodeFault>) -> Result<Option<Vec<u8>>, OutOfMemory>
     ensures { (os : Option (List ℕ)) → Gives (λ v. v.items) refusal answer (or_too_long os)
         → IfOk result (λ o. option_map (λ v. v.items) o ≡ os) }

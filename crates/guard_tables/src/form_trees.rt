@@ -8,7 +8,7 @@ use crate::node::Form;
 use guard_model::OutOfMemory;
 use std::alloc::Global;
 
-/// It fails where this slot has failed or one of these says so.
+/// The formula that fails where this slot has failed or one of these formulas fails.
 pub(crate) fn own_form(alloc: Global, slot: u8, forms: Vec<Form>) -> Result<Form, OutOfMemory>
     ensures { IfOk result (λ f. form_view f ≡ own_form slot (map form_view forms.items)) }
 {
@@ -16,7 +16,7 @@ pub(crate) fn own_form(alloc: Global, slot: u8, forms: Vec<Form>) -> Result<Form
     either(alloc, Form::Slot(slot), other)
 }
 
-/// It fails where one of these does.
+/// The formula that fails where one of these does.
 fn one_of(alloc: Global, forms: Vec<Form>) -> Result<Form, OutOfMemory>
     ensures { IfOk result (λ f. form_view f ≡ eithers (map form_view forms.items) formulas.never) }
 {
@@ -28,7 +28,7 @@ fn one_of(alloc: Global, forms: Vec<Form>) -> Result<Form, OutOfMemory>
     Ok(all)
 }
 
-/// It fails where all of these do.
+/// The formula that fails where all of these do.
 pub(crate) fn all_of(alloc: Global, forms: Vec<Form>) -> Result<Form, OutOfMemory>
     ensures { IfOk result (λ f. form_view f ≡ boths (map form_view forms.items) formulas.always) }
 {
@@ -56,6 +56,7 @@ fn both(alloc: Global, first: Form, second: Form) -> Result<Form, OutOfMemory>
     Ok(Form::Both(first, second))
 }
 
+/// The formula that fails where this one doesn't.
 pub(crate) fn unless(alloc: Global, form: Form) -> Result<Form, OutOfMemory>
     ensures { IfOk result (λ f. form_view f ≡ formulas.unless (form_view form)) }
 {

@@ -24,7 +24,8 @@ pub(crate) struct Tests<'a> {
     pub next: usize,
 }
 
-/// With these slots. A node has no more than 256.
+/// Adds the terms of a demand that has these slots, and the formulas where it is no conjunction. Condition: the node
+/// has room for the slots that this takes, of which there are 256.
 pub(crate) fn form<'a>(
     alloc: Global,
     demand: Demand<'a>,
@@ -60,7 +61,7 @@ fn form_type<'a>(
     push_kind(&ty.kind, slots, &mut tests.terms)
 }
 
-/// All of these, with the same slots.
+/// Adds the terms and formulas of all these constraints, with the same slots.
 #[cycle(formulas)]
 fn form_all<'a>(
     alloc: Global,
@@ -82,7 +83,7 @@ fn form_all<'a>(
     Ok(())
 }
 
-/// Each of these with a slot of its own, as members of a union.
+/// Adds the terms of each of these constraints with a slot of its own, as members of a union.
 #[cycle(formulas)]
 fn form_each<'a>(
     alloc: Global,
@@ -103,8 +104,8 @@ fn form_each<'a>(
     Ok(())
 }
 
-/// One with a slot of its own, the first that is free. It fails where that has failed or the formulas say so; where
-/// the set is taken away, where it doesn't.
+/// Adds the terms of one constraint with a slot of its own, the first that is free. The constraint fails where that
+/// slot has failed or the formulas say so; where the set is taken away, where it doesn't.
 #[cycle(formulas)]
 fn form_own<'a>(
     alloc: Global,
@@ -154,7 +155,7 @@ fn form_one<'a>(
     form_rule(alloc, &constraint.rule, kind, slots, tests, forms)
 }
 
-/// On a kind that isn't scalar; a range is on INTEGER alone.
+/// Adds the terms of a rule on a kind that isn't scalar. A range, which is on INTEGER alone, adds none.
 #[cycle(formulas)]
 fn form_rule<'a>(
     alloc: Global,

@@ -13,7 +13,7 @@ pub(crate) struct Identifiers {
     pub other: u16,
 }
 
-/// Those of a node with this tag and form.
+/// The identifier octets of a node with this tag and form.
 pub(crate) fn identifiers_of(tag: Option<Tag>, constructed: bool) -> Identifiers
     ensures own { result.own ≡ identifier_of (own_tags tag) constructed }
     ensures other { result.other ≡ other_of (own_tags tag) constructed }

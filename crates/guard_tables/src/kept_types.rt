@@ -34,7 +34,7 @@ impl KeptTypes {
     ghost use Rattle.std.specs.Prelude.{◌≡◌, length, slice_get, option_map};
     ghost use Rattle.guard_tables.specs.inside.SharedTypes.{type_at, types_at};
 
-    /// Each rule has the type at its place.
+    /// The types of a table, where each rule has the type at its place.
     pub(crate) fn new(declared: Ty, others: Vec<Ty>, places: Vec<usize>) -> KeptTypes
         ensures { result ≡ (declared, types_at declared others.items places.items) }
     {
@@ -45,13 +45,14 @@ impl KeptTypes {
         }
     }
 
+    /// The declared type.
     pub fn declared(&self) -> &Ty
         ensures { result.now ≡ self.now.0 }
     {
         &self.declared
     }
 
-    /// The type of the rule at this place.
+    /// The type of the rule at this place, from 0; None where there are no more rules.
     pub fn rule(&self, place: usize) -> Option<&Ty>
         ensures { option_map (λ t. t.now) result ≡ slice_get self.now.1 place }
     {

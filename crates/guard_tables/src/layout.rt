@@ -41,7 +41,8 @@ use crate::sides::{PartSide, side_chosen, side_for};
 use guard_model::{Comp, Kind, OutOfMemory, Tag, Ty};
 use std::alloc::Global;
 
-/// The nodes of a table: they stand for the plan that asks of the declared type's values what is asked.
+/// The nodes of a table, which stand for the plan that asks of the declared type's values what is asked. Conditions:
+/// the declared type is sound, each demand may be made of its values, and no node needs more than 256 slots.
 pub(crate) fn lay_nodes(
     alloc: Global,
     declared: &Ty,
@@ -73,7 +74,7 @@ fn lay(
     with_tags(alloc, laid, &ty.tags)
 }
 
-/// Without the tags that are round it.
+/// The node of a type without the tags that are round it, and what is inside it.
 #[cycle(layout)]
 fn lay_asked(
     alloc: Global,
@@ -92,7 +93,7 @@ fn lay_asked(
     with_formulas(alloc, laid, formulas.implications)
 }
 
-/// Where demands are tests of the node and of its parts.
+/// The node of a kind, where all demands are tests of the node and of its parts.
 #[cycle(layout)]
 fn lay_kind(
     alloc: Global,
@@ -149,7 +150,7 @@ fn lay_kind(
     }
 }
 
-/// A kind whose contents octets spell the value alone.
+/// The node of a kind whose contents octets spell the value alone.
 fn lay_simple(
     alloc: Global,
     kind: &Kind,
@@ -166,7 +167,7 @@ fn lay_simple(
     Ok(Assembled { builder, node })
 }
 
-/// SEQUENCE OF and SET OF: one node for all elements.
+/// The node of a SEQUENCE OF or SET OF, and one node for all its elements.
 #[cycle(layout)]
 fn lay_elements(
     alloc: Global,
@@ -188,7 +189,7 @@ fn lay_elements(
     with_conditions(alloc, whole, conditions)
 }
 
-/// SEQUENCE, SET and CHOICE.
+/// The node of a SEQUENCE, SET or CHOICE, and those of its parts.
 #[cycle(layout)]
 fn lay_group(
     alloc: Global,
@@ -235,7 +236,7 @@ fn lay_each(
     Ok(parts)
 }
 
-/// With one component or alternative more, of which this is asked.
+/// The parts with one component or alternative more, of which this is asked.
 #[cycle(layout)]
 fn lay_part(
     alloc: Global,

@@ -6,7 +6,7 @@
 //! | Why do types make none, and which reason comes first? | `fault.rt` | `Tables.antt` |
 //! | Which types does a table keep? | `kept_types.rt`, each once `sharing.rt` | `SharedTypes.antt`, `Sharing.antt` |
 //! | How many conditions has a node, and how many are too many? | `conditions.rt` | `Conditions.antt`, `Counting.antt` |
-//! | At which nodes is that looked at? | `nodes.rt` | `Conditions.antt`, `Search.antt` |
+//! | At which nodes is that looked at, and which is the first with too many? | `nodes.rt` (`crowded_node`) | `Conditions.antt`, `Search.antt` |
 //! | Which slots have failed? | `slots.rt` | `Slots.antt` |
 //! | How are the nodes of a table put together? | `layout.rt` (`lay_nodes`) | `Lay.antt` |
 //! | By which steps? | `assembly.rt`, `assembled.rt` | `Assembled.antt`, `Bare.antt`, `Aside.antt` |
@@ -72,11 +72,13 @@ mod slots;
 mod table;
 
 pub use alphabet::Alphabet;
+pub use conditions::conditions_at;
 pub use conditions_list::Conditions;
 pub use demands::Demand;
 pub use fault::TableFault;
 pub use node::{Cold, Condition, Form, Hot, Implication, Kind, Need, SimpleKind, Test};
 pub use node_list::Nodes;
+pub use nodes::crowded_node;
 pub use number_sets::{numbers_of, numbers_of_type};
 pub use slots::Slots;
 pub use table::Table;

@@ -54,7 +54,7 @@ impl Group {
         }
     }
 
-    /// Whether only one of its parts is there.
+    /// Whether only one of the parts is there, as of a CHOICE.
     pub(crate) fn is_exclusive(self) -> bool
         ensures { result ≡ is_exclusive self }
     {
@@ -217,7 +217,7 @@ pub(crate) fn with_side(node: Node, side: PartSide) -> Node
     node
 }
 
-/// What absence means where these slots fail then; without slots a component has to be there.
+/// What the absence of a component means, by the slots that fail then; without slots the component has to be there.
 fn need_of(absent: &Option<Slots>) -> Need
     ensures { views.absence_of result (slots_of absent.now) ≡ absent.now }
 {
@@ -228,7 +228,7 @@ fn need_of(absent: &Option<Slots>) -> Need
     }
 }
 
-/// No slots where there are none.
+/// The slots, or the empty set where none are given.
 fn slots_of(slots: &Option<Slots>) -> Slots
     ensures { result ≡ slots_of slots.now }
 {
@@ -245,7 +245,7 @@ fn is_watched(side: &PartSide) -> bool
     side.default.is_some() || side.present != Slots::none()
 }
 
-/// Where these numbers are plain.
+/// The node, at which these numbers are plain.
 fn with_interval(hot: Hot, plain: Interval) -> Hot
     ensures { result ≡ plain_hot hot plain.low plain.high }
 {

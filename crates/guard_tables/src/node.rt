@@ -11,8 +11,9 @@ pub enum SimpleKind {
     Boolean,
     Integer,
     Enumerated,
-    /// BIT STRING without a list of bits, and with one.
+    /// BIT STRING without named bits.
     BitString,
+    /// BIT STRING with named bits.
     NamedBits,
     OctetString,
     Null,
@@ -20,15 +21,20 @@ pub enum SimpleKind {
     Characters(CharKind),
 }
 
+/// What a node stands for.
 #[derive(Clone, Copy, PartialEq, Eq, Debug)]
 pub enum Kind {
+    /// A type of a kind whose contents octets spell the value alone.
     Simple(SimpleKind),
-    /// SEQUENCE, SET and CHOICE: their parts are side by side in the nodes.
+    /// SEQUENCE, whose components are side by side in the nodes.
     Series,
+    /// SET, whose components are side by side in the nodes.
     Set,
+    /// CHOICE, whose alternatives are side by side in the nodes.
     Choice,
-    /// SEQUENCE OF and SET OF: one node for all elements.
+    /// SEQUENCE OF, with one node for all elements.
     List,
+    /// SET OF, with one node for all elements.
     SetOf,
     /// An explicit tag round another node.
     Wrapper,
@@ -41,48 +47,56 @@ pub enum Kind {
 /// What the absence of a component means.
 #[derive(Clone, Copy, PartialEq, Eq, Debug)]
 pub enum Need {
+    /// The octets are no encoding.
     Mandatory,
     /// Nothing fails.
     Free,
-    /// Some slots fail.
+    /// Some slots fail, those of `absent`.
     Costs,
 }
 
 /// What every message reads of a node.
 #[derive(Clone, Copy, Debug)]
 pub struct Hot {
-    /// Its identifier octet and the one of the other form; 256 where it has none: for a tag from 31 on, and for a
+    /// The identifier octet of the node's outermost tag; 256 where there is none: for a tag from 31 on, and for a
     /// CHOICE without a tag.
     pub identifier: u16,
+    /// The identifier octet of that tag in the other form, constructed or primitive; 256 where there is none.
     pub other: u16,
     pub kind: Kind,
+    /// What it means that the node is absent, as a component.
     pub need: Need,
-    /// Its presence counts: it has a default, or slots that fail where it is there.
+    /// Whether the node's presence counts: it has a default, or slots that fail where it is there.
     pub watched: bool,
-    /// It has conditions.
+    /// Whether the node has conditions.
     pub asked: bool,
-    /// Its parts have a tag each, and these ascend.
+    /// Whether the node's parts have a tag each, and these ascend.
     pub ascending: bool,
-    /// Contents octets that spell a number from `low` to `high` are lawful, fail nothing, and aren't a default's.
+    /// Contents octets that spell a number from `low` to `high`, both in, are lawful, fail nothing, and aren't a
+    /// default's. There is no such number where `high` is below `low`.
     pub low: i32,
+    /// The greatest of these numbers.
     pub high: i32,
-    /// Its parts are those from `first` on.
+    /// The place of the node's first part among all nodes.
     pub first: usize,
+    /// How many parts there are, side by side, at most 64.
     pub count: u32,
 }
 
-/// The rest of a node.
+/// What few messages read of a node.
 #[derive(Drop)]
 pub struct Cold {
-    /// Its outermost tag; none for a CHOICE without a tag, and for what is in front of another node.
+    /// The node's outermost tag; None for a CHOICE without a tag, and for a node that is in front of another one and is
+    /// no wrapper.
     pub tag: Option<Tag>,
     /// The numbers of the items of an ENUMERATED.
     pub items: Vec<i128>,
     pub conditions: Conditions,
-    /// What fails where it isn't there, and where it is.
+    /// The slots that fail where the component isn't there.
     pub absent: Slots,
+    /// The slots that fail where the component or alternative is there.
     pub present: Slots,
-    /// The octets of its default inside the outermost tag.
+    /// The octets of the component's default inside the outermost tag; None where it has no default.
     pub default: Option<Vec<u8>>,
     /// What the formulas over the other node's slots imply.
     pub implications: Vec<Implication>,
@@ -95,11 +109,12 @@ pub struct Condition {
     pub test: Test,
 }
 
+/// What a condition asks of a value, or of its contents octets.
 #[derive(Drop)]
 pub enum Test {
     /// The number is one of these.
     Numbers(IntSet),
-    /// The size is: bits, octets, characters or elements.
+    /// The size, in bits, octets, characters or elements, is one of these.
     Sizes(IntSet),
     /// The contents octets are these.
     Stored(Vec<u8>),

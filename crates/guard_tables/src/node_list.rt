@@ -37,7 +37,7 @@ impl Builder {
         }
     }
 
-    /// With one node more, whose parts are there.
+    /// The nodes with one more at their end. Condition: the parts of the new node are among them.
     pub fn with(self, hot: Hot, cold: Cold) -> Result<Builder, OutOfMemory>
         requires { IsNode hot cold (spots_of self.hots.items self.colds.items) (length self.hots.items) }
         ensures hots { IfOk result (λ b. b.hots.items ≡ self.hots.items ++ hot ∷ []) }
@@ -50,7 +50,7 @@ impl Builder {
         Ok(Builder { hots, colds })
     }
 
-    /// The nodes, of which the last is the whole.
+    /// The nodes of a table, of which the last is the whole. Condition: there is one at least.
     pub fn finish(self) -> Nodes
         requires { 0 < vec_len self.hots }
         ensures hots { result.hots.items ≡ self.hots.items }

@@ -1,13 +1,27 @@
-//! Whether some node of the declared type has too many conditions. The nodes are looked at one after another.
-ghost use Rattle.std.specs.Prelude.{◌≡◌, ◌∷◌, map, IfOk};
+//! The first node of the declared type that has too many conditions. The nodes are looked at one after another.
+ghost use Rattle.std.specs.Prelude.{◌≡◌, ◌∷◌, map, option_map, IfOk};
 ghost use Rattle.guard_model.specs.TypeView.{type_view, kind_view, component_view, components_of};
 ghost use Rattle.guard_tables.specs.Tables.{types_view};
-ghost use Rattle.guard_tables.specs.Conditions.{has_crowded_node};
+ghost use Rattle.guard_tables.specs.Conditions.{has_crowded_node, crowded_node};
 ghost use Rattle.guard_tables.specs.inside.Search.{crowded_from, crowded_inside, crowded_among, crowded_at};
 
 use crate::conditions::is_crowded;
 use guard_model::{Comp, Kind, OutOfMemory, Ty};
 use std::alloc::Global;
+
+/// The way to the first node of the declared type on which all types together lay more than 256 conditions; None where
+/// there is none. A way has the places, from 0, of the components and alternatives that it goes to, and 0 for an
+/// element. OutOfMemory is the only error.
+pub fn crowded_node(
+    alloc: Global,
+    declared: &Ty,
+    rules: &[&Ty],
+) -> Result<Option<Vec<usize>>, OutOfMemory>
+    ensures { IfOk result (λ found. option_map (λ way. way.items) found
+        ≡ crowded_node (type_view declared.now ∷ types_view rules.now) (type_view declared.now)) }
+{
+    crowded_from(alloc, declared, declared, rules, &[])
+}
 
 /// Whether all types together lay more than 256 conditions on some node of the declared one.
 pub(crate) fn has_crowded_node(
@@ -18,83 +32,85 @@ pub(crate) fn has_crowded_node(
     ensures { IfOk result (λ found. found
         ≡ has_crowded_node (type_view declared.now ∷ types_view rules.now) (type_view declared.now)) }
 {
-    is_crowded_from(alloc, declared, declared, rules, &[])
+    let found = crowded_node(alloc, declared, rules)?;
+    Ok(found.is_some())
 }
 
-/// Whether they do so at this type, to which the way leads, or inside it.
+/// The way to the first node that has too many conditions, of this type, to which the way leads, and of those inside it.
 #[cycle(nodes)]
-fn is_crowded_from(
+fn crowded_from(
     alloc: Global,
     ty: &Ty,
     declared: &Ty,
     rules: &[&Ty],
     way: &[usize],
-) -> Result<bool, OutOfMemory>
-    ensures { IfOk result (λ found. found
+) -> Result<Option<Vec<usize>>, OutOfMemory>
+    ensures { IfOk result (λ found. option_map (λ way. way.items) found
         ≡ crowded_from (type_view declared.now ∷ types_view rules.now) way.now (type_view ty.now)) }
 {
     if is_crowded(declared, rules, way) {
-        return Ok(true);
+        return Ok(Some(Vec::from_slice(alloc, way)?));
     }
-    is_crowded_inside(alloc, &ty.kind, declared, rules, way)
+    crowded_inside(alloc, &ty.kind, declared, rules, way)
 }
 
 #[cycle(nodes)]
-fn is_crowded_inside(
+fn crowded_inside(
     alloc: Global,
     kind: &Kind,
     declared: &Ty,
     rules: &[&Ty],
     way: &[usize],
-) -> Result<bool, OutOfMemory>
-    ensures { IfOk result (λ found. found
+) -> Result<Option<Vec<usize>>, OutOfMemory>
+    ensures { IfOk result (λ found. option_map (λ way. way.items) found
         ≡ crowded_inside (type_view declared.now ∷ types_view rules.now) way.now (kind_view kind.now)) }
 {
     match kind {
         Kind::Sequence(comps) | Kind::Set(comps) | Kind::Choice(comps) => {
-            is_crowded_among(alloc, comps, declared, rules, way)
+            crowded_among(alloc, comps, declared, rules, way)
         }
         Kind::SequenceOf(element) | Kind::SetOf(element) => {
-            is_crowded_at(alloc, element, declared, rules, 0, way)
+            crowded_at(alloc, element, declared, rules, 0, way)
         }
-        _ => Ok(false),
+        _ => Ok(None),
     }
 }
 
 #[cycle(nodes)]
-fn is_crowded_among(
+fn crowded_among(
     alloc: Global,
     comps: &[Comp],
     declared: &Ty,
     rules: &[&Ty],
     way: &[usize],
-) -> Result<bool, OutOfMemory>
-    ensures { IfOk result (λ found. found
+) -> Result<Option<Vec<usize>>, OutOfMemory>
+    ensures { IfOk result (λ found. option_map (λ way. way.items) found
         ≡ crowded_among (type_view declared.now ∷ types_view rules.now) way.now 0
         (components_of (map component_view comps.now))) }
 {
     for (place, comp) in comps.iter().enumerate() {
-        if is_crowded_at(alloc, &comp.ty, declared, rules, place, way)? {
-            return Ok(true);
+        let found = crowded_at(alloc, &comp.ty, declared, rules, place, way)?;
+        if found.is_some() {
+            return Ok(found);
         }
     }
-    Ok(false)
+    Ok(None)
 }
 
-/// At a part, with its place at the end of the way.
+/// The way to the first such node of a part, whose place goes to the end of the way, and of those inside it.
 #[cycle(nodes)]
-fn is_crowded_at(
+fn crowded_at(
     alloc: Global,
     ty: &Ty,
     declared: &Ty,
     rules: &[&Ty],
     place: usize,
     way: &[usize],
-) -> Result<bool, OutOfMemory>
-    ensures { IfOk result (λ found. found
+) -> Result<Option<Vec<usize>>, OutOfMemory>
+    ensures { IfOk result (λ found. option_map (λ way. way.items) found
         ≡ crowded_at (type_view declared.now ∷ types_view rules.now) way.now place (type_view ty.now)) }
 {
     let mut inner = Vec::from_slice(alloc, way)?;
     inner.push(place)?;
-    is_crowded_from(alloc, ty, declared, rules, &inner)
+    crowded_from(alloc, ty, declared, rules, &inner)
 }

@@ -14,7 +14,8 @@ use guard_integers::IntSet;
 use guard_model::{Cons, Limit, OutOfMemory, Rule, Ty, Value};
 use std::alloc::Global;
 
-/// The integers that the constraint allows. It fails only where memory runs out.
+/// The integers from -2^127 to 2^127-1 that the constraint allows. An element that doesn't apply to INTEGER, such as
+/// SIZE, allows none. OutOfMemory is the only error.
 #[cycle(number_sets)]
 pub fn numbers_of(alloc: Global, constraint: &Cons) -> Result<IntSet, OutOfMemory>
     ensures { IfOk result
@@ -69,7 +70,8 @@ fn numbers_of_some(alloc: Global, constraints: &[Cons]) -> Result<IntSet, OutOfM
     IntSet::union_of(alloc, &sets)
 }
 
-/// The integers that are members of the type: none where it is no INTEGER. It fails only where memory runs out.
+/// The integers from -2^127 to 2^127-1 that are members of the type: none where it is no INTEGER. OutOfMemory is the
+/// only error.
 #[cycle(number_sets)]
 pub fn numbers_of_type(alloc: Global, ty: &Ty) -> Result<IntSet, OutOfMemory>
     ensures { IfOk result (λ set. HasNumbers set (λ kind z. is_member (type_view ty.now) (abstract.integer z))) }
@@ -80,7 +82,7 @@ pub fn numbers_of_type(alloc: Global, ty: &Ty) -> Result<IntSet, OutOfMemory>
     Ok(IntSet::none(alloc))
 }
 
-/// A single value, where it is a number.
+/// The set of one number, where the single value is one; else none.
 fn number_alone(alloc: Global, value: &Value) -> Result<IntSet, OutOfMemory>
     ensures { IfOk result (λ set. HasNumbers set (λ kind z. same (value_view value.now) (abstract.integer z))) }
 {
@@ -90,7 +92,7 @@ fn number_alone(alloc: Global, value: &Value) -> Result<IntSet, OutOfMemory>
     }
 }
 
-/// A range: none where the low end is above the high one.
+/// The integers of a range: none where the low end is above the high one.
 fn numbers_between(alloc: Global, low: Limit, high: Limit) -> Result<IntSet, OutOfMemory>
     ensures { IfOk result (λ set. HasNumbers set (λ kind z. is_between low high (abstract.integer z))) }
 {
@@ -100,7 +102,7 @@ fn numbers_between(alloc: Global, low: Limit, high: Limit) -> Result<IntSet, Out
     }
 }
 
-/// The least number that isn't below a limit.
+/// The least number that a low end allows; None where there is none.
 fn lowest(limit: Limit) -> Option<i128>
     ensures { (z : ℤ) → (fits_128_bits z && is_above limit z) ≡ (fits_128_bits z && begins result z) }
 {
@@ -112,7 +114,7 @@ fn lowest(limit: Limit) -> Option<i128>
     }
 }
 
-/// The greatest number that isn't above a limit.
+/// The greatest number that a high end allows; None where there is none.
 fn highest(limit: Limit) -> Option<i128>
     ensures { (z : ℤ) → (fits_128_bits z && is_under limit z) ≡ (fits_128_bits z && ends result z) }
 {

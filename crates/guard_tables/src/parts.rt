@@ -12,7 +12,7 @@ use crate::slots::Slots;
 use guard_eval::{is_optional, is_ruled_out, kind_at};
 use guard_model::{Comp, Kind, OutOfMemory, Part, Presence, Word};
 
-/// Whether its values are truth values or numbers, or there is one value.
+/// Whether values of the kind are truth values or numbers, or there is one value: BOOLEAN, INTEGER, ENUMERATED, NULL.
 pub(crate) fn is_scalar(kind: &Kind) -> bool
     ensures { result ≡ is_scalar (kind_view kind.now) }
 {
@@ -27,7 +27,7 @@ pub(crate) fn is_scalar(kind: &Kind) -> bool
 
 // ---- the parts of a type
 
-/// What a type asks of each part is what the part's type asks.
+/// Adds what a type of this kind asks of each part: what the part's type asks.
 pub(crate) fn push_kind<'a>(
     kind: &'a Kind,
     slots: Slots,
@@ -62,6 +62,7 @@ fn push_comps<'a>(
 
 // ---- of what is listed
 
+/// Adds what WITH COMPONENTS asks of parts: of those that it lists, and, where it isn't partial, of the others.
 pub(crate) fn push_parts<'a>(
     parts: &'a [Part],
     kind: &'a Kind,
@@ -108,7 +109,7 @@ fn push_part<'a>(
     push_inner(part, kind, slots, terms)
 }
 
-/// What a listed part asks of the value that is there.
+/// Adds what a listed part asks of the value that is there.
 fn push_inner<'a>(
     part: &'a Part,
     kind: &'a Kind,
@@ -128,7 +129,7 @@ fn push_inner<'a>(
     }
 }
 
-/// What its word asks.
+/// Adds what the presence word of a listed part asks.
 fn push_word<'a>(
     kind: &Kind,
     at: u8,
@@ -151,7 +152,7 @@ fn push_word<'a>(
     )
 }
 
-/// Without a word a full list makes an OPTIONAL component PRESENT.
+/// Adds what a listed part without a word asks: a full list makes an OPTIONAL component PRESENT.
 fn push_said<'a>(
     comp: Option<&Comp>,
     place: usize,
@@ -178,7 +179,8 @@ fn push_said<'a>(
 
 // ---- of what isn't listed
 
-/// A full list makes each OPTIONAL component and each alternative absent that it doesn't list.
+/// Adds what a full list asks of the parts that it doesn't list: each OPTIONAL component and each alternative is
+/// absent.
 fn push_unlisted<'a>(
     parts: &[Part],
     kind: &Kind,

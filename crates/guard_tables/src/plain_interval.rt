@@ -22,8 +22,8 @@ pub(crate) struct Interval {
     pub high: i32,
 }
 
-/// Numbers such that contents octets that spell one of them are lawful at this node, fail nothing there, and
-/// aren't a default's. It finds none at a node that has a default, or where presence fails something.
+/// Numbers such that contents octets that spell one of them are lawful at this node, fail nothing there, and aren't a
+/// default's. There are none for a node that has a default, or where presence fails something.
 pub(crate) fn plain_interval(hot: &Hot, cold: &Cold) -> Interval
     ensures { (spots : List Spot) (os : List ℕ) → integer_fault os ≡ None → result.low ≤ℤ twos_complement os
         → twos_complement os ≤ℤ result.high → IsFree (spot_of hot.now cold.now spots) os }
@@ -58,7 +58,7 @@ fn is_unwatched(cold: &Cold) -> bool
     cold.present == Slots::none() && cold.default.is_none()
 }
 
-/// Where the kind's contents octets spell numbers.
+/// Numbers that are lawful for the kind and pass all conditions; none where its contents octets spell no numbers.
 fn numbers_passed(kind: SimpleKind, cold: &Cold) -> Interval
     ensures { (os : List ℕ) → integer_fault os ≡ None → IsWithin result (twos_complement os) →
         IsPassed kind cold.now os }
@@ -86,7 +86,7 @@ fn passed_by_all(conditions: &[Condition]) -> Interval
     passed
 }
 
-/// Those that pass it too, or some of them.
+/// Numbers of those so far that pass this test too: some run of them.
 fn passed_of(passed: Interval, test: &Test) -> Interval
     ensures { (z : ℤ) → IsWithin result z → IsWithin passed z × PassesTest z (test_view test.now) }
 {
@@ -96,7 +96,7 @@ fn passed_of(passed: Interval, test: &Test) -> Interval
     }
 }
 
-/// The longest run of them that the set holds too.
+/// The longest run of these numbers that the set holds, among the first 1024 runs.
 fn widest(passed: Interval, set: &IntSet) -> Interval
     ensures { (z : ℤ) → IsWithin result z → IsWithin passed z × (holds set.now z ≡ true) }
 {
@@ -125,7 +125,7 @@ fn first_run(numbers: Interval, set: &IntSet) -> Interval
     }
 }
 
-/// None of them where the set doesn't hold the first.
+/// The run, or no number where the set doesn't hold the first one.
 fn if_held(run: Interval, set: &IntSet) -> Interval
     ensures { (z : ℤ) → IsWithin result z → IsWithin run z × (holds set.now run.low ≡ true) }
 {
@@ -146,7 +146,7 @@ fn wider(first: Interval, second: Interval) -> Interval
     }
 }
 
-/// Those that come after a run of them.
+/// The numbers that come after a run of them.
 fn rest_after(numbers: Interval, run: Interval) -> Interval
     ensures { (z : ℤ) → IsWithin result z → IsWithin numbers z }
 {
@@ -190,7 +190,7 @@ fn run_with(run: Interval, number: i128, conditions: &[Condition]) -> Interval
     }
 }
 
-/// With the number that follows, or with another one alone.
+/// The run with this number, where it follows the last one; else the run of this number alone.
 fn extended(run: Interval, number: i32) -> Interval
     ensures { (z : ℤ) → IsWithin result z → IsWithin run z ⊎ (z ≡ number) }
 {

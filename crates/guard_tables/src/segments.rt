@@ -28,7 +28,7 @@ pub(crate) struct Segment {
 
 // ---- one by one
 
-/// What fails of these for a number; None where one of them isn't on a number.
+/// The slots of the conditions that fail for a number, tested one by one; None where one of them isn't on a number.
 pub(crate) fn failed_by(conditions: &[Condition], number: i128) -> Option<Slots>
     ensures numbers { is_some result ≡ are_on_numbers (map condition_view conditions.now) }
     ensures failed { IfSome result (λ slots. Fails (map condition_view conditions.now) number slots) }
@@ -67,7 +67,7 @@ fn add_unless(passed: bool, slots: &Slots, failed: &mut Slots)
 
 // ---- by segments
 
-/// The segment that has this number, if it is found.
+/// The segment that has this number, by a binary search; None where none is found.
 pub(crate) fn segment_at(segments: &[Segment], number: i128) -> Option<&Segment>
     ensures { IfSome result (λ s. IsFound s.now segments.now number) }
 {
@@ -107,7 +107,7 @@ fn last_of(starts: &[i128], place: usize) -> i128 {
     }
 }
 
-/// With the numbers from the first to the last, if the same conditions fail for all of them.
+/// Adds the segment of the numbers from the first to the last, if the same conditions fail for all of them.
 fn push_segment(
     conditions: &[Condition],
     first: i128,
@@ -182,7 +182,7 @@ fn starts_of(alloc: Global, conditions: &[Condition]) -> Result<Vec<i128>, OutOf
     Ok(starts)
 }
 
-/// Each number at which the set begins or ends is one, as long as there is room.
+/// Adds each number at which the set of a test begins or ends, as long as there is room.
 fn add_starts(test: &Test, starts: &mut Vec<i128>) -> Result<(), OutOfMemory> {
     let Test::Numbers(set) = test else {
         return Ok(());

@@ -19,7 +19,7 @@ pub(crate) struct Sharing<'a> {
     pub places: Vec<usize>,
 }
 
-/// What types are shared by the rules.
+/// The types of the rules beside the declared one, each once, and which of them each rule has.
 pub(crate) fn share<'a>(
     alloc: Global,
     declared: &Ty,
@@ -40,7 +40,7 @@ pub(crate) fn share<'a>(
     Ok(sharing)
 }
 
-/// With one rule more.
+/// The types with those of one rule more.
 fn with_rule<'a>(
     sharing: Sharing<'a>,
     declared: &Ty,
@@ -83,7 +83,8 @@ fn place_among(types: &[&Ty], ty: &Ty) -> usize
 
 // ---- what they ask
 
-/// Membership in each of them, with the slots of all that have it.
+/// The demands of a table: membership in each of its types, with the slots of all rules that have the type. Condition:
+/// there are at most 255 rules.
 pub(crate) fn demands_of<'a>(
     alloc: Global,
     declared: &'a Ty,
@@ -111,7 +112,7 @@ fn membership(slots: Slots, ty: &Ty) -> SlotDemand<'_>
     }
 }
 
-/// The declared type's own, and those of the rules that have it too.
+/// The slots of the declared type: its own, and those of the rules that have it too.
 fn declared_slots(places: &[usize]) -> Slots
     requires { length places.now ≤ most_rules }
     ensures { result ≡ slots_for 0 0 (0 ∷ places.now) }

@@ -24,16 +24,17 @@ use std::alloc::Global;
 /// What is said of a part: of a component, or of an alternative.
 #[derive(Drop)]
 pub struct PartSide {
-    /// What fails where it isn't there; none where it has to be there.
+    /// The slots that fail where the part isn't there; None where it has to be there.
     pub absent: Option<Slots>,
-    /// What fails where it is there.
+    /// The slots that fail where the part is there.
     pub present: Slots,
-    /// The octets of its default inside the outermost tag.
+    /// The octets of the part's default inside the outermost tag; None where it has no default.
     pub default: Option<Vec<u8>>,
 }
 
 /// What is said of a component of which all this is asked. A default that isn't sent fails what it fails where it is
-/// there.
+/// there. Conditions: the type is sound, a default is one that the type may have, and each demand may be made of its
+/// values.
 pub(crate) fn side_for(
     alloc: Global,
     ty: &Ty,
@@ -101,7 +102,8 @@ fn failed_by(ty: &Ty, value: &Value, demands: &[SlotDemand<'_>], present: Slots)
     failed
 }
 
-/// The demand is one that may be made of values of this kind.
+/// Whether the value meets the demand. Conditions: the demand is one that may be made of values of this kind, and the
+/// value fits the kind.
 pub(crate) fn is_met(demand: Demand<'_>, kind: &Kind, value: &Value) -> bool
     requires apt { IsApt (kind_view kind.now) (demand_view demand) }
     requires fits { IsTrue (fits_kind (kind_view kind.now) (value_view value.now)) }
@@ -113,7 +115,7 @@ pub(crate) fn is_met(demand: Demand<'_>, kind: &Kind, value: &Value) -> bool
     }
 }
 
-/// None where a length in them would need more than four octets.
+/// The octets of a default inside the outermost tag; None where a length in them would need more than four octets.
 fn default_octets(alloc: Global, ty: &Ty, value: &Value) -> Result<Option<Vec<u8>>, OutOfMemory>
     requires { IsTrue (fits (type_view ty.now) (value_view value.now)) }
     ensures { IfOk result (λ o. option_map (λ v. v.items) o

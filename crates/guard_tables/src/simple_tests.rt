@@ -19,7 +19,7 @@ use guard_integers::IntSet;
 use guard_model::{Cons, OutOfMemory};
 use std::alloc::Global;
 
-/// The number is one that the constraint on an INTEGER has.
+/// The test that a number is one that the constraint on an INTEGER has.
 pub(crate) fn number_test(alloc: Global, constraint: &Cons) -> Result<Test, OutOfMemory>
     ensures { IfOk result (λ t. (kind : AbstractKind) → IsTrue (is_integer kind) → test_view t
         ≡ numbers (λ z. fits_128_bits z && holds (constraint_view constraint.now) kind (abstract.integer z))) }
@@ -27,7 +27,7 @@ pub(crate) fn number_test(alloc: Global, constraint: &Cons) -> Result<Test, OutO
     Ok(Test::Numbers(numbers_of(alloc, constraint)?))
 }
 
-/// The size is one of the numbers that the constraint has.
+/// The test that a size is one of the numbers that the constraint has.
 pub(crate) fn size_test(alloc: Global, constraint: &Cons) -> Result<Test, OutOfMemory>
     ensures { IfOk result (λ t. test_view t ≡ sizes (λ n. fits_128_bits (pos n)
         && holds (constraint_view constraint.now) (type.integer []) (abstract.integer (pos n)))) }
@@ -35,14 +35,14 @@ pub(crate) fn size_test(alloc: Global, constraint: &Cons) -> Result<Test, OutOfM
     Ok(Test::Sizes(numbers_of(alloc, constraint)?))
 }
 
-/// Each character lies in one of these ranges.
+/// The test that each character lies in one of these ranges.
 pub(crate) fn spelling_test(alloc: Global, ranges: &[(u32, u32)]) -> Result<Test, OutOfMemory>
     ensures { IfOk result (λ t. test_view t ≡ spelled (is_in_some ranges.now)) }
 {
     Ok(Test::Spelled(Alphabet::of(alloc, ranges)?))
 }
 
-/// No value passes.
+/// The test that no value passes.
 pub(crate) fn no_value(alloc: Global) -> Test
     ensures { test_view result ≡ no_value }
 {

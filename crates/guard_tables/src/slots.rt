@@ -4,7 +4,7 @@ ghost use Rattle.std.specs.Int.{bit_at};
 ghost use Rattle.guard_tables.specs.Slots.{none, only, added, below, without, low_bits, bits_without, has};
 ghost use Rattle.guard_tables.specs.inside.SlotWords.{InWords};
 
-/// A set of at most 256 slots.
+/// A set of slots, which are numbered from 0 to 255.
 #[derive(Clone, Copy, Debug, PartialEq, Eq)]
 pub struct Slots {
     first: u64,
@@ -44,7 +44,7 @@ impl Slots {
         slots
     }
 
-    /// The slots below this one, of which there may be 256.
+    /// The slots with numbers below this one: all 256 for 256 and more.
     #[tactic(auto, unfolding(crate::specs::Slots::below))]
     pub fn below(slot: u16) -> Slots
         ensures { result ≡ below slot }
@@ -57,7 +57,7 @@ impl Slots {
         }
     }
 
-    /// Those of its slots that aren't in the other set.
+    /// The slots of this set that aren't in the other one.
     #[tactic(auto, unfolding(crate::specs::Slots::without))]
     pub fn without(&self, other: &Slots) -> Slots
         ensures { result ≡ without self.now other.now }
@@ -81,7 +81,7 @@ impl Slots {
         self.fourth |= more.fourth;
     }
 
-    /// Whether it has this slot.
+    /// Whether the set has this slot.
     #[tactic(auto, unfolding(crate::specs::Slots::has))]
     pub fn has(&self, slot: u8) -> bool
         ensures { result ≡ has self.now slot }

@@ -20,8 +20,8 @@ use std::alloc::Global;
 /// How many rules a message may have.
 const MOST_RULES: usize = 255;
 
-/// The types by which messages of one name are judged: the declared one, and one for each rule. Its nodes ask all of
-/// them at once, the declared type with slot 0 and rule i with slot i + 1.
+/// The types by which messages of one name are judged: the declared one, and one for each rule. The nodes of a table
+/// ask all of them at once, the declared type with slot 0 and rule i, from 0, with slot i + 1.
 #[derive(Drop)]
 pub struct Table {
     types: KeptTypes,
@@ -42,11 +42,12 @@ impl Table {
     ghost use Rattle.guard_tables.specs.Alike.{AreAlike};
     ghost use Rattle.guard_tables.specs.TableView.{table_types, declared_of, rules_of};
 
-    /// The table of a declared type and the types of rules.
+    /// The table of a declared type and the types of rules. Condition: the types are sound.
     ///
-    /// It refuses, with the first that applies: TooManyRules for more than 255 rules; RuleTypeMismatch with the place
-    /// of the first rule whose type hasn't the tags and the base of the declared one; TooManyConditions where all types
-    /// together ask more than 256 things of a value at one node. OutOfMemory may come in place of any answer.
+    /// The error is the first of these that applies: TooManyRules for more than 255 rules; RuleTypeMismatch with the
+    /// place, from 0, of the first rule whose type hasn't the tags and the base of the declared one; TooManyConditions
+    /// where all types together ask more than 256 things of a value at one node. OutOfMemory may come in place of any
+    /// answer.
     pub fn compile(alloc: Global, declared: &Ty, rules: &[&Ty]) -> Result<Table, TableFault>
         requires declared_sound { IsTrue (is_sound (type_view declared.now)) }
         requires rules_sound { All (λ t. IsTrue (is_sound t)) (types_view rules.now) }
@@ -70,7 +71,7 @@ impl Table {
         })
     }
 
-    /// The declared type.
+    /// The declared type, which is sound.
     pub fn declared(&self) -> &Ty
         ensures declared { type_view result.now ≡ declared_of self.now }
         ensures sound { IsTrue (is_sound (type_view result.now)) }
@@ -78,7 +79,7 @@ impl Table {
         self.types.declared()
     }
 
-    /// The type of the rule at this place, from 0; None where there are no more rules.
+    /// The type of the rule at this place, from 0, which is sound; None where there are no more rules.
     pub fn rule(&self, place: usize) -> Option<&Ty>
         ensures rule { option_map (λ t. type_view t.now) result ≡ slice_get (rules_of self.now) place }
         ensures sound { IfSome result (λ t. IsTrue (is_sound (type_view t.now))) }
@@ -116,7 +117,7 @@ fn nodes_of<'a>(
     })
 }
 
-/// Answers the first fault of the types, if they have one.
+/// Ok where the types make a table; else their first fault.
 fn find_fault(alloc: Global, declared: &Ty, rules: &[&Ty]) -> Result<(), TableFault>
     ensures faultless { OnOk result (first_fault (type_view declared.now) (types_view rules.now) ≡ None) }
     ensures refused { IfErr result
@@ -134,7 +135,7 @@ fn find_fault(alloc: Global, declared: &Ty, rules: &[&Ty]) -> Result<(), TableFa
     Ok(())
 }
 
-/// The place of the first rule whose type isn't one for the declared type.
+/// The place, from 0, of the first rule whose type hasn't the declared type's tags and base; None where there is none.
 fn first_mismatch(declared: &Ty, rules: &[&Ty]) -> Option<usize>
     ensures { result ≡ first_mismatch (type_view declared.now) 0 (types_view rules.now) }
 {

@@ -34,9 +34,9 @@ EncodeNothing table octets =
 -- what is told of the octets under these rules
 abbrev pub IsAnswer : Table → RouteRules → List ℕ → Passing → Type 0
 IsAnswer table rules octets passing.Goes = (marks : Marks) × AreMarks table octets marks × LetsGo rules marks.members
-IsAnswer table rules octets (passing.Stays (Some marks)) =
+IsAnswer table rules octets (passing.Stopped (Some marks)) =
     AreMarks table octets marks × (LetsGo rules marks.members → ⊥)
-IsAnswer table rules octets (passing.Stays None) = EncodeNothing table octets
+IsAnswer table rules octets (passing.Stopped None) = EncodeNothing table octets
 
 -- of the rules of these numbers, the first of which has this slot, the first whose slot is in the set
 abbrev pub first_in : Slots → ℕ → List ℕ → Option ℕ

@@ -64,7 +64,7 @@ has_effect Deny r = not (is_allowing r)
 
 -- ---- of a message
 
--- It leads to these rules.
+-- The routing leads to these rules.
 pub record IsRouting (rules : List AbstractRule) (r : Routing) : Type 0 where
   pub senders : AreParties Sender rules r.senders
   pub receivers : AreParties Receiver rules r.receivers

@@ -45,7 +45,7 @@ pub record Lays (before : Builder) (l : Assembled) (p : Plan) : Type 0 where
   pub grows : Grows before l.builder
   pub stands : plan_in l ≡ p
 
--- it is there now, and the last one
+-- the node that wasn't with the others is with them now, and the last one
 pub record Stacks (l : Assembled) (after : Builder) (first : ℕ) : Type 0 where
   pub grows : Grows l.builder after
   pub count : length after.hots.items ≡ first + 1

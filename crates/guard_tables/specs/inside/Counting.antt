@@ -1,12 +1,8 @@
 -- How conditions are counted.
-use Rattle.std.specs.Prelude.{ℕ, List, min, nat_eq, Option, Some, None, if◌then◌else◌}
+use Rattle.std.specs.Prelude.{ℕ, List, nat_eq, Option, Some, None, if◌then◌else◌}
 use Rattle.guard_model.specs.AbstractType.{Constraint, Parts}
 use Rattle.guard_model.specs.TypeView.{OnePart}
 use Rattle.guard_tables.specs.Conditions.{inside, of_constraint, of_parts}
-
--- as a usize of 64 bits holds it: so many, but never more than its greatest number
-abbrev pub counted : ℕ → ℕ
-counted n = min n 18446744073709551615
 
 -- of WITH COMPONENT, and of the list of WITH COMPONENTS
 abbrev pub of_each : Constraint → List ℕ → ℕ

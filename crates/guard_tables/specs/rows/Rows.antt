@@ -152,7 +152,7 @@ pub at_a_part_of_a_contained_subtype :
     conditions (pair (only (type.contained_subtype (pair (only inner)))) ∷ []) (0 ∷ []) ≡ 5
 at_a_part_of_a_contained_subtype = refl
 
--- the same inside WITH COMPONENTS: (WITH COMPONENTS {..., rest (List)})
+-- a contained subtype inside WITH COMPONENTS: (WITH COMPONENTS {..., rest (List)})
 pub at_a_subtype_contained_in_a_part :
     conditions (pair
     (only (type.with_components true (type.part_within site 1 (one (type.contained_subtype list)) None type.no_parts)))

@@ -1,6 +1,6 @@
 use Rattle.std.proofs.Common.{sym, ap, ◌∙◌}
 use Rattle.guard_model.proofs.Components.{in_view, found_there, found_nowhere}
-use Rattle.guard_tables.specs.inside.Counting.{counted}
+use Rattle.guard_tables.specs.Conditions.{counted}
 use Rattle.guard_tables.proofs.Counts.{of_found, component_found}
 use Rattle.guard_tables.proofs.conditions.+conditions.Goals as goal
 

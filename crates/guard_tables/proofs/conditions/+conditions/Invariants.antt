@@ -1,7 +1,6 @@
 use Rattle.std.proofs.Common.{◌≡◌, ◌+◌, ◌≤◌, map, drop}
 use Rattle.guard_model.specs.TypeView.{constraint_view, constraints_of, part_view, parts_of}
-use Rattle.guard_tables.specs.Conditions.{of_constraints, of_parts}
-use Rattle.guard_tables.specs.inside.Counting.{counted}
+use Rattle.guard_tables.specs.Conditions.{counted, of_constraints, of_parts}
 use Rattle.guard_tables.proofs.conditions.+conditions.Given as goal
 
 -- ---- with what is still to come it is what is counted of all

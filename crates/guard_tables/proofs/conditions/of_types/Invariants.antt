@@ -1,7 +1,6 @@
 use Rattle.std.proofs.Common.{◌≡◌, ◌+◌, ◌≤◌, drop}
-use Rattle.guard_tables.specs.Conditions.{conditions}
+use Rattle.guard_tables.specs.Conditions.{conditions, counted}
 use Rattle.guard_tables.specs.Tables.{types_view}
-use Rattle.guard_tables.specs.inside.Counting.{counted}
 use Rattle.guard_tables.proofs.conditions.of_types.Given as goal
 
 -- with those that are still to come it is what is counted of all

@@ -22,18 +22,18 @@ pub returns-in-Goes-clause-passes : goal.returns-in-Goes-clause-passes
 returns-in-Goes-clause-passes c = (λ is. c.in-Goes.ensures, λ goes. refl)
 
 pub reason-requires : goal.reason-requires
-reason-requires c = c.in-Stays.ensures.1
+reason-requires c = c.in-Stopped.ensures.1
 
-pub returns-in-Stays-clause-only : goal.returns-in-Stays-clause-only
-returns-in-Stays-clause-only c = λ w other.
+pub returns-in-Stopped-clause-only : goal.returns-in-Stopped-clause-only
+returns-in-Stopped-clause-only c = λ w other.
     let p = policy_view c.args.self.now in
     let route = route_view c.args.route.now in
     let octets = c.args.octets.now in
     if_ok_map (λ x. IsReason p route octets (verdict_view x)) (λ x. verdict_view x ≡ w) c.reason.result
     (λ x reason. one_reason p route octets (verdict_view x) w c.args.self.now.kept.consistent reason other) c.reason.ensures
 
-pub returns-in-Stays-clause-passes : goal.returns-in-Stays-clause-passes
-returns-in-Stays-clause-passes c =
+pub returns-in-Stopped-clause-passes : goal.returns-in-Stopped-clause-passes
+returns-in-Stopped-clause-passes c =
     let p = policy_view c.args.self.now in
     let route = route_view c.args.route.now in
     let octets = c.args.octets.now in

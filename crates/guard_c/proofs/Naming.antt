@@ -17,7 +17,7 @@ empty_list [] none = refl
 empty_list (x ∷ xs) none = absurd (omega (arith, none))
 
 abbrev pub body_of : AbstractRoute → AbstractBody
-body_of route = record { sender = route.from; receiver = route.to; name = route.message; message = [] }
+body_of route = record { sender = route.from; receiver = route.to; name = route.message; message_octets = [] }
 
 pub names_body : (names : List ℕ) (route : AbstractRoute) → AreNamesOf names route → IsBody names (body_of route)
 names_body names route are = record {
@@ -29,13 +29,13 @@ pub no_names : (names : List ℕ) → None ≡ body_in names → (route : Abstra
 no_names names none route are = no_body names none (body_of route) (names_body names route are)
 
 -- names with something after them are none
-pub names_alone : (names : List ℕ) (b : AbstractBody) → Some b ≡ body_in names → (route : AbstractRoute) → AreNamesOf names route → b.message ≡ []
-names_alone names b there route are = ap (λ (c : AbstractBody). c.message) (one_body names b (body_of route) (body_takes names b (sym there)) (names_body names route are))
+pub names_alone : (names : List ℕ) (b : AbstractBody) → Some b ≡ body_in names → (route : AbstractRoute) → AreNamesOf names route → b.message_octets ≡ []
+names_alone names b there route are = ap (λ (c : AbstractBody). c.message_octets) (one_body names b (body_of route) (body_takes names b (sym there)) (names_body names route are))
 
 all_names : (b : AbstractBody) → HasNames b → IsTrue (is_plain (route_of b))
 all_names b h = rw (h.sender, h.receiver, h.name) refl
 
-pub are_names : (names : List ℕ) (b : AbstractBody) → Some b ≡ body_in names → b.message ≡ [] → AreNamesOf names (route_of b)
+pub are_names : (names : List ℕ) (b : AbstractBody) → Some b ≡ body_in names → b.message_octets ≡ [] → AreNamesOf names (route_of b)
 are_names names b there alone =
     let is = body_takes names b (sym there) in
     record {

@@ -20,7 +20,7 @@ pub record AreNamesOf (octets : List ℕ) (route : AbstractRoute) : Type 0 where
 abbrev pub PassesOn : Option AbstractPolicy → AbstractRoute → List ℕ → Type 0
 PassesOn policy route message = IsSomeAnd policy (λ p. IsTrue (is_plain route) × Goes p route message)
 
--- the same on the route whose names the octets are
+-- The octets are three names, and the message goes on the route of these. Where no policy is held nothing passes.
 abbrev pub Passes : Option AbstractPolicy → List ℕ → List ℕ → Type 0
 Passes policy names message =
     IsSomeAnd policy (λ p. (route : AbstractRoute) × AreNamesOf names route × Goes p route message)
@@ -40,7 +40,7 @@ SaidOn policy route message (Err BadNames) = (policy ≢ None) × (is_plain rout
 SaidOn policy route message (Err OutOfMemory) = policy ≢ None
 SaidOn policy route message (Err _) = ⊥
 
--- the same on the route whose names the octets are
+-- A call says this of the message on the route whose names the octets are, or why it says nothing.
 abbrev pub SaidBy : Option AbstractPolicy → List ℕ → List ℕ → Result (List ℕ) Status → Type 0
 SaidBy policy names message (Ok text) =
     IsSomeAnd policy (λ p. (route : AbstractRoute) × AreNamesOf names route × SaysOf p route message text)

@@ -26,7 +26,7 @@ pub record IsNoLink (old new : Option Held) (status : Status) : Type 0 where
   pub same : new ≡ old
   pub told : status ≡ NoLink
 
--- It holds a link, and this is done to it.
+-- The handle holds a link, and this is done to the link.
 pub record AtLink (old new : Option Held) (Does : AbstractHeldLink → AbstractHeldLink → Type 0) : Type 0 where
   pub link : AbstractHeldLink
   pub there : link_of old ≡ Some link

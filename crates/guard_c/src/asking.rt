@@ -14,7 +14,7 @@ use guard_policy::{Policy, Route};
 use guard_report::verdict_text;
 use std::alloc::Global;
 
-/// Whether a message passes on the route of these names, as a frame's header has them. It takes no memory.
+/// Whether a message passes on the route of these names, as a frame's header has them. No memory is taken.
 pub(crate) fn passes(held: &Held, names: &[u8], message: &[u8]) -> bool
     ensures { IsTrue result ↔ Passes (policy_in held.now) names.now message.now }
 {
@@ -24,7 +24,7 @@ pub(crate) fn passes(held: &Held, names: &[u8], message: &[u8]) -> bool
     }
 }
 
-/// Where no rule gives the route, its names are read.
+/// Whether a message passes on the route of these names, which are read only where no rule gives the route.
 fn passes_by(policy: &Policy, names: &[u8], message: &[u8]) -> bool
     ensures { IsTrue result ↔ Passes (Some (policy_view policy.now)) names.now message.now }
 {
@@ -37,7 +37,7 @@ fn passes_by(policy: &Policy, names: &[u8], message: &[u8]) -> bool
     }
 }
 
-/// Whether a message passes on its route. It takes no memory.
+/// Whether a message passes on its route, of three names. No memory is taken.
 pub(crate) fn passes_on(held: &Held, route: &Route, message: &[u8]) -> bool
     ensures { IsTrue result ↔ PassesOn (policy_in held.now) (route_view route.now) message.now }
 {
@@ -47,13 +47,13 @@ pub(crate) fn passes_on(held: &Held, route: &Route, message: &[u8]) -> bool
     }
 }
 
-/// The route whose names these are, each after its length.
+/// The route whose names these are, each after one octet with its length; None where they are no three names.
 fn route_in(names: &[u8]) -> Option<Route>
     ensures there { IfSome result (λ route. AreNamesOf names.now (route_view route)) }
     ensures none { result ≡ None → (route : AbstractRoute) → AreNamesOf names.now route → ⊥ }
 {
     let body = read_body(names)?;
-    if !body.message.is_empty() {
+    if !body.message_octets.is_empty() {
         return None;
     }
     Some(Route {
@@ -63,7 +63,8 @@ fn route_in(names: &[u8]) -> Option<Route>
     })
 }
 
-/// The text of the verdict on a message, on the route of these names.
+/// The text of the verdict on a message, on the route of these names, each after one octet with its length. NoPolicy
+/// where none is held, BadNames where they are no three names; OutOfMemory where memory runs out.
 pub(crate) fn say_by(
     alloc: Global,
     held: &Held,
@@ -84,7 +85,8 @@ pub(crate) fn say_by(
     }
 }
 
-/// The text of the verdict on a message of this route.
+/// The text of the verdict on a message of this route. NoPolicy where none is held, BadNames where one of the three is
+/// no name; OutOfMemory where memory runs out.
 pub(crate) fn say_on(
     alloc: Global,
     held: &Held,

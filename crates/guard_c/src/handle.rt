@@ -10,8 +10,7 @@ use std::alloc::Global;
 use std::marker::Model;
 use std::mem::replace;
 
-/// A handle, which C keeps: a policy or a link, or nothing. It is what `derguard.h` has as `derguard_policy` and as
-/// `derguard_link`.
+/// A handle, which C keeps: a policy or a link, or nothing. `derguard.h` calls it `derguard_policy` or `derguard_link`.
 #[repr(C)]
 pub struct Handle {
     at: *mut u8,
@@ -59,7 +58,7 @@ impl Handle {
 }
 
 impl Handle {
-    /// What it holds. It is empty then.
+    /// What the handle holds, which is empty then; None where it held nothing.
     pub(crate) fn take(&mut self, alloc: Global) -> Option<Box<Held>>
         ensures held { option_map (λ b. b.value) result ≡ self.old.kept }
         ensures empty { self.new.kept ≡ None }
@@ -70,7 +69,7 @@ impl Handle {
         }
     }
 
-    /// Has it hold this, in place of what it held.
+    /// Has the handle hold this, in place of what it held.
     pub(crate) fn fill(&mut self, held: Box<Held>)
         ensures { self.new.kept ≡ Some held.value }
     {

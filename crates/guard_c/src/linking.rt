@@ -86,7 +86,8 @@ fn feed_held(
     }
 }
 
-/// Nothing is done where the frames that go might not fit: they are no longer than what is held and the piece.
+/// Feeds a piece to a link. Nothing is done, and the answer is TooSmall, where the frames that go might not fit: they
+/// are no longer than what is held and the piece.
 fn feed_link(
     alloc: Global,
     policy: &Policy,

@@ -13,7 +13,8 @@ use crate::telling::put;
 use guard_frames::Kept;
 use std::alloc::Global;
 
-/// Has a handle hold a new link, in place of what it held. Its frames are numbered from 1.
+/// Has a handle hold a new link, in place of what it held. The link's frames are numbered from 1. The answer is the
+/// number of a `Status`: Done, or OutOfMemory, where the handle keeps what it held.
 #[unsafe(no_mangle)]
 pub extern "C" fn derguard_link_open(alloc: Global, link: &mut Handle) -> u32
     ensures { Answers result (HasOpened link.old.kept link.new.kept) }
@@ -27,9 +28,12 @@ pub extern "C" fn derguard_link_open(alloc: Global, link: &mut Handle) -> u32
     }
 }
 
-/// Feeds a link one more piece of its stream. The frames that go come into the buffer, and the report lines of the
-/// others stay with the link. Nothing is done where the buffer is shorter than what the link holds and the piece
-/// together.
+/// Feeds a link one more piece of its stream. The frames that go come into the buffer, `written` octets, and the report
+/// lines of the others stay with the link.
+///
+/// The answer is the number of a `Status`: Done; TooSmall, where the buffer is shorter than what the link holds and the
+/// piece together, NoPolicy, NoLink, and Closed, where the link was closed before: in these nothing is done;
+/// FrameTooLong and WriteFailed, where the link is closed then.
 #[unsafe(no_mangle)]
 pub extern "C" fn derguard_link_feed(
     alloc: Global,
@@ -68,7 +72,9 @@ fn feed(
     fed
 }
 
-/// Fetches the report lines that weren't fetched. They are dropped where all of them fit.
+/// Fetches the report lines that weren't fetched: as much of them as fits comes into the buffer, and `needed` is how
+/// many octets they have. They are dropped where all of them fit. The answer is the number of a `Status`: Done,
+/// TooSmall or NoLink.
 #[unsafe(no_mangle)]
 pub extern "C" fn derguard_link_reports(
     alloc: Global,
@@ -91,7 +97,8 @@ pub extern "C" fn derguard_link_reports(
     }
 }
 
-/// Says that the stream of a link has ended. The link is closed then, and its lines stay.
+/// Says that the stream of a link has ended. The link is closed then, and its lines stay. The answer is the number of a
+/// `Status`: Done, NoLink, TornFrame where octets of an unfinished frame were held, Closed where it was closed before.
 #[unsafe(no_mangle)]
 pub extern "C" fn derguard_link_end(alloc: Global, link: &mut Handle) -> u32
     ensures { Answers result (HasEnded link.old.kept link.new.kept) }

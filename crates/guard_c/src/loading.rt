@@ -58,7 +58,7 @@ pub(crate) fn refuse(alloc: Global, why: &TextsFault, out: &mut [u8], needed: &m
     }
 }
 
-/// The text of a fault, as it prints. There is none where memory ran out, before or now.
+/// The text of a fault, as it prints; None where memory ran out, before or now.
 fn text_of(alloc: Global, why: &TextsFault) -> Option<String>
     ensures { IfSome result (λ _. IsTrue (is_some (named why.now))) }
 {
@@ -85,7 +85,7 @@ fn is_named(why: &TextsFault) -> bool
     }
 }
 
-/// One more owner of the policy that is held.
+/// One more owner of the policy that is held; NoPolicy where none is, OutOfMemory where memory runs out.
 pub(crate) fn share(alloc: Global, held: &Held) -> Result<Box<Held>, Status>
     ensures { MatchResult result (λ b. (policy_in held.now ≢ None) × (policy_in b.value ≡ policy_in held.now))
         (IsUnshared (policy_in held.now)) }

@@ -19,8 +19,10 @@ use crate::telling::{put, tell};
 use guard_policy::Route;
 use std::alloc::Global;
 
-/// Loads the policy that a text says over the modules of other texts, in place of what the handle held. The handle
-/// holds what it held unless this is done. `fault` is the buffer for the text of the fault where it is refused.
+/// Loads the policy that a text says over the modules of other texts, in place of what the handle held. The answer is
+/// the number of a `Status`: Done; Refused, where the texts say no policy, and the text of the first fault comes into
+/// the buffer `fault`, as much of it as fits, with its length in `needed`; OutOfMemory. Unless it is Done, the handle
+/// holds what it held.
 #[unsafe(no_mangle)]
 pub extern "C" fn derguard_load(
     alloc: Global,
@@ -47,7 +49,8 @@ pub extern "C" fn derguard_load(
 }
 
 /// Whether a message passes on the route of these names, which are as they lie in a frame's header: the sender's, the
-/// receiver's and the message's, each after one octet with its length. It takes no memory.
+/// receiver's and the message's, each after one octet with its length. False where they are no three names, and where
+/// the handle holds no policy. No memory is taken.
 #[unsafe(no_mangle)]
 pub extern "C" fn derguard_passes(
     alloc: Global,
@@ -66,7 +69,8 @@ pub extern "C" fn derguard_passes(
     answer
 }
 
-/// Whether a message passes from a sender to a receiver under a name. It takes no memory.
+/// Whether a message passes from a sender to a receiver under a name. False where one of the three is no name, and
+/// where the handle holds no policy. No memory is taken.
 #[unsafe(no_mangle)]
 pub extern "C" fn derguard_passes_from(
     alloc: Global,
@@ -93,7 +97,9 @@ pub extern "C" fn derguard_passes_from(
     answer
 }
 
-/// The text of the verdict on a message, on the route of these names.
+/// Puts the text of the verdict on a message into the buffer, as much of it as fits, and its length into `needed`. The
+/// names are as they lie in a frame's header, each after one octet with its length. The answer is the number of a
+/// `Status`: Done, TooSmall, NoPolicy, BadNames or OutOfMemory.
 #[unsafe(no_mangle)]
 pub extern "C" fn derguard_verdict(
     alloc: Global,
@@ -129,7 +135,9 @@ fn said_by(
     said
 }
 
-/// The text of the verdict on a message from a sender to a receiver under a name.
+/// Puts the text of the verdict on a message from a sender to a receiver under a name into the buffer, as much of it as
+/// fits, and its length into `needed`. The answer is the number of a `Status`: Done, TooSmall, NoPolicy, BadNames or
+/// OutOfMemory.
 #[unsafe(no_mangle)]
 pub extern "C" fn derguard_verdict_from(
     alloc: Global,
@@ -174,7 +182,8 @@ fn said_on(
 }
 
 /// Has `other` hold the policy that `policy` holds, in place of what it held. The policy is freed with the last of its
-/// handles.
+/// handles. The answer is the number of a `Status`: Done, NoPolicy or OutOfMemory; unless it is Done, `other` holds
+/// what it held.
 #[unsafe(no_mangle)]
 pub extern "C" fn derguard_share(alloc: Global, policy: &mut Handle, other: &mut Handle) -> u32
     ensures answer { Answers result (HasShared (policy_of policy.old.kept) other.old.kept other.new.kept) }
@@ -189,7 +198,7 @@ pub extern "C" fn derguard_share(alloc: Global, policy: &mut Handle, other: &mut
     }
 }
 
-/// One more owner of the policy that a handle holds.
+/// One more owner of the policy that a handle holds; NoPolicy where it holds none, OutOfMemory where memory runs out.
 fn more_of(alloc: Global, policy: &mut Handle) -> Result<Box<Held>, Status>
     ensures shared { MatchResult result (λ b. (policy_of policy.old.kept ≢ None)
         × (policy_in b.value ≡ policy_of policy.old.kept)) (IsUnshared (policy_of policy.old.kept)) }

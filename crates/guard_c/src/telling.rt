@@ -4,7 +4,8 @@ ghost use Rattle.std.specs.Prelude.{Ok};
 
 use crate::status::Status;
 
-/// Tells what was said: the text comes into the buffer, as much of it as fits, and how long it is.
+/// Puts what was said into the buffer, as much of it as fits, and how long it is into `needed`: TooSmall where not all
+/// of it fits. Where nothing was said, the answer is why.
 pub(crate) fn tell(said: Result<Vec<u8>, Status>, out: &mut [u8], needed: &mut usize) -> Status
     ensures { Tells (said_view said) out.old out.new needed.new result }
 {
@@ -17,7 +18,8 @@ pub(crate) fn tell(said: Result<Vec<u8>, Status>, out: &mut [u8], needed: &mut u
     }
 }
 
-/// Done where all of the text fits.
+/// Puts the text into the buffer, as much of it as fits, and how long it is into `needed`: Done where all of it fits,
+/// else TooSmall.
 pub(crate) fn tell_text(text: &[u8], out: &mut [u8], needed: &mut usize) -> Status
     ensures { Tells (Ok text.now) out.old out.new needed.new result }
 {
@@ -29,7 +31,7 @@ pub(crate) fn tell_text(text: &[u8], out: &mut [u8], needed: &mut usize) -> Stat
     }
 }
 
-/// Puts as much of a text as fits at the front of the buffer, and how long it is.
+/// Puts as much of a text as fits at the front of the buffer, and how long it is into `needed`.
 pub(crate) fn put(text: &[u8], out: &mut [u8], needed: &mut usize)
     ensures { IsPut text.now out.old out.new needed.new }
 {

@@ -5,7 +5,8 @@ ghost use Rattle.std.specs.Prelude.{Ok, codes};
 
 use crate::telling::tell_text;
 
-/// The version, as the program says it. It takes no memory.
+/// Puts the version, as the program says it, into the buffer, as much of it as fits, and its length into `needed`. The
+/// answer is the number of a `Status`: Done, or TooSmall. No memory is taken.
 #[unsafe(no_mangle)]
 pub extern "C" fn derguard_version(out: &mut [u8], needed: &mut usize) -> u32
     ensures { Answers result (Tells (Ok (codes "0.1.0")) out.old out.new needed.new) }

@@ -19,42 +19,42 @@ use Rattle.guard_frames.proofs.HeaderLaws.{names_in, names_again, parts_take, sa
 
 -- ---- the names, and the message after them
 
-split_of : (octets : List ℕ) (b : AbstractBody) → Some b ≡ parts_in octets → octets ≡ (named b.sender ++ (named b.receiver ++ named b.name)) ++ b.message
+split_of : (octets : List ℕ) (b : AbstractBody) → Some b ≡ parts_in octets → octets ≡ (named b.sender ++ (named b.receiver ++ named b.name)) ++ b.message_octets
 split_of octets b e =
     parts_take octets b (sym e)
-    ∙ sym (append_assoc (named b.sender) (named b.receiver ++ named b.name) b.message
-    ∙ ap (λ (rest : List ℕ). named b.sender ++ rest) (append_assoc (named b.receiver) (named b.name) b.message))
+    ∙ sym (append_assoc (named b.sender) (named b.receiver ++ named b.name) b.message_octets
+    ∙ ap (λ (rest : List ℕ). named b.sender ++ rest) (append_assoc (named b.receiver) (named b.name) b.message_octets))
 
-pub message_within : (octets : List ℕ) (b : AbstractBody) → Some b ≡ parts_in octets → length b.message ≤ length octets
+pub message_within : (octets : List ℕ) (b : AbstractBody) → Some b ≡ parts_in octets → length b.message_octets ≤ length octets
 message_within octets b e =
     let front : List ℕ = named b.sender ++ (named b.receiver ++ named b.name) in
-    omega (arith, ap length (split_of octets b e), length-append front b.message)
+    omega (arith, ap length (split_of octets b e), length-append front b.message_octets)
 
 -- what lies before the message, and the message
-pub names_before : (octets : List ℕ) (b : AbstractBody) → Some b ≡ parts_in octets → octets ≡ take (length octets - length b.message) octets ++ b.message
+pub names_before : (octets : List ℕ) (b : AbstractBody) → Some b ≡ parts_in octets → octets ≡ take (length octets - length b.message_octets) octets ++ b.message_octets
 names_before octets b e =
     let front : List ℕ = named b.sender ++ (named b.receiver ++ named b.name) in
-    let split : octets ≡ front ++ b.message = split_of octets b e in
-    let long : length octets - length b.message ≡ length front = omega (arith, ap length split, length-append front b.message) in
-    let first : take (length octets - length b.message) octets ≡ front =
-    ap (λ k. take k octets) long ∙ ap (take (length front)) split ∙ take-append_seam front b.message in
-    split ∙ ap (λ (x : List ℕ). x ++ b.message) (sym first)
+    let split : octets ≡ front ++ b.message_octets = split_of octets b e in
+    let long : length octets - length b.message_octets ≡ length front = omega (arith, ap length split, length-append front b.message_octets) in
+    let first : take (length octets - length b.message_octets) octets ≡ front =
+    ap (λ k. take k octets) long ∙ ap (take (length front)) split ∙ take-append_seam front b.message_octets in
+    split ∙ ap (λ (x : List ℕ). x ++ b.message_octets) (sym first)
 
 -- ---- what is told of the body that the octets are
 
 decided_of : (p : AbstractPolicy) (octets : List ℕ) (b : AbstractBody) (told : Passing) → ((c : AbstractBody) → IsBody octets c → c ≡ b)
-    → (is_going told ≡ true → IsBody octets b) → Tells p (route_of b) b.message told → IsDecided (decision_of p) (marks_of p) octets told
+    → (is_going told ≡ true → IsBody octets b) → Tells p (route_of b) b.message_octets told → IsDecided (decision_of p) (marks_of p) octets told
 decided_of p octets b passing.Goes one is goes = record { body = b; is = is refl; decided = goes }
-decided_of p octets b (passing.Stays marks) one is stays = (
-  λ go. stays.0 (subst (λ (x : AbstractBody). Goes p (route_of x) x.message) (one go.body go.is) go.decided),
-  if_some_map (AreMarksOf p b.name b.message) (λ m. (x : AbstractBody) → IsBody octets x → marks_of p x m) marks
+decided_of p octets b (passing.Stopped marks) one is stays = (
+  λ go. stays.0 (subst (λ (x : AbstractBody). Goes p (route_of x) x.message_octets) (one go.body go.is) go.decided),
+  if_some_map (AreMarksOf p b.name b.message_octets) (λ m. (x : AbstractBody) → IsBody octets x → marks_of p x m) marks
       (λ m are x is_one. subst (λ (y : AbstractBody). marks_of p y m) (sym (one x is_one)) are) stays.1,
 )
 
 -- ---- where some rule gives the names
 
 abbrev body_of : AbstractRoute → List ℕ → AbstractBody
-body_of route message = record { sender = route.from; receiver = route.to; name = route.message; message = message }
+body_of route message = record { sender = route.from; receiver = route.to; name = route.message; message_octets = message }
 
 given_body : (rules : List AbstractRule) (octets names message : List ℕ) (route : AbstractRoute) → octets ≡ names ++ message → IsGiven rules names route
     → IsBody octets (body_of route message)
@@ -77,19 +77,19 @@ decided_as_given p octets names message told whole (route, given, tells) =
 
 -- what is in their places is names, where the message goes
 pub decided_as_named : (p : AbstractPolicy) (octets : List ℕ) (b : AbstractBody) (told : Passing) → Some b ≡ parts_in octets
-    → (is_going told ≡ true → has_names b ≡ true) → Tells p (route_of b) b.message told → IsDecided (decision_of p) (marks_of p) octets told
+    → (is_going told ≡ true → has_names b ≡ true) → Tells p (route_of b) b.message_octets told → IsDecided (decision_of p) (marks_of p) octets told
 decided_as_named p octets b told there named tells =
     decided_of p octets b told (λ c is. same_parts octets b c there is)
     (λ going. record { joined = parts_take octets b (sym there); names = names_in b (named going) }) tells
 
 -- it isn't
 pub stays_misnamed : (d : Decision) (MarksOf : AbstractBody → Marks → Type 0) (octets : List ℕ) (b : AbstractBody) → Some b ≡ parts_in octets → has_names b ≡ false
-    → IsDecided d MarksOf octets (passing.Stays None)
+    → IsDecided d MarksOf octets (passing.Stopped None)
 stays_misnamed d MarksOf octets b there misnamed = (
   λ go. false≢true (sym misnamed ∙ names_again b (subst HasNames (same_parts octets b go.body there go.is) go.is.names)),
   tt,
 )
 
 -- no other octets go
-pub stays_without : (d : Decision) (MarksOf : AbstractBody → Marks → Type 0) (octets : List ℕ) → None ≡ body_in octets → IsDecided d MarksOf octets (passing.Stays None)
+pub stays_without : (d : Decision) (MarksOf : AbstractBody → Marks → Type 0) (octets : List ℕ) → None ≡ body_in octets → IsDecided d MarksOf octets (passing.Stopped None)
 stays_without d MarksOf octets none = (λ go. no_body octets none go.body go.is, tt)

@@ -44,7 +44,7 @@ part_again part rest =
 
 -- the octets of a body
 abbrev pub octets_of : AbstractBody → List ℕ
-octets_of b = named b.sender ++ (named b.receiver ++ (named b.name ++ b.message))
+octets_of b = named b.sender ++ (named b.receiver ++ (named b.name ++ b.message_octets))
 
 pub parts_take : (octets : List ℕ) (b : AbstractBody) → parts_in octets ≡ Some b → octets ≡ octets_of b
 unfolding parts_in
@@ -61,9 +61,9 @@ parts_again : (b : AbstractBody) → parts_in (octets_of b) ≡ Some b
 unfolding parts_in
 parts_again b =
     rw (
-      part_again b.sender (named b.receiver ++ (named b.name ++ b.message)),
-      part_again b.receiver (named b.name ++ b.message),
-      part_again b.name b.message,
+      part_again b.sender (named b.receiver ++ (named b.name ++ b.message_octets)),
+      part_again b.receiver (named b.name ++ b.message_octets),
+      part_again b.name b.message_octets,
     ) refl
 
 -- ---- names in these places

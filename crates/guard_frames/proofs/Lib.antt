@@ -28,3 +28,4 @@ pub mod GoesExactly
 -- ---- texts
 pub mod OnePolicy
 pub mod UnderTexts
+pub mod WholeHeadline

@@ -10,7 +10,7 @@ use Rattle.guard_frames.specs.Frames.{IsFrame}
 use Rattle.guard_frames.specs.Prefix.{IsProperPrefix}
 use Rattle.guard_frames.specs.declared.totals.Totals.{Totals}
 use Rattle.guard_frames.specs.Totals.{later, after_going, after_staying, next_number, counted}
-use Rattle.guard_frames.specs.Outcomes.{Decision, Goes, Outcome, going, staying, frames_of}
+use Rattle.guard_frames.specs.Outcomes.{Decision, FrameGoes, Outcome, going, staying, frames_of}
 use Rattle.guard_frames.specs.Added.{Added, nothing}
 use Rattle.guard_frames.specs.Guarding.{text_out, Adds, AllAdd, BreaksOff}
 use Rattle.guard_frames.proofs.Elements.{All_none, All_first, All_rest, All_more, All_front, All_back}
@@ -31,7 +31,7 @@ pub record Decided (d : Decision) (n m : Totals) (octets : List ℕ) (outcomes :
 pub record AllGo (d : Decision) (octets : List ℕ) (frames : List (List ℕ)) : Type 0 where
   pub whole : octets ≡ concat frames
   pub each : All IsFrame frames
-  pub go : All (Goes d) frames
+  pub go : All (FrameGoes d) frames
 
 pub nothing_after : (s : List ℕ) → s ++ [] ≡ s
 nothing_after s = grind (arith, common_steps)
@@ -39,14 +39,14 @@ nothing_after s = grind (arith, common_steps)
 pub concat_more : (fs : List (List ℕ)) (f : List ℕ) → concat (fs ++ f ∷ []) ≡ concat fs ++ f
 concat_more fs f = concat-append fs (f ∷ []) ∙ ap (λ x. concat fs ++ x) (nothing_after f)
 
-AllAdd_going : (d : Decision) (n : ℕ) (fs : List (List ℕ)) → All (Goes d) fs → AllAdd (λ _. d) n (all_going fs) []
+AllAdd_going : (d : Decision) (n : ℕ) (fs : List (List ℕ)) → All (FrameGoes d) fs → AllAdd (λ _. d) n (all_going fs) []
 AllAdd_going d n [] go = refl
 AllAdd_going d n (f ∷ fs) go = (
   [],
   [],
   refl,
-  inl (record { out = refl; goes = All_first (Goes d) f fs go; text = refl }),
-  AllAdd_going d (later n 1) fs (All_rest (Goes d) f fs go),
+  inl (record { out = refl; goes = All_first (FrameGoes d) f fs go; text = refl }),
+  AllAdd_going d (later n 1) fs (All_rest (FrameGoes d) f fs go),
 )
 
 pub AllAdd-append : (d : Decision) (n : ℕ) (os ps : List Outcome) (s t : List ℕ) → n < 2 ^ 64 →
@@ -66,7 +66,7 @@ AllAdd-append d n (o ∷ os) ps s t fits (a, b, joined, first, others) q =
     )
 
 -- frames that go add nothing to the reports of those before them
-AllAdd_then_going : (d : Decision) (n : ℕ) (os : List Outcome) (fs : List (List ℕ)) (s : List ℕ) → n < 2 ^ 64 → All (Goes d) fs →
+AllAdd_then_going : (d : Decision) (n : ℕ) (os : List Outcome) (fs : List (List ℕ)) (s : List ℕ) → n < 2 ^ 64 → All (FrameGoes d) fs →
     AllAdd (λ _. d) n os s → AllAdd (λ _. d) n (os ++ all_going fs) s
 AllAdd_then_going d n os fs s fits go p =
     subst (AllAdd (λ _. d) n (os ++ all_going fs)) (nothing_after s)
@@ -133,14 +133,14 @@ cuts_inside (f ∷ fs) part h = elim (cuts_one f (concat fs) part h) [
 ]
 
 pub AllGo_none : (d : Decision) → AllGo d [] []
-AllGo_none d = record { whole = refl; each = All_none IsFrame; go = All_none (Goes d) }
+AllGo_none d = record { whole = refl; each = All_none IsFrame; go = All_none (FrameGoes d) }
 
-pub AllGo_more : (d : Decision) (s f : List ℕ) (fs : List (List ℕ)) → AllGo d s fs → IsFrame f → Goes d f →
+pub AllGo_more : (d : Decision) (s f : List ℕ) (fs : List (List ℕ)) → AllGo d s fs → IsFrame f → FrameGoes d f →
     AllGo d (s ++ f) (fs ++ f ∷ [])
 AllGo_more d s f fs a frame go = record {
   whole = rw (concat_more fs f) (ap (λ x. x ++ f) a.whole);
   each = All_more IsFrame fs f a.each frame;
-  go = All_more (Goes d) fs f a.go go;
+  go = All_more (FrameGoes d) fs f a.go go;
 }
 
 -- one more frame that goes
@@ -213,8 +213,8 @@ breaks_going d n m s t part more os fs a h g inside =
     let inside₁ : IsProperPrefix part (concat fs) = subst (IsProperPrefix part) g.whole inside in
     let cut : CutsInside fs part = cuts_inside fs part inside₁ in
     let each : All IsFrame (cut.first ++ cut.next ∷ cut.others) = subst (All IsFrame) cut.split g.each in
-    let go : All (Goes d) (cut.first ++ cut.next ∷ cut.others) = subst (All (Goes d)) cut.split g.go in
-    let go_first : All (Goes d) cut.first = All_front (Goes d) cut.first (cut.next ∷ cut.others) go in
+    let go : All (FrameGoes d) (cut.first ++ cut.next ∷ cut.others) = subst (All (FrameGoes d)) cut.split g.go in
+    let go_first : All (FrameGoes d) cut.first = All_front (FrameGoes d) cut.first (cut.next ∷ cut.others) go in
     let t_is : t ≡ concat cut.first ++ (cut.next ++ concat cut.others) =
     g.whole ∙ ap concat cut.split ∙ concat-append cut.first (cut.next ∷ cut.others) in
     record {
@@ -229,7 +229,7 @@ breaks_going d n m s t part more os fs a h g inside =
       all = AllAdd_then_going d (next_number n) os cut.first a.reports (omega arith) go_first h.reports;
       part = record { out = cut.rest; reports = [] };
       last = inl (
-        All_first (Goes d) cut.next cut.others (All_back (Goes d) cut.first (cut.next ∷ cut.others) go),
+        All_first (FrameGoes d) cut.next cut.others (All_back (FrameGoes d) cut.first (cut.next ∷ cut.others) go),
         cut.inside,
         refl,
       );

@@ -3,7 +3,7 @@ use Rattle.std.proofs.Common.{◌≡◌, ◌⊎◌, ℕ, List, ◌++◌, sym, re
 use Rattle.std.specs.Prelude.{Option, Some, None, IfSome, codes, decimal}
 use Rattle.guard_reader.specs.declared.marks.Marks.{Marks}
 use Rattle.guard_frames.specs.Bodies.{AbstractBody, IsBody, HasNames, body_in}
-use Rattle.guard_frames.specs.Outcomes.{Decision, BodyGoes, Goes, staying}
+use Rattle.guard_frames.specs.Outcomes.{Decision, BodyGoes, FrameGoes, staying}
 use Rattle.guard_frames.specs.Guarding.{Adds}
 use Rattle.guard_frames.specs.inside.Judged.{IsReportOf, report_line}
 use Rattle.guard_frames.specs.declared.report.Report.{Report}
@@ -23,11 +23,11 @@ bad_header d n frame none = inr (inr (record { stays = refl; none = no_body (dro
 body_there : (frame octets : List ℕ) (b : AbstractBody) → octets ≡ drop 4 frame → Some b ≡ body_in octets → IsBody (drop 4 frame) b
 body_there frame octets b same is = let there : IsBody octets b = body_takes octets b (sym is) in rw same at there
 
-pub goes_as_body : (d : Decision) (frame octets : List ℕ) → octets ≡ drop 4 frame → BodyGoes d octets → Goes d frame
+pub goes_as_body : (d : Decision) (frame octets : List ℕ) → octets ≡ drop 4 frame → BodyGoes d octets → FrameGoes d frame
 goes_as_body d frame octets same go = subst (BodyGoes d) same go
 
 -- a body that is there and doesn't go is decided to stay
-pub stays_there : (d : Decision) (octets : List ℕ) (b : AbstractBody) → (BodyGoes d octets → ⊥) → Some b ≡ body_in octets → d.Goes b → ⊥
+pub stays_there : (d : Decision) (octets : List ℕ) (b : AbstractBody) → (BodyGoes d octets → ⊥) → Some b ≡ body_in octets → d.LetsGo b → ⊥
 stays_there d octets b stays is go = stays (record { body = b; is = body_takes octets b (sym is); decided = go })
 
 -- marks that are told are those of the body that is there
@@ -43,7 +43,7 @@ reported d n b NoMemory h = inr refl
 reported d n b BadHeader h = absurd h
 
 pub stays_by_body : (d : Decision) (n : ℕ) (frame octets : List ℕ) (b : AbstractBody) (report : Report) → octets ≡ drop 4 frame → Some b ≡ body_in octets
-    → (d.Goes b → ⊥) → IsReportOf d n b report → Adds d n (staying frame) (report_line n report)
+    → (d.LetsGo b → ⊥) → IsReportOf d n b report → Adds d n (staying frame) (report_line n report)
 stays_by_body d n frame octets b report same is decided h =
     inr (inl (record { stays = refl; body = b; is = body_there frame octets b same is; decided = decided; text = reported d n b report h }))
 

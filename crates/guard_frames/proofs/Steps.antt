@@ -10,7 +10,7 @@ use Rattle.guard_frames.specs.declared.cut.Rest.{Rest}
 use Rattle.guard_frames.specs.declared.cut.Rest.TheVariants.{Unfinished, TooLong}
 use Rattle.guard_frames.specs.declared.totals.Totals.{Totals}
 use Rattle.guard_frames.specs.Totals.{after_going, after_staying, next_number, counted}
-use Rattle.guard_frames.specs.Outcomes.{Decision, Goes, Outcome, staying}
+use Rattle.guard_frames.specs.Outcomes.{Decision, FrameGoes, Outcome, staying}
 use Rattle.guard_frames.specs.Added.{Added, nothing}
 use Rattle.guard_frames.specs.Guarding.{Adds, BreaksOff}
 use Rattle.guard_frames.specs.inside.Cut.{IsRest, IsFirst}
@@ -99,7 +99,7 @@ at_first d n s = record {
 }
 
 -- one more frame goes
-pub one_goes : (d : Decision) (n m k : Totals) (s f : List ℕ) (sent end : ℕ) (a : Added) → SoFar d n m s sent end a → IsAt s end f → Goes d f →
+pub one_goes : (d : Decision) (n m k : Totals) (s f : List ℕ) (sent end : ℕ) (a : Added) → SoFar d n m s sent end a → IsAt s end f → FrameGoes d f →
     k ≡ after_going m → SoFar d n k s sent (end + length f) a
 one_goes d n m k s f sent end a h at goes counts =
     let more : AllGo d (take (end - sent) (drop sent s) ++ f) (h.frames ++ f ∷ []) =

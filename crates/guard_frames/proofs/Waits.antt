@@ -4,7 +4,7 @@ use Rattle.std.proofs.lemmas.List.{append-nil}
 use Rattle.guard_frames.specs.Prefix.{IsProperPrefix}
 use Rattle.guard_frames.specs.declared.totals.Totals.{Totals}
 use Rattle.guard_frames.specs.Totals.{after_going, after_staying, next_number}
-use Rattle.guard_frames.specs.Outcomes.{Decision, Goes, staying}
+use Rattle.guard_frames.specs.Outcomes.{Decision, FrameGoes, staying}
 use Rattle.guard_frames.specs.Added.{Added, nothing}
 use Rattle.guard_frames.specs.Calls.{EndsLine}
 use Rattle.guard_frames.specs.Guarding.{Adds, BreaksOff}
@@ -87,7 +87,7 @@ frames_break d n m s lines part sent end a h inside = elim h.alone [
 
 -- The lines are put, and then a frame goes.
 pub goes_next : (d : Decision) (n m k : Totals) (s f lines left : List ℕ) (sent end : ℕ) (a : Added) → Waits d n m s lines sent end a → IsAt s end f →
-    Goes d f → k ≡ after_going m → left ≡ [] → Waits d n k s left sent (end + length f) (reported_more a lines)
+    FrameGoes d f → k ≡ after_going m → left ≡ [] → Waits d n k s left sent (end + length f) (reported_more a lines)
 goes_next d n m k s f lines left sent end a h at goes counts none =
     let b : Added = reported_more a lines in
     record {

@@ -23,7 +23,9 @@ pub record BothAppend (out reports : Octets) (added : Added) : Type 0 where
   pub sent : Appends out.0 out.1 added.out
   pub reported : Appends reports.0 reports.1 added.reports
 
--- The source gave some octets, both sinks took what was added, and this holds of them.
+-- The source gave some octets, both sinks took what was added, and this holds of them. Of a source or sink that tells
+-- its octets these are the ones that it gave or took. Of one that doesn't, as a file or a pipe, nothing is said of it:
+-- there are octets of which this holds.
 pub record Moves (source out reports : Octets) (Holds : List ℕ → Added → Type 0) : Type 0 where
   pub read : List ℕ
   pub added : Added

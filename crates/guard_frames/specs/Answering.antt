@@ -2,7 +2,7 @@
 use Rattle.std.specs.Prelude.{◌≡◌, ℕ, true, ◌⊎◌, List, [], ◌∷◌, ◌++◌, codes, decimal}
 use Rattle.guard_frames.specs.Bodies.{AbstractBody}
 use Rattle.guard_frames.specs.Totals.{later}
-use Rattle.guard_frames.specs.Outcomes.{Decision, Goes, Outcome}
+use Rattle.guard_frames.specs.Outcomes.{Decision, FrameGoes, Outcome}
 use Rattle.guard_frames.specs.Guarding.{StaysDecided, StaysBadHeader}
 
 -- a line as a report has it, with `pass`
@@ -10,10 +10,10 @@ abbrev pub pass_line : ℕ → AbstractBody → List ℕ
 pass_line n b =
     decimal n ++ codes " " ++ b.sender ++ codes ">" ++ b.receiver ++ codes " " ++ b.name ++ codes " pass\n"
 
--- It goes, and its line says so.
+-- The frame goes, and its line says so.
 pub record Passes (d : Decision) (n : ℕ) (o : Outcome) (line : List ℕ) : Type 0 where
   pub out : o.goes ≡ true
-  pub goes : Goes d o.frame
+  pub goes : FrameGoes d o.frame
   pub text : line ≡ pass_line n goes.body
 
 -- the line of the frame of number n; one that stays has the line that is reported of it

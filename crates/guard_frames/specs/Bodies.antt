@@ -9,10 +9,10 @@ pub record AbstractBody : Type 0 where
   pub sender : List ℕ
   pub receiver : List ℕ
   pub name : List ℕ
-  pub message : List ℕ
+  pub message_octets : List ℕ
 
 abbrev pub body_view : Body → AbstractBody
-body_view b = record { sender = b.sender.now; receiver = b.receiver.now; name = b.name.now; message = b.message.now }
+body_view b = record { sender = b.sender.now; receiver = b.receiver.now; name = b.name.now; message_octets = b.message_octets.now }
 
 -- so many octets, and what follows them
 abbrev pub part_of_length : ℕ → List ℕ → Option (List ℕ × List ℕ)
@@ -35,7 +35,7 @@ parts_in octets = do
   sender ← part_first octets
   receiver ← part_first sender.1
   name ← part_first receiver.1
-  Some (record { sender = sender.0; receiver = receiver.0; name = name.0; message = name.1 })
+  Some (record { sender = sender.0; receiver = receiver.0; name = name.0; message_octets = name.1 })
 
 -- what is in the place of a name is one
 abbrev pub has_names : AbstractBody → Bool
@@ -51,7 +51,7 @@ body_in octets = do
 abbrev pub named : List ℕ → List ℕ
 named name = with_length name
 
--- the same, name by name
+-- the sender, the receiver and the name of the message are names
 pub record HasNames (b : AbstractBody) : Type 0 where
   pub sender : is_name b.sender ≡ true
   pub receiver : is_name b.receiver ≡ true
@@ -59,5 +59,5 @@ pub record HasNames (b : AbstractBody) : Type 0 where
 
 -- the octets are three names, each after its length, and then the message
 pub record IsBody (octets : List ℕ) (b : AbstractBody) : Type 0 where
-  pub joined : octets ≡ named b.sender ++ (named b.receiver ++ (named b.name ++ b.message))
+  pub joined : octets ≡ named b.sender ++ (named b.receiver ++ (named b.name ++ b.message_octets))
   pub names : HasNames b

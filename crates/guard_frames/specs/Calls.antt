@@ -1,4 +1,4 @@
--- What a sink was asked to take, call by call, where it tells that. A real one doesn't.
+-- What a sink was asked to take, call by call, where it tells that. A sink that writes to a file or a pipe doesn't.
 use Rattle.std.specs.Prelude.{◌≡◌, ℕ, List, [], ◌∷◌, ◌++◌, Option, Some, None, codes}
 use Rattle.std.specs.List.{All}
 
@@ -6,7 +6,7 @@ use Rattle.std.specs.List.{All}
 abbrev pub Calls : Type 0
 Calls = Option (List (List ℕ))
 
--- it was asked once more, for these octets
+-- a sink was asked once more, to take these octets
 abbrev pub Asks : Calls → List ℕ → Calls → Type 0
 Asks None octets after = Unit {0}
 Asks (Some before) octets None = ⊥

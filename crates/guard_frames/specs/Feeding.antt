@@ -18,7 +18,7 @@ pub record Decides (d : Decision) (n : Totals) (stream rest : List ℕ) (m : Tot
   pub reports : AllAdd (λ _. d) (next_number n) outcomes added.reports
   pub totals : m ≡ counted n outcomes
 
--- They were decided up to a length that no frame may have.
+-- The frames of the stream were decided up to a length that no frame may have.
 pub record DecidesUntilTooLong (d : Decision) (n : Totals) (stream : List ℕ) (m : Totals) (added : Added) : Type 0 where
   pub rest : List ℕ
   pub decided : Decides d n stream rest m added

@@ -1,11 +1,11 @@
--- What comes of frames: what goes out, and what is reported. This is the page to read first.
+-- What comes of frames under any decision: what goes out, and what is reported.
 use Rattle.std.specs.Prelude.{◌≡◌, ◌⊎◌, suc, ℕ, true, false, List, [], ◌∷◌, ◌++◌, drop, length, if◌then◌else◌, codes, decimal}
 use Rattle.std.specs.List.{concat, All, filter}
 use Rattle.guard_frames.specs.declared.totals.Totals.{Totals}
 use Rattle.guard_frames.specs.Frames.{IsFrame}
 use Rattle.guard_frames.specs.Bodies.{AbstractBody, IsBody}
 use Rattle.guard_frames.specs.Totals.{later}
-use Rattle.guard_frames.specs.Outcomes.{Decision, Goes, Outcome, staying, frames_of}
+use Rattle.guard_frames.specs.Outcomes.{Decision, FrameGoes, Outcome, staying, frames_of}
 use Rattle.guard_frames.specs.Added.{Added}
 use Rattle.guard_frames.specs.Prefix.{IsProperPrefix}
 
@@ -17,21 +17,21 @@ text_out outcomes = concat (frames_of (filter (λ o. o.goes) outcomes))
 
 -- ---- what is reported: a frame and the line that it adds, in three cases
 
--- It goes: it is three names and a message, and is decided to go. Nothing is said of it.
+-- The frame goes: it is three names and a message, and is decided to go. No line is reported of it.
 pub record GoesOut (d : Decision) (o : Outcome) (line : List ℕ) : Type 0 where
   pub out : o.goes ≡ true
-  pub goes : Goes d o.frame
+  pub goes : FrameGoes d o.frame
   pub text : line ≡ []
 
--- It stays, since it is decided to stay: its line has the reason, or says that there was no memory for it.
+-- The frame stays, since it is decided to stay: its line has the reason, or says that there was no memory for it.
 pub record StaysDecided (d : Decision) (n : ℕ) (o : Outcome) (line : List ℕ) : Type 0 where
   pub stays : o.goes ≡ false
   pub body : AbstractBody
   pub is : IsBody (drop 4 o.frame) body
-  pub decided : d.Goes body → ⊥
+  pub decided : d.LetsGo body → ⊥
   pub text : d.Reports n body line ⊎ (line ≡ decimal n ++ codes " no-memory\n")
 
--- It stays, since it isn't three names and a message.
+-- The frame stays, since it isn't three names and a message.
 pub record StaysBadHeader (n : ℕ) (o : Outcome) (line : List ℕ) : Type 0 where
   pub stays : o.goes ≡ false
   pub none : (body : AbstractBody) → IsBody (drop 4 o.frame) body → ⊥
@@ -43,7 +43,7 @@ Adds d n o line = GoesOut d o line ⊎ StaysDecided d n o line ⊎ StaysBadHeade
 
 -- The lines that frames numbered on from n add, in order. Each frame has a decision of its own, since a policy may be
 -- replaced between two frames: `decisions k` is that of the frame with k of these before it. Where nothing is replaced
--- it is one for all, `λ _. d`.
+-- all have one decision d, `λ _. d`.
 abbrev pub AllAdd : (ℕ → Decision) → ℕ → List Outcome → List ℕ → Type 0
 AllAdd decisions n [] text = text ≡ []
 AllAdd decisions n (o ∷ outcomes) text = (line : List ℕ) × (lines : List ℕ) × (text ≡ line ++ lines)
@@ -63,7 +63,7 @@ pub record Counts (outcomes : List Outcome) (t : Totals) : Type 0 where
 -- stays.
 abbrev pub InPart : Decision → ℕ → List ℕ → Added → Type 0
 InPart d n next part =
-    (Goes d next × IsProperPrefix part.out next × (part.reports ≡ []))
+    (FrameGoes d next × IsProperPrefix part.out next × (part.reports ≡ []))
     ⊎ ((line : List ℕ) × Adds d n (staying next) line × IsProperPrefix part.reports line × (part.out ≡ []))
 
 -- The stream begins with the first frames, numbered on from n, and then the next one. The first ones are out and

@@ -1,3 +1,5 @@
+-- ---- the headline: the page to read first
+pub mod Headline
 -- ---- streams
 pub mod Frames
 pub mod Bodies

@@ -13,7 +13,7 @@ pub record AbstractLink : Type 0 where
 abbrev pub link_view : Link → AbstractLink
 link_view l = record { held = l.held.items; totals = l.totals; closed = l.closed }
 
--- it takes no more, and holds nothing
+-- the link takes no more, and holds nothing
 pub record IsShut (l : AbstractLink) : Type 0 where
   pub closed : l.closed ≡ true
   pub empty : l.held ≡ []

@@ -16,11 +16,11 @@ route_of b = record { from = b.sender; to = b.receiver; message = b.name }
 -- A body goes where its message goes on its route. The report of one that stays is the line of its reason.
 abbrev pub decision_of : AbstractPolicy → Decision
 decision_of p = record {
-  Goes = λ b. Goes p (route_of b) b.message;
-  Reports = λ n b text. (w : AbstractVerdict) × IsReason p (route_of b) b.message w
+  LetsGo = λ b. Goes p (route_of b) b.message_octets;
+  Reports = λ n b text. (w : AbstractVerdict) × IsReason p (route_of b) b.message_octets w
       × (text ≡ line_octets p (route_of b) n w);
 }
 
 -- the marks of its message
 abbrev pub marks_of : AbstractPolicy → AbstractBody → Marks → Type 0
-marks_of p b marks = AreMarksOf p b.name b.message marks
+marks_of p b marks = AreMarksOf p b.name b.message_octets marks

@@ -7,24 +7,25 @@ use Rattle.guard_frames.specs.Bodies.{AbstractBody, IsBody}
 
 -- What is decided of a body: whether it goes, and the report line, with the frame's number, of one that stays.
 pub record Decision : Type 1 where
-  pub Goes : AbstractBody → Type 0
+  pub LetsGo : AbstractBody → Type 0
   pub Reports : ℕ → AbstractBody → List ℕ → Type 0
 
--- octets go where they are three names and a message, and this body is decided to go
+-- octets go where they are three names and a message, and the body that these make is decided to go
 pub record BodyGoes (d : Decision) (octets : List ℕ) : Type 0 where
   pub body : AbstractBody
   pub is : IsBody octets body
-  pub decided : d.Goes body
+  pub decided : d.LetsGo body
 
--- The octets go, or they don't, and marks that are told then are those of the body that they are.
+-- What was decided of the octets of a body is right. Where the decision is to go, the octets go. Where it is to stay,
+-- they don't, and the marks that come with the decision, if any do, are marks of the body which the octets make.
 abbrev pub IsDecided : Decision → (AbstractBody → Marks → Type 0) → List ℕ → Passing → Type 0
 IsDecided d MarksOf octets passing.Goes = BodyGoes d octets
-IsDecided d MarksOf octets (passing.Stays marks) =
+IsDecided d MarksOf octets (passing.Stopped marks) =
     (BodyGoes d octets → ⊥) × IfSome marks (λ m. (b : AbstractBody) → IsBody octets b → MarksOf b m)
 
 -- a frame goes where what follows its four octets of length goes
-abbrev pub Goes : Decision → List ℕ → Type 0
-Goes d frame = BodyGoes d (drop 4 frame)
+abbrev pub FrameGoes : Decision → List ℕ → Type 0
+FrameGoes d frame = BodyGoes d (drop 4 frame)
 
 -- a frame, and whether it goes out
 pub record Outcome : Type 0 where

@@ -34,7 +34,7 @@ pieces_of k p (t ∷ turns) = elim t.event [
   | reload q ↦ pieces_of k q turns
 ]
 
--- its own stream
+-- the stream of a link: the octets of its own pieces, joined
 abbrev pub own_stream : List OwnPiece → List ℕ
 own_stream pieces = concat (map (λ x. x.octets) pieces)
 

@@ -57,7 +57,7 @@ pub record CameInPieces (count : ℕ) (octets : List ℕ) : Type 0 where
   pub many : length pieces ≡ count
 
 -- A source was asked 2^40 times, and what it gave came in as many pieces. `takes_old` and `takes_new` count how often
--- it was asked before and after.
+-- the source was asked before and after.
 pub record ReadToLimit (takes_old takes_new : ℕ) (source_old source_new : Option (List ℕ)) : Type 0 where
   pub asked : WentUpBy takes_old (2 ^ 40) takes_new
   pub read : List ℕ

@@ -20,13 +20,12 @@ use itoa::Buffer;
 use std::alloc::Global;
 
 /// Puts the line that says what becomes of the frame of this number, in one call: as a report has it, and with `pass`
-/// where it goes. It answers whether it goes. Memory is taken only for a line that says why a message stays; where
-/// there is none it is `N no-memory`.
-///
-/// The frame is whole, with its four octets of length.
+/// where the frame goes. The answer is whether it goes. Memory is taken only for a line that says why a message stays;
+/// where there is none the line is `N no-memory`. Condition: the frame has its four octets of length; what follows them
+/// is taken as its body.
 ///
 /// # Errors
-/// The sink has failed, and took a part of the line.
+/// Failed where the sink has failed, which took a proper part of the line at most.
 pub fn answer<D: Decide, S: Sink>(
     alloc: Global,
     policy: &D,
@@ -53,14 +52,14 @@ pub fn answer<D: Decide, S: Sink>(
             put_pass(answers, number, &body)?;
             Ok(true)
         }
-        Ruling::Stays(report) => {
+        Ruling::Stopped(report) => {
             put_report(answers, number, &report)?;
             Ok(false)
         }
     }
 }
 
-/// Puts the line that says that the frame of this number and with this body goes, in one call. It takes no memory.
+/// Puts the line that says that the frame of this number and with this body goes, in one call. No memory is taken.
 fn put_pass<S: Sink>(answers: &mut S, number: u64, body: &Body) -> Result<(), Failed>
     requires sender { length body.now.sender.now ≤ 63 }
     requires receiver { length body.now.receiver.now ≤ 63 }

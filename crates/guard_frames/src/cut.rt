@@ -4,37 +4,38 @@ ghost use Rattle.std.specs.Prelude.{◌≡◌, ◌<◌, ◌≤◌, ◌^◌, leng
 ghost use Rattle.guard_frames.specs.Frames.{stated_length};
 ghost use Rattle.guard_frames.specs.inside.Cut.{IsCut};
 
-/// The longest body that a frame may have.
+/// The most octets that the body of a frame may have.
 pub const LONGEST_BODY: usize = 1048576;
 
 /// A whole frame.
 #[derive(Clone, Copy)]
 pub struct Frame<'a> {
-    /// all of it
+    /// All octets of the frame.
     pub octets: &'a [u8],
-    /// what follows its four octets of length
+    /// The octets that follow its four octets of length.
     pub body: &'a [u8],
 }
 
 /// Octets that begin with no whole frame.
 #[derive(Clone, Copy, Debug, PartialEq, Eq)]
 pub enum Rest {
-    /// less than a frame
+    /// The octets are the beginning of a frame, or there are none.
     Unfinished,
-    /// a length that no frame may have
+    /// The octets state a length that no frame may have.
     TooLong,
 }
 
 /// What octets begin with.
 #[derive(Clone, Copy)]
 pub enum Cut<'a> {
-    /// a whole frame
+    /// A whole frame.
     Frame(Frame<'a>),
-    /// no whole frame
+    /// No whole frame.
     Rest(Rest),
 }
 
-/// The length of the body that the first four octets state.
+/// The length of the body that the first four octets state, the high octet first: 0 to 2^32-1. Condition: there are
+/// four octets at least.
 pub fn body_length(octets: &[u8]) -> usize
     requires { 4 ≤ length octets.now }
     ensures value { result ≡ stated_length octets.now }
@@ -61,7 +62,7 @@ pub fn first_cut(octets: &[u8]) -> Cut
     }
 }
 
-/// These octets as a frame.
+/// These octets as a frame. Condition: there are four octets at least.
 pub(crate) fn frame_of(octets: &[u8]) -> Frame
     requires { 4 ≤ length octets.now }
     ensures whole { result.octets.now ≡ octets.now }

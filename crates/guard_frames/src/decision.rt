@@ -11,22 +11,24 @@ use guard_model::OutOfMemory;
 use guard_policy::{LastRoute, Marks, Passing};
 use std::alloc::Global;
 
-/// Decides which bodies go.
+/// Decides which bodies of frames go, and says of each other one why it stays.
 pub trait Decide {
-    /// which bodies go, and the report line of each other one
+    /// Which bodies go, and the report line of each other one.
     ghost decides: { Self → Decision };
 
-    /// which marks are those of a body's message
+    /// Which marks are those of a body's message.
     ghost marks_of: { Self → AbstractBody → Marks → Type 0 };
 
-    /// Whether a frame goes, by all of it that follows its four octets of length: they are three names and a message,
-    /// and this body is decided to go. Of one that stays it may tell the marks, for `line`. It takes no memory. Where
-    /// its route was found may be kept in `last`, and looked at there for the next frame; it changes no answer.
+    /// Whether a frame goes, by the octets that follow its four octets of length: they are three names and a message,
+    /// and this body is decided to go. Of a frame that stays the marks may be told, for `line`. No memory is taken. The
+    /// place where the frame's route was found may be kept in `last`, so that the next frame's is compared with that
+    /// one first; no answer depends on it.
     fn goes(&self, body: &[u8], last: &mut LastRoute) -> Passing
         ensures { IsDecided (decides self.now) (marks_of self.now) body.now result };
 
-    /// The report line of the frame of this number, with its line feed, where its header is good and the frame stays.
-    /// With the marks that `goes` told its message isn't walked over again. It fails only where memory runs out.
+    /// The report line of the frame of this number and with this body, with its line feed. Conditions: the body has
+    /// three names, it is decided to stay, and marks that are given are those that `goes` told of it, by which its
+    /// message isn't read again. OutOfMemory is the only error.
     fn line(
         &self,
         alloc: Global,
@@ -35,7 +37,7 @@ pub trait Decide {
         marks: Option<Marks>,
     ) -> Result<Vec<u8>, OutOfMemory>
         requires names { HasNames (body_view body.now) }
-        requires stays { (decides self.now).Goes (body_view body.now) → ⊥ }
+        requires stays { (decides self.now).LetsGo (body_view body.now) → ⊥ }
         requires told { IfSome marks (marks_of self.now (body_view body.now)) }
         ensures reports { IfOk result (λ line. (decides self.now).Reports number (body_view body.now) line.items) }
         ensures ends { IfOk result (λ line. EndsLine line.items) };

@@ -9,23 +9,24 @@ ghost use Rattle.guard_frames.specs.Totals.{WentUpBy};
 
 use thiserror::Error;
 
-/// A device has failed, and stays so.
+/// The error of a source or a sink that has failed. Once failed, it stays so.
 #[derive(Clone, Copy, Debug, PartialEq, Eq, Error)]
 #[error("Failed")]
 pub struct Failed;
 
 /// Takes octets.
 pub trait Sink {
-    /// the octets taken so far, where the sink tells them
+    /// The octets taken so far, where the sink tells them.
     ghost taken: { Self → Option (List ℕ) };
 
-    /// what it was asked to take in each call so far, where the sink tells that
+    /// The octets that the sink was asked to take in each call so far, where it tells them.
     ghost asked: { Self → Calls } = { λ _. None };
 
-    /// whether it has failed
+    /// Whether the sink has failed.
     ghost has_failed: { Self → Bool };
 
-    /// Takes the first octets, at least one, or fails and takes none.
+    /// Takes the first n of the octets, and answers n, at least 1; or fails with Failed and takes none. A sink that has
+    /// failed fails at each later call. Condition: there is at least one octet.
     fn put(&mut self, octets: &[u8]) -> Result<usize, Failed>
         requires { 0 < length octets.now }
         ensures some { IfOk result (λ n. (0 < n) × (n ≤ length octets.now)) }
@@ -35,23 +36,25 @@ pub trait Sink {
         ensures stays { has_failed self.old ≡ true → IsErr result }
         ensures asked { Asks (asked self.old) octets.now (asked self.new) };
 
-    /// Whether it has failed.
+    /// Whether the sink has failed.
     fn failed(&self) -> bool
         ensures { result ≡ has_failed self.now };
 }
 
 /// Gives octets.
 pub trait Source {
-    /// the octets that it still tells, where it tells them
+    /// The octets that are still to come, where the source tells them.
     ghost tells: { Self → Option (List ℕ) };
 
-    /// how often it was asked for octets: 2^64-1 where it doesn't count
+    /// How often the source was asked for octets: 2^64-1 where it doesn't count.
     ghost takes: { Self → ℕ };
 
-    /// whether it has failed
+    /// Whether the source has failed.
     ghost has_failed: { Self → Bool };
 
-    /// Puts its next octets at the front of the buffer, or answers 0 at their end, or fails.
+    /// Puts the next n octets at the front of the buffer, and answers n: 0 where there are no more. Or fails with
+    /// Failed and takes none. A source that has failed fails at each later call. Condition: the buffer has room for at
+    /// least one octet.
     fn take(&mut self, buffer: &mut [u8]) -> Result<usize, Failed>
         requires { 0 < length buffer.old }
         ensures within { IfOk result (λ n. n ≤ length buffer.old) }
@@ -62,12 +65,13 @@ pub trait Source {
         ensures failed { OnErr result (has_failed self.new ≡ true) }
         ensures stays { has_failed self.old ≡ true → IsErr result };
 
-    /// Whether it has failed.
+    /// Whether the source has failed.
     fn failed(&self) -> bool
         ensures { result ≡ has_failed self.now };
 }
 
-/// Puts all of the octets: in one call, and where the sink took only a part of them, in one for all that is left.
+/// Puts all of the octets: in one call, and where the sink took only a part of them, in one more for all that is left,
+/// and so on. Failed where the sink has failed, which took a proper part of them at most.
 #[tactic(auto, using(crate::proofs::Appending::Prefix_of))]
 pub fn put_all<S: Sink>(sink: &mut S, octets: &[u8]) -> Result<(), Failed>
     ensures all { OnOk result (Appends (S.taken sink.old) (S.taken sink.new) octets.now) }
@@ -84,7 +88,8 @@ pub fn put_all<S: Sink>(sink: &mut S, octets: &[u8]) -> Result<(), Failed>
     Ok(())
 }
 
-/// Puts the first octets and then the second.
+/// Puts the first octets and then the second ones. Failed where the sink has failed, which took a proper part of both
+/// together at most.
 pub fn put_both<S: Sink>(sink: &mut S, first: &[u8], second: &[u8]) -> Result<(), Failed>
     ensures all { OnOk result (Appends (S.taken sink.old) (S.taken sink.new) (first.now ++ second.now)) }
     ensures part { OnErr result ((part : List ℕ) × IsProperPrefix part (first.now ++ second.now)

@@ -26,8 +26,13 @@ impl Link {
     ghost use Rattle.guard_frames.specs.declared.link.LinkFault.TheVariants.{Closed, WriteFailed};
     ghost use Rattle.guard_frames.specs.declared.link.Closing.TheVariants as closing;
 
-    /// Feeds it one more piece of its stream. A frame that an earlier piece began is put together in what it holds; one
-    /// that lies whole in the piece is put from where it lies.
+    /// Feeds one more piece of the link's stream: each frame that is whole then and goes is put to `out`, and the
+    /// report line of each other one to `reports`. The octets of a frame that isn't whole yet are held. Memory is taken
+    /// only for the text of reports.
+    ///
+    /// # Errors
+    /// FrameTooLong where a length above 1,048,576 comes next, WriteFailed where one of the sinks has failed: the link
+    /// is closed then. Closed where it was closed before: nothing changes then.
     pub fn feed<D: Decide, O: Sink, R: Sink>(
         &mut self,
         alloc: Global,
@@ -52,7 +57,7 @@ impl Link {
         Ok(self.take(alloc, policy, piece, out, reports)?)
     }
 
-    /// Takes the next piece of the stream of an open link. What goes wrong closes it.
+    /// Takes the next piece of the stream of a link. What goes wrong closes it. Condition: the link is open.
     pub(crate) fn take<D: Decide, O: Sink, R: Sink>(
         &mut self,
         alloc: Global,

@@ -5,10 +5,10 @@ ghost use Rattle.guard_frames.specs.Frames.{IsFrame, IsUnfinished, stated_length
 
 use crate::cut::{LONGEST_BODY, body_length};
 
-/// How many octets a link can hold: the longest frame.
+/// How many octets a link can hold: those of the longest frame.
 pub const LONGEST_FRAME: usize = 1048580;
 
-/// Appends the first octets of the piece, up to so many, and answers how many.
+/// Appends the first octets of the piece, so many at most, and answers how many. Condition: there is room for so many.
 pub fn hold_some(held: &mut Vec<u8>, piece: &[u8], most: usize) -> usize
     requires { length held.old.items + most ≤ vec_capacity held.old }
     ensures within { result ≤ length piece.now }
@@ -23,7 +23,8 @@ pub fn hold_some(held: &mut Vec<u8>, piece: &[u8], most: usize) -> usize
     }
 }
 
-/// Appends the octets of the piece that the held octets lack to be a frame, and answers how many.
+/// Appends the octets of the piece that the held octets lack to be a frame, and answers how many. Conditions: the held
+/// octets are no whole frame yet, and there is room for the longest one.
 pub fn complete(held: &mut Vec<u8>, piece: &[u8]) -> usize
     requires unfinished { IsUnfinished held.old.items }
     requires room { 1048580 ≤ vec_capacity held.old }

@@ -19,8 +19,10 @@ use thiserror::Error;
 /// Why an event was refused, or ended a link.
 #[derive(Clone, Copy, Debug, PartialEq, Eq, Error)]
 pub enum StepFault {
+    /// There is no link of the event's number. Nothing changes.
     #[error("F6 NoSuchLink")]
     NoSuchLink,
+    /// The fault of the link, F1 to F4.
     #[error("{0}")]
     Link(LinkFault),
 }
@@ -58,10 +60,11 @@ impl<S> fmt::Debug for NoRoom<S> {
 }
 
 impl<S: Drop> Gateway<S> {
-    /// A gateway of new links, one for each pair of sinks, in their order; at most 65,535, so that each has a number.
+    /// A gateway of new links, one for each pair of sinks, in their order. Condition: there are at most 65,535 pairs,
+    /// so that each link has a number.
     ///
     /// # Errors
-    /// Both arguments, where memory ran out.
+    /// Where memory runs out, `NoRoom` with both arguments, which are as they were.
     pub fn new(alloc: Global, policy: Policy, ends: Vec<Ends<S>>) -> Result<Gateway<S>, NoRoom<S>>
         requires few { length ends.items ≤ 65535 }
         ensures links { IfOk result (λ g. gateway_view g ≡ record {
@@ -83,10 +86,12 @@ impl<S: Drop> Gateway<S> {
 }
 
 impl<S: Sink> Gateway<S> {
-    /// One event: a piece or the end of a link, or a new policy. A link's own fault, F1 to F4, is answered as `Link`.
+    /// One event: a piece of a link's stream, its end, or a new policy. The link is fed or ended by the policy in
+    /// force, as `Link::feed` and `Link::end` say.
     ///
     /// # Errors
-    /// F6 NoSuchLink where there is no link of the event's number; nothing changes then.
+    /// NoSuchLink (F6) where there is no link of the event's number; nothing changes then. Link with the link's own
+    /// fault, F1 to F4.
     pub fn step(&mut self, alloc: Global, event: Event<'_>) -> Result<(), StepFault>
         ensures { IsStepOf S.taken S.has_failed self.old event.entry result self.new }
     {
@@ -102,7 +107,7 @@ impl<S: Sink> Gateway<S> {
         }
     }
 
-    /// The sinks of the link of this number; none where there is no such link.
+    /// The sinks of the link of this number, from 0; None where there is no such link.
     pub fn ends_mut(&mut self, link: u16) -> Option<&mut Ends<S>>
         ensures* writes_back { sem 𝓛 (lends_ends S.row self.entry link result) }
         ensures there { option_copied_mut result ≡ slice_get (gateway_ends self.old) link }

@@ -17,8 +17,11 @@ use guard_policy::Policy;
 use std::alloc::Global;
 
 /// Reads all that the source gives. The frames whose message goes under the policy go out, in order and octet by octet
-/// as they came, and of each other one a line is reported with the reason. It answers how many there were, or why it
-/// ended before the stream's end.
+/// as they came, and of each other one a line is reported with the reason. The answer is how many there were.
+///
+/// # Errors
+/// Why the run ended before the stream's end: F1 FrameTooLong, F2 WriteFailed, F4 TornFrame or F5 ReadFailed, with the
+/// frames up to there decided; OutOfMemory only before anything is read.
 pub fn run<S: Source, O: Sink, R: Sink>(
     alloc: Global,
     source: &mut S,

@@ -3,7 +3,7 @@
 use crate::devices::{Failed, Sink};
 use std::alloc::Global;
 
-/// Keeps what it takes. It fails only where memory runs out.
+/// A sink that keeps what it takes in memory. Want of memory is its only failure.
 #[derive(Drop)]
 pub struct Kept {
     kept: Vec<u8>,
@@ -14,7 +14,7 @@ impl Kept {
     ghost use Rattle.std.specs.Prelude.{◌≡◌, [], false};
     ghost use Rattle.guard_frames.specs.KeptView.{kept_octets, kept_failed};
 
-    /// A sink that has taken nothing.
+    /// A sink that has taken nothing. No memory is taken for it.
     pub fn new(alloc: Global) -> Kept
         ensures empty { kept_octets result ≡ [] }
         ensures sound { kept_failed result ≡ false }
@@ -25,14 +25,14 @@ impl Kept {
         }
     }
 
-    /// All that it has taken, from when it was made or last emptied.
+    /// All octets that the sink has taken since it was made or last emptied.
     pub fn octets(&self) -> &[u8]
         ensures { result.now ≡ kept_octets self.now }
     {
         self.kept.as_slice()
     }
 
-    /// Drops what it took. A failure stays.
+    /// Drops the octets that the sink took. A sink that has failed stays so.
     pub fn empty(&mut self)
         ensures empty { kept_octets self.new ≡ [] }
         ensures same { kept_failed self.new ≡ kept_failed self.old }

@@ -1,15 +1,20 @@
 //! Laws of the definitions. The functions do nothing when they run.
 
-ghost use Rattle.std.specs.Prelude.{◌≡◌, ◌⊎◌, ℕ, List, ◌++◌, ◌↔◌, Some, true, false, slice_get};
+ghost use Rattle.std.specs.Prelude.{◌≡◌, ◌⊎◌, ℕ, List, ◌++◌, ◌↔◌, Some, Ok, true, false, slice_get};
+ghost use Rattle.std.specs.Io.KnownBytes.{IsAtEnd};
 ghost use Rattle.guard_policy.specs.Policies.{AbstractPolicy};
 ghost use Rattle.guard_policy.specs.Verdicts.{pass};
 ghost use Rattle.guard_report.specs.Lines.{line_octets};
 ghost use Rattle.guard_frames.specs.Answering.{pass_line, AllAnswer};
 ghost use Rattle.guard_frames.specs.Bodies.{AbstractBody, IsBody, body_in};
+ghost use Rattle.guard_frames.specs.Added.{Added};
 ghost use Rattle.guard_frames.specs.Frames.{ConsistsOf};
+ghost use Rattle.guard_frames.specs.Headline.{Headline};
 ghost use Rattle.guard_frames.specs.OfPolicy.{route_of};
-ghost use Rattle.guard_frames.specs.Outcomes.{Goes, Outcome, frames_of};
+ghost use Rattle.guard_frames.specs.Outcomes.{FrameGoes, Outcome, frames_of};
 ghost use Rattle.guard_frames.specs.Guarding.{Adds, AllAdd};
+ghost use Rattle.guard_frames.specs.RunsTexts.{RunsTexts};
+ghost use Rattle.guard_frames.specs.declared.totals.Totals.{Totals};
 ghost use Rattle.guard_frames.specs.LinkView.{new_link};
 ghost use Rattle.guard_frames.specs.Gateways.{AbstractGateway};
 ghost use Rattle.guard_frames.specs.GatewaySteps.{Turn, AreSteps};
@@ -18,8 +23,17 @@ ghost use Rattle.guard_frames.specs.InForce.{Ruled, frames_ruled, policies_of, A
 ghost use Rattle.guard_frames.specs.OwnStream.{Gives};
 
 use crate::decision::Decide;
+use crate::devices::Source;
 
-/// It doesn't matter how a stream was cut into pieces: the frames of two pieces joined are those of the first, and then
+/// The headline, of what `run_texts` promises where it ends without a fault: whatever policy the texts say, what was
+/// read is frames, of which those come out that may go, in order and octet by octet, and each other one is reported.
+pub fn law_headline<S: Source>(source: &S)
+    ensures { (modules : List (List ℕ)) (text read : List ℕ) (totals : Totals) (added : Added) →
+        RunsTexts modules text read (IsAtEnd (S.tells source.now)) (Ok totals) added →
+        Headline modules text read added }
+{}
+
+/// How a stream was cut into pieces doesn't matter: the frames of two pieces joined are those of the first, and then
 /// those of its rest with the second after it.
 pub fn law_any_cut()
     ensures { (a b : List ℕ) (frames others : List (List ℕ)) (rest last : List ℕ) →
@@ -36,7 +50,7 @@ pub fn law_one_reading()
 /// Exactly those frames go out that are decided to go.
 pub fn law_goes_exactly<D: Decide>(policy: &D)
     ensures { (n : ℕ) (o : Outcome) (line : List ℕ) → Adds (D.decides policy.now) n o line →
-        (o.goes ≡ true) ↔ Goes (D.decides policy.now) o.frame }
+        (o.goes ≡ true) ↔ FrameGoes (D.decides policy.now) o.frame }
 {}
 
 /// Where each frame of a stream is answered, those are answered to go that go out of a run under the same decision.

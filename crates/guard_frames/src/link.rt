@@ -14,9 +14,13 @@ use thiserror::Error;
 #[derive(Clone, Copy, Debug, PartialEq, Eq, Error)]
 #[error("{}", self.text())]
 pub enum LinkFault {
+    /// F1: the stream states a length above 1,048,576.
     FrameTooLong,
+    /// F2: one of the two sinks has failed.
     WriteFailed,
+    /// F3: the link was closed before.
     Closed,
+    /// F4: the stream ended within a frame.
     TornFrame,
 }
 
@@ -24,7 +28,7 @@ impl LinkFault {
     ghost use Rattle.std.specs.Prelude.{◌≡◌};
     ghost use Rattle.guard_frames.specs.FaultTexts.{fault_text};
 
-    /// Its number and its name, as it prints.
+    /// The fault's number and its name, as it prints: `F1 FrameTooLong`.
     pub fn text(&self) -> &'static str
         ensures { result.now ≡ fault_text self.now }
     {
@@ -59,8 +63,8 @@ impl From<Closing> for LinkFault {
     }
 }
 
-/// Cuts one stream into frames. It holds the octets of the frame that has begun and isn't whole yet, and nothing once
-/// it is closed; room for the longest one is reserved once.
+/// A link, which cuts one stream into frames. A link holds the octets of the frame that has begun and isn't whole yet,
+/// and nothing once it is closed; room for the longest frame is reserved once.
 #[derive(Drop)]
 pub struct Link {
     pub(crate) held: Vec<u8>,
@@ -78,7 +82,8 @@ impl Link {
     ghost use Rattle.guard_frames.specs.declared.link.LinkFault.TheVariants.{Closed, TornFrame};
     ghost use Rattle.guard_frames.specs.declared.link.Closing.TheVariants as closing;
 
-    /// An open link that holds nothing; its frames are numbered from 1.
+    /// An open link that holds nothing; its frames are numbered from 1. Room for 1,048,580 octets is reserved.
+    /// OutOfMemory is the only error.
     pub fn new(alloc: Global) -> Result<Link, OutOfMemory>
         ensures { IfOk result (λ link. link_view link ≡ new_link) }
     {
@@ -90,8 +95,8 @@ impl Link {
         })
     }
 
-    /// How many octets it holds of a frame that has begun and isn't whole yet: 0 between two frames and once it is
-    /// closed, 1,048,579 at most.
+    /// How many octets the link holds of a frame that has begun and isn't whole yet: 0 between two frames and once the
+    /// link is closed, 1,048,579 at most.
     pub fn pending(&self) -> usize
         ensures held { result ≡ length (link_view self.now).held }
         ensures unfinished { IsUnfinished (link_view self.now).held }
@@ -99,7 +104,10 @@ impl Link {
         self.held.len()
     }
 
-    /// The end of its stream. Whatever it answers, the link is closed then, and holds nothing.
+    /// The end of the link's stream. The link is closed then and holds nothing, whatever the answer.
+    ///
+    /// # Errors
+    /// TornFrame where octets of an unfinished frame were held, Closed where the link was closed before.
     pub fn end(&mut self) -> Result<(), LinkFault>
         ensures torn { (link_view self.old).closed ≡ false → 0 < length (link_view self.old).held →
             result ≡ Err TornFrame }
@@ -114,7 +122,8 @@ impl Link {
         Ok(self.finish()?)
     }
 
-    /// The end of the stream of an open link.
+    /// The end of the stream of a link: TornFrame where octets of an unfinished frame were held. Condition: the link is
+    /// open.
     pub(crate) fn finish(&mut self) -> Result<(), Closing>
         requires { self.old.closed ≡ false }
         ensures torn { IfErr result (λ c. (c ≡ closing.TornFrame) × (0 < length self.old.held.items)) }
@@ -132,7 +141,7 @@ impl Link {
     }
 }
 
-/// What a link that takes no more holds, and is.
+/// Makes a link one that takes no more: what it held is dropped, and it is closed.
 pub(crate) fn close(held: &mut Vec<u8>, closed: &mut bool)
     ensures empty { held.new.items ≡ [] }
     ensures room { vec_capacity held.new ≡ vec_capacity held.old }

@@ -34,7 +34,7 @@ impl Decide for Policy {
         marks: Option<Marks>,
     ) -> Result<Vec<u8>, OutOfMemory> {
         let route = route_of(body);
-        let verdict = self.reason(alloc, &route, body.message, marks)?;
+        let verdict = self.reason(alloc, &route, body.message_octets, marks)?;
         line(alloc, number, &route, &verdict, self)
     }
 }
@@ -45,21 +45,21 @@ fn goes_as_read(policy: &Policy, octets: &[u8], last: &mut LastRoute) -> Passing
     ensures { IsDecided (decision_of (policy_view policy.now)) (marks_of (policy_view policy.now)) octets.now result }
 {
     let Some(body) = cut_body(octets) else {
-        return Passing::Stays(None);
+        return Passing::Stopped(None);
     };
-    let names = &octets[..octets.len() - body.message.len()];
-    if let Some(told) = policy.passes_and_found(names, body.message, last) {
+    let names = &octets[..octets.len() - body.message_octets.len()];
+    if let Some(told) = policy.passes_and_found(names, body.message_octets, last) {
         return told;
     }
     let route = route_of(&body);
-    let told = policy.look_at(&route, body.message);
+    let told = policy.look_at(&route, body.message_octets);
     if told.goes() && !has_names(&body) {
-        return Passing::Stays(None);
+        return Passing::Stopped(None);
     }
     told
 }
 
-/// Who sends what to whom, by the header.
+/// The route of a body: who sends what to whom, by the names in its header.
 fn route_of<'a>(body: &Body<'a>) -> Route<'a>
     ensures { route_view result ≡ route_of (body_view body.now) }
 {

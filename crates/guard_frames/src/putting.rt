@@ -20,11 +20,11 @@ use std::alloc::Global;
 /// How far the whole frames of some octets reach.
 #[derive(Clone, Copy, Debug)]
 pub struct Whole {
-    /// how many octets they take
+    /// How many octets the frames take.
     pub end: usize,
-    /// the totals after them
+    /// The totals after the frames.
     pub totals: Totals,
-    /// what comes next
+    /// What comes next.
     pub rest: Rest,
 }
 
@@ -70,7 +70,7 @@ pub fn put_frames<D: Decide, O: Sink, R: Sink>(
                 end += frame.octets.len();
                 totals = totals.after_going();
             }
-            Ruling::Stays(report) => {
+            Ruling::Stopped(report) => {
                 put_all(out, &octets[sent..end])?;
                 let mut short = ShortLine::new();
                 waiting.add(reports, line_of(number, &report, &mut short))?;

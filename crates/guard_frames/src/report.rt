@@ -20,24 +20,25 @@ use std::alloc::Global;
 /// What becomes of a frame.
 #[derive(Drop)]
 pub(crate) enum Ruling {
-    /// It goes out.
+    /// The frame goes out.
     Goes,
-    /// It stays, and this is reported of it.
-    Stays(Report),
+    /// The frame stays, and this is reported of it.
+    Stopped(Report),
 }
 
 /// What is reported of a frame that stays.
 #[derive(Drop)]
 pub(crate) enum Report {
-    /// Its body isn't three names and a message.
+    /// The frame's body isn't three names and a message.
     BadHeader,
-    /// There was no memory for its line.
+    /// There was no memory for the frame's line.
     NoMemory,
     /// This line, with the frame's number and its line feed.
     Line(Vec<u8>),
 }
 
-/// What becomes of the frame of this number. No memory is taken for one that goes.
+/// What becomes of the frame of this number. No memory is taken for one that goes. Condition: the frame's body is what
+/// follows its first four octets.
 pub(crate) fn judge<D: Decide>(
     alloc: Global,
     policy: &D,
@@ -49,12 +50,12 @@ pub(crate) fn judge<D: Decide>(
     ensures judged { IsJudged (D.decides policy.now) number frame.now.octets.now result }
     ensures ends { RulingEnds result }
 {
-    let Passing::Stays(marks) = policy.goes(frame.body, last) else {
+    let Passing::Stopped(marks) = policy.goes(frame.body, last) else {
         return Ruling::Goes;
     };
     match read_body(frame.body) {
-        Some(body) => Ruling::Stays(report_of(alloc, policy, number, &body, marks)),
-        None => Ruling::Stays(Report::BadHeader),
+        Some(body) => Ruling::Stopped(report_of(alloc, policy, number, &body, marks)),
+        None => Ruling::Stopped(Report::BadHeader),
     }
 }
 
@@ -67,7 +68,7 @@ fn report_of<D: Decide>(
     marks: Option<Marks>,
 ) -> Report
     requires names { HasNames (body_view body.now) }
-    requires stays { (D.decides policy.now).Goes (body_view body.now) → ⊥ }
+    requires stays { (D.decides policy.now).LetsGo (body_view body.now) → ⊥ }
     requires told { IfSome marks (D.marks_of policy.now (body_view body.now)) }
     ensures reports { IsReportOf (D.decides policy.now) number (body_view body.now) result }
     ensures ends { ReportEnds result }
@@ -78,7 +79,8 @@ fn report_of<D: Decide>(
     }
 }
 
-/// Puts the line that says why the frame of this number stays, in one call.
+/// Puts the line that says why the frame of this number stays, in one call. Failed where the sink has failed, which
+/// took a proper part of the line at most. Condition: a line that is given ends with a line feed.
 pub(crate) fn put_report<S: Sink>(sink: &mut S, number: u64, report: &Report) -> Result<(), Failed>
     requires { ReportEnds report.now }
     ensures all { OnOk result (Appends (S.taken sink.old) (S.taken sink.new) (report_line number report.now)) }
@@ -91,7 +93,8 @@ pub(crate) fn put_report<S: Sink>(sink: &mut S, number: u64, report: &Report) ->
     put_all(sink, line_of(number, report, &mut short))
 }
 
-/// The line that says why the frame of this number stays. One that takes no memory is put together in `short`.
+/// The line that says why the frame of this number stays. A line that takes no memory is put together in `short`.
+/// Conditions: a line that is given ends with a line feed, and `short` is empty.
 pub(crate) fn line_of<'a>(number: u64, report: &'a Report, short: &'a mut ShortLine) -> &'a [u8]
     requires ends { ReportEnds report.now }
     requires empty { short.old.items ≡ [] }

@@ -21,14 +21,19 @@ use thiserror::Error;
 /// Why a run ended before its stream's end.
 #[derive(Clone, Copy, Debug, PartialEq, Eq, Error)]
 pub enum RunFault {
+    /// F1: the stream states a length above 1,048,576.
     #[error("{}", LinkFault::FrameTooLong.text())]
     FrameTooLong,
+    /// F2: one of the two sinks has failed.
     #[error("{}", LinkFault::WriteFailed.text())]
     WriteFailed,
+    /// F4: the stream ended within a frame.
     #[error("{}", LinkFault::TornFrame.text())]
     TornFrame,
+    /// F5: the source has failed, or was asked 2^40 times.
     #[error("F5 ReadFailed")]
     ReadFailed,
+    /// There was no memory to begin. Nothing was read.
     #[error("OutOfMemory")]
     OutOfMemory,
 }
@@ -74,7 +79,11 @@ fn read_piece<S: Source>(source: &mut S, buffer: &mut Vec<u8>) -> Result<usize, 
 }
 
 /// Reads all that the source gives, and decides it: the frames that go are put out, in order and octet by octet as they
-/// came, and a line is reported for each one that stays. It answers how many there were.
+/// came, and a line is reported for each one that stays. The answer is how many there were.
+///
+/// # Errors
+/// Why the run ended before the stream's end: F1 FrameTooLong, F2 WriteFailed, F4 TornFrame or F5 ReadFailed, with the
+/// frames up to there decided; OutOfMemory only before anything is read.
 pub fn decide_stream<S: Source, D: Decide, O: Sink, R: Sink>(
     alloc: Global,
     source: &mut S,

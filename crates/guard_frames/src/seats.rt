@@ -26,7 +26,7 @@ pub(crate) struct Seat<S> {
     pub(crate) ends: Ends<S>,
 }
 
-/// Feeds a piece to a link.
+/// Feeds a piece to a link and puts what comes of it to the link's sinks.
 fn feed_seat<D: Decide, S: Sink>(
     alloc: Global,
     policy: &D,
@@ -44,7 +44,7 @@ fn feed_seat<D: Decide, S: Sink>(
     )
 }
 
-/// Feeds a piece to the link of this number.
+/// Feeds a piece to the link of this number; NoSuchLink where there is none.
 pub(crate) fn feed_at<D: Decide, S: Sink>(
     alloc: Global,
     policy: &D,
@@ -64,7 +64,7 @@ pub(crate) fn feed_at<D: Decide, S: Sink>(
     }
 }
 
-/// Ends the link of this number.
+/// Ends the stream of the link of this number; NoSuchLink where there is none.
 pub(crate) fn end_at<S: Sink>(seats: &mut Vec<Seat<S>>, at: usize) -> Result<(), StepFault>
     ensures { IsEndedAt seats.old.items at result seats.new.items }
 {
@@ -78,7 +78,7 @@ pub(crate) fn end_at<S: Sink>(seats: &mut Vec<Seat<S>>, at: usize) -> Result<(),
     }
 }
 
-/// Links that are open and hold nothing, so many.
+/// So many links, each of them open and holding nothing. OutOfMemory is the only error.
 pub(crate) fn new_links(alloc: Global, count: usize) -> Result<Vec<Link>, OutOfMemory>
     ensures { IfOk result (λ links. map link_view links.items ≡ replicate count new_link) }
 {
@@ -89,8 +89,8 @@ pub(crate) fn new_links(alloc: Global, count: usize) -> Result<Vec<Link>, OutOfM
     Ok(links)
 }
 
-/// Puts a new link to each pair of sinks. There are as many links, and the room for the seats is there, so nothing more
-/// is asked of memory.
+/// Puts a new link to each pair of sinks. No memory is taken. Conditions: there are as many links as pairs, and room
+/// for as many seats.
 pub(crate) fn seated<S: Drop>(
     mut links: Vec<Link>,
     ends: Vec<Ends<S>>,

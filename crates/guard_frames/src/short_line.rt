@@ -7,7 +7,7 @@ use arrayvec::ArrayVec;
 /// Room for a line of at most 256 octets: a number of 20 digits, three names of 63 octets and the words around them.
 pub(crate) type ShortLine = ArrayVec<u8, 256>;
 
-/// Appends the octets, for which there is room.
+/// Appends the octets. Condition: there is room for them.
 pub(crate) fn add(line: &mut ShortLine, octets: &[u8])
     requires { length line.old.items + length octets.now ≤ 256 }
     ensures { line.new.items ≡ line.old.items ++ octets.now }

@@ -74,8 +74,9 @@ impl From<RunFault> for TextsFault {
 
 /// The policy that a text says over the modules of other texts.
 ///
-/// A refusal names the first fault of the modules, or, where they have none, that of the policy's text. OutOfMemory may
-/// come in place of any answer.
+/// # Errors
+/// Schema with the first fault of the modules, or, where they have none, Policy with the first fault of the policy's
+/// text. OutOfMemory may come in place of any answer.
 pub fn load_texts(alloc: Global, modules: &[&[u8]], text: &[u8]) -> Result<Policy, TextsFault>
     // What is answered is what the texts say,
     ensures said { IfOk result (λ p. SayPolicy (map (λ t. t.now) modules.now) text.now (policy_view p)) }
@@ -89,8 +90,11 @@ pub fn load_texts(alloc: Global, modules: &[&[u8]], text: &[u8]) -> Result<Polic
     Ok(Policy::load(alloc, text, &schema)?)
 }
 
-/// Guards one stream under the policy that a text says over the modules of other texts, as `run` does. Nothing is read
-/// where they say none.
+/// Guards one stream under the policy that a text says over the modules of other texts, as `run` does.
+///
+/// # Errors
+/// Schema and Policy as `load_texts` says; nothing is read or written then. Run with why the run ended before the
+/// stream's end. OutOfMemory only before anything is read.
 pub fn run_texts<S: Source, O: Sink, R: Sink>(
     alloc: Global,
     modules: &[&[u8]],

@@ -6,12 +6,13 @@ ghost use Rattle.std.specs.Io.KnownBytes.{Appends};
 use crate::devices::{Failed, Sink, Source};
 use std::io::{Read, Write};
 
-/// A reader or a writer. An error of any kind is a failure, and so is a write that takes nothing of something.
+/// A source made of a reader, or a sink made of a writer. An error of any kind is a failure, and so is a write that
+/// takes nothing of something.
 #[derive(Drop)]
 pub struct Through<T> {
     pub inner: T,
     is_broken: bool,
-    /// how often it was read from
+    /// How often the reader was read from.
     takes: u64,
 }
 
@@ -19,7 +20,7 @@ impl<T> Through<T> {
     ghost use Rattle.std.specs.Prelude.{◌≡◌, false};
     ghost use Rattle.guard_frames.specs.ThroughView.{through_failed};
 
-    /// It hasn't failed yet.
+    /// A source or a sink that hasn't failed yet.
     pub fn new(inner: T) -> Through<T>
         ensures inner { result.inner ≡ inner }
         ensures sound { through_failed result ≡ false }

@@ -13,7 +13,7 @@ impl Totals {
     ghost use Rattle.std.specs.Prelude.{◌≡◌};
     ghost use Rattle.guard_frames.specs.Totals.{no_frames, after_going, after_staying, next_number};
 
-    /// Before the first frame.
+    /// The totals before the first frame.
     pub fn none() -> Totals
         ensures { result ≡ no_frames }
     {
@@ -24,7 +24,7 @@ impl Totals {
         }
     }
 
-    /// After one more frame that goes.
+    /// The totals after one more frame that goes.
     pub fn after_going(self) -> Totals
         ensures { result ≡ after_going self }
     {
@@ -35,7 +35,7 @@ impl Totals {
         }
     }
 
-    /// After one more frame that stays.
+    /// The totals after one more frame that stays.
     pub fn after_staying(self) -> Totals
         ensures { result ≡ after_staying self }
     {
@@ -46,7 +46,7 @@ impl Totals {
         }
     }
 
-    /// The number of the frame that comes next.
+    /// The number of the frame that comes next, from 1 on; 2^64-1 at most.
     pub fn next_number(self) -> u64
         ensures { result ≡ next_number self }
     {

@@ -9,7 +9,7 @@ ghost use Rattle.guard_frames.specs.inside.Waiting.{AreLines};
 use crate::devices::{Failed, Sink, put_all};
 use std::alloc::Global;
 
-/// The most octets that wait. A pipe and a file opened for appending take so many at once.
+/// The most octets that wait. A pipe, and a file opened for appending, takes so many at once.
 const MOST: usize = 4096;
 
 /// Lines that wait. Memory is taken for the first one, and kept when they are put.
@@ -29,7 +29,8 @@ impl Waiting {
         }
     }
 
-    /// Puts the lines that wait, in one call.
+    /// Puts the lines that wait, in one call. Failed where the sink has failed, which took a proper part of them at
+    /// most.
     pub(crate) fn put<S: Sink>(&mut self, sink: &mut S) -> Result<(), Failed>
         requires { AreLines self.old.lines.items }
         ensures all { OnOk result (Appends (S.taken sink.old) (S.taken sink.new) self.old.lines.items) }
@@ -47,8 +48,9 @@ impl Waiting {
         Ok(())
     }
 
-    /// Lets one more line wait. Where it would be too many octets with those before it, they are put. Where it is too
-    /// long by itself, or there is no memory for it to wait, it is put after them.
+    /// Lets one more line wait. Where that would be too many octets with the lines before it, those are put first. A
+    /// line that is too long by itself, or for which there is no memory to wait, is put after them. Condition: the line
+    /// ends with a line feed.
     pub(crate) fn add<S: Sink>(&mut self, sink: &mut S, line: &[u8]) -> Result<(), Failed>
         requires waiting { AreLines self.old.lines.items }
         requires line { EndsLine line.now }
@@ -71,7 +73,7 @@ impl Waiting {
         Ok(())
     }
 
-    /// Lets one more line wait, where there is room and memory for it, and answers whether it does.
+    /// Lets one more line wait, where there is room and memory for it, and answers whether it waits.
     fn try_add(&mut self, line: &[u8]) -> bool
         ensures added { result ≡ true → self.new.lines.items ≡ self.old.lines.items ++ line.now }
         ensures same { result ≡ false → self.new.lines.items ≡ self.old.lines.items }

@@ -1,7 +1,7 @@
 -- What becomes of one frame, and its line.
 use Rattle.std.specs.Prelude.{ℕ, List, ◌++◌, codes, decimal}
 use Rattle.guard_frames.specs.Bodies.{AbstractBody}
-use Rattle.guard_frames.specs.Outcomes.{Decision, Goes, staying}
+use Rattle.guard_frames.specs.Outcomes.{Decision, FrameGoes, staying}
 use Rattle.guard_frames.specs.Guarding.{Adds}
 use Rattle.guard_frames.specs.Calls.{EndsLine}
 use Rattle.guard_frames.specs.declared.report.Ruling.{Ruling}
@@ -21,7 +21,7 @@ IsReportOf d n b (Line line) = d.Reports n b line.items
 IsReportOf d n b NoMemory = Unit {0}
 IsReportOf d n b BadHeader = ⊥
 
--- its line ends with a line feed
+-- the line of a report, where it has one, ends with a line feed
 abbrev pub ReportEnds : Report → Type 0
 ReportEnds (Line line) = EndsLine line.items
 ReportEnds NoMemory = Unit {0}
@@ -29,9 +29,9 @@ ReportEnds BadHeader = Unit {0}
 
 abbrev pub RulingEnds : Ruling → Type 0
 RulingEnds ruling.Goes = Unit {0}
-RulingEnds (ruling.Stays report) = ReportEnds report
+RulingEnds (ruling.Stopped report) = ReportEnds report
 
 -- the frame of this number goes, or stays and adds this report
 abbrev pub IsJudged : Decision → ℕ → List ℕ → Ruling → Type 0
-IsJudged d n frame ruling.Goes = Goes d frame
-IsJudged d n frame (ruling.Stays report) = Adds d n (staying frame) (report_line n report)
+IsJudged d n frame ruling.Goes = FrameGoes d frame
+IsJudged d n frame (ruling.Stopped report) = Adds d n (staying frame) (report_line n report)

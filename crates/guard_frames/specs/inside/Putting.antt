@@ -7,7 +7,7 @@ use Rattle.guard_frames.specs.Added.{Added}
 use Rattle.guard_frames.specs.Feeding.{Decides}
 use Rattle.guard_frames.specs.inside.Cut.{IsRest}
 
--- They were decided in order from the totals n on, they added this, and what follows them is no whole frame.
+-- The frames were decided in order from the totals n on, they added this, and what follows them is no whole frame.
 pub record ArePut (d : Decision) (n : Totals) (octets : List ℕ) (whole : Whole) (added : Added) : Type 0 where
   pub within : whole.end ≤ length octets
   pub decided : Decides d n octets (drop whole.end octets) whole.totals added

@@ -10,13 +10,13 @@ longest_and_one : stated_length (0 ∷ 16 ∷ 0 ∷ 1 ∷ []) ≡ 1048577
 longest_and_one = refl
 
 three_names : body_in (5 ∷ codes "north" ++ 5 ∷ codes "south" ++ 5 ∷ codes "order" ++ 48 ∷ 0 ∷ [])
-    ≡ Some (record { sender = codes "north"; receiver = codes "south"; name = codes "order"; message = 48 ∷ 0 ∷ [] })
+    ≡ Some (record { sender = codes "north"; receiver = codes "south"; name = codes "order"; message_octets = 48 ∷ 0 ∷ [] })
 unfolding body_in parts_in part_first
 three_names = refl
 
 -- a message of no octets
 no_message : body_in (1 ∷ 97 ∷ 1 ∷ 46 ∷ 1 ∷ 45 ∷ [])
-    ≡ Some (record { sender = codes "a"; receiver = codes "."; name = codes "-"; message = [] })
+    ≡ Some (record { sender = codes "a"; receiver = codes "."; name = codes "-"; message_octets = [] })
 unfolding body_in parts_in part_first
 no_message = refl
 

@@ -14,5 +14,5 @@ returns-then-not-is_empty-clause-none c none route are =
 
 pub returns-clause-there : goal.returns-clause-there
 returns-clause-there c =
-    let none : length c.in_ok-body.body.message.now ≡ 0 = search rules in
-    are_names c.args.names.now (body_view c.in_ok-body.body) c.in_ok-body.ensures (empty_list c.in_ok-body.body.message.now none)
+    let none : length c.in_ok-body.body.message_octets.now ≡ 0 = search rules in
+    are_names c.args.names.now (body_view c.in_ok-body.body) c.in_ok-body.ensures (empty_list c.in_ok-body.body.message_octets.now none)

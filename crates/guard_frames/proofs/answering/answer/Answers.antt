@@ -1,6 +1,6 @@
 use Rattle.std.proofs.Common.{refl, subst}
 use Rattle.guard_frames.specs.Bodies.{body_view}
-use Rattle.guard_frames.specs.Outcomes.{Goes, going, staying}
+use Rattle.guard_frames.specs.Outcomes.{FrameGoes, going, staying}
 use Rattle.guard_frames.specs.Guarding.{Adds}
 use Rattle.guard_frames.specs.Answering.{pass_line}
 use Rattle.guard_frames.specs.inside.Judged.{report_line}
@@ -32,7 +32,7 @@ pub returns-in_ok-put_pass-in-Goes-clause-all : goal.returns-in_ok-put_pass-in-G
 returns-in_ok-put_pass-in-Goes-clause-all g c =
     let d = g.D.Decide.decides c.args.policy.now in
     let b = body_view c.in-Some.body in
-    let go : Goes d c.args.frame.now = subst (Goes d) c.frame_of-frame.ensures.whole c.in-Goes.ensures.judged in (
+    let go : FrameGoes d c.args.frame.now = subst (FrameGoes d) c.frame_of-frame.ensures.whole c.in-Goes.ensures.judged in (
       pass_line c.args.number b,
       passes_by d c.args.number c.args.frame.now c.frame_of-frame.result.body.now b c.frame_of-frame.ensures.body go c.in-Some.ensures,
       c.in_ok-put_pass-in-Goes.ensures.all,
@@ -42,7 +42,7 @@ pub returns-in_err-put_pass-in-Goes-clause-part : goal.returns-in_err-put_pass-i
 returns-in_err-put_pass-in-Goes-clause-part g c =
     let d = g.D.Decide.decides c.args.policy.now in
     let b = body_view c.in-Some.body in
-    let go : Goes d c.args.frame.now = subst (Goes d) c.frame_of-frame.ensures.whole c.in-Goes.ensures.judged in
+    let go : FrameGoes d c.args.frame.now = subst (FrameGoes d) c.frame_of-frame.ensures.whole c.in-Goes.ensures.judged in
     let p = c.in_err-put_pass-in-Goes.ensures.part in
     on_err_of c.from_residual.result (
       going c.args.frame.now,
@@ -54,22 +54,22 @@ returns-in_err-put_pass-in-Goes-clause-part g c =
       p.2,
     )
 
-pub returns-in_err-put_report-in-Stays-clause-part : goal.returns-in_err-put_report-in-Stays-clause-part
-returns-in_err-put_report-in-Stays-clause-part g c =
+pub returns-in_err-put_report-in-Stopped-clause-part : goal.returns-in_err-put_report-in-Stopped-clause-part
+returns-in_err-put_report-in-Stopped-clause-part g c =
     let d = g.D.Decide.decides c.args.policy.now in
     let n = c.args.number in
-    let line = report_line n c.in-Stays.report in
+    let line = report_line n c.in-Stopped.report in
     let adds : Adds d n (staying c.args.frame.now) line =
-    subst (λ f. Adds d n (staying f) line) c.frame_of-frame.ensures.whole c.in-Stays.ensures.judged in
-    let p = c.in_err-put_report-in-Stays.ensures.part in
-    on_err_of c.from_residual-in_err-put_report-in-Stays.result
+    subst (λ f. Adds d n (staying f) line) c.frame_of-frame.ensures.whole c.in-Stopped.ensures.judged in
+    let p = c.in_err-put_report-in-Stopped.ensures.part in
+    on_err_of c.from_residual-in_err-put_report-in-Stopped.result
     (staying c.args.frame.now, line, p.0, refl, stays_by d n c.args.frame.now line adds, p.1, p.2)
 
-pub returns-in_ok-put_report-in-Stays-clause-all : goal.returns-in_ok-put_report-in-Stays-clause-all
-returns-in_ok-put_report-in-Stays-clause-all g c =
+pub returns-in_ok-put_report-in-Stopped-clause-all : goal.returns-in_ok-put_report-in-Stopped-clause-all
+returns-in_ok-put_report-in-Stopped-clause-all g c =
     let d = g.D.Decide.decides c.args.policy.now in
     let n = c.args.number in
-    let line = report_line n c.in-Stays.report in
+    let line = report_line n c.in-Stopped.report in
     let adds : Adds d n (staying c.args.frame.now) line =
-    subst (λ f. Adds d n (staying f) line) c.frame_of-frame.ensures.whole c.in-Stays.ensures.judged in
-    (line, stays_by d n c.args.frame.now line adds, c.in_ok-put_report-in-Stays.ensures.all)
+    subst (λ f. Adds d n (staying f) line) c.frame_of-frame.ensures.whole c.in-Stopped.ensures.judged in
+    (line, stays_by d n c.args.frame.now line adds, c.in_ok-put_report-in-Stopped.ensures.all)

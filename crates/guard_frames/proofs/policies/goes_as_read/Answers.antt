@@ -20,7 +20,7 @@ returns-in_default c =
 
 pub returns-in-Some-passes_and_found : goal.returns-in-Some-passes_and_found
 returns-in-Some-passes_and_found c =
-    decided_as_given (policy_view c.args.policy.now) c.args.octets.now _ c.in-Some.body.message.now c.in-Some-passes_and_found.told
+    decided_as_given (policy_view c.args.policy.now) c.args.octets.now _ c.in-Some.body.message_octets.now c.in-Some-passes_and_found.told
     (names_before c.args.octets.now (body_view c.in-Some.body) c.in-Some.ensures) c.in-Some-passes_and_found.ensures.given
 
 pub returns-then-not-has_names : goal.returns-then-not-has_names
@@ -40,4 +40,4 @@ returns c =
       | else-goes-via-else-goes w ↦ absurd (false≢true (sym w.if-goes.false ∙ (c.goes.ensures ∙ going)))
     ] in
     decided_as_named p c.args.octets.now b told c.in-Some.ensures named
-    (subst (λ (r : AbstractRoute). Tells p r b.message told) same c.look_at-told.ensures)
+    (subst (λ (r : AbstractRoute). Tells p r b.message_octets told) same c.look_at-told.ensures)

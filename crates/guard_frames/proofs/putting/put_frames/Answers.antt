@@ -89,12 +89,12 @@ loop-frame-preserved-in-Goes g c =
 
 -- ---- a frame stays
 
-pub returns-in_err-put_all-in-Stays-clause-failure : goal.returns-in_err-put_all-in-Stays-clause-failure
-returns-in_err-put_all-in-Stays-clause-failure g c =
+pub returns-in_err-put_all-in-Stopped-clause-failure : goal.returns-in_err-put_all-in-Stopped-clause-failure
+returns-in_err-put_all-in-Stopped-clause-failure g c =
     let d = g.D.Decide.decides c.args.policy.now in
     let h = c.loop-frame.invariant in
-    let p = c.in_err-put_all-in-Stays.ensures.part in
-    on_err_of c.from_residual-in_err-put_all-in-Stays.result (
+    let p = c.in_err-put_all-in-Stopped.ensures.part in
+    on_err_of c.from_residual-in_err-put_all-in-Stopped.result (
       sent_more h.0 p.0,
       frames_break d c.args.totals c.loop-frame.totals c.args.octets.now c.loop-frame.waiting.lines.items p.0 c.loop-frame.sent c.loop-frame.end h.0 h.1 p.1,
       both_sent _ _ _ _ _ h.0 p.0 h.2 p.2,
@@ -103,8 +103,8 @@ returns-in_err-put_all-in-Stays-clause-failure g c =
 pub add-requires-clause-waiting : goal.add-requires-clause-waiting
 add-requires-clause-waiting g c = c.loop-frame.invariant.4
 
-pub returns-in_err-add-in-Stays-clause-failure : goal.returns-in_err-add-in-Stays-clause-failure
-returns-in_err-add-in-Stays-clause-failure g c =
+pub returns-in_err-add-in-Stopped-clause-failure : goal.returns-in_err-add-in-Stopped-clause-failure
+returns-in_err-add-in-Stopped-clause-failure g c =
     let d = g.D.Decide.decides c.args.policy.now in
     let h = c.loop-frame.invariant in
     let s = c.args.octets.now in
@@ -113,17 +113,17 @@ returns-in_err-add-in-Stays-clause-failure g c =
     let waiting = take (c.loop-frame.end - c.loop-frame.sent) (drop c.loop-frame.sent s) in
     let adds : Adds d (next_number c.loop-frame.totals) (staying f.octets.now) c.line_of.result.now =
     subst (Adds d (next_number c.loop-frame.totals) (staying f.octets.now)) (sym c.line_of.ensures.line)
-    (subst (λ (k : ℕ). Adds d k (staying f.octets.now) (report_line c.next_number-number.result c.in-Stays.report))
-    c.next_number-number.ensures c.in-Stays.ensures.judged) in
-    let p = c.in_err-add-in-Stays.ensures.part in
-    on_err_of c.from_residual-in_err-add-in-Stays.result (
+    (subst (λ (k : ℕ). Adds d k (staying f.octets.now) (report_line c.next_number-number.result c.in-Stopped.report))
+    c.next_number-number.ensures c.in-Stopped.ensures.judged) in
+    let p = c.in_err-add-in-Stopped.ensures.part in
+    on_err_of c.from_residual-in_err-add-in-Stopped.result (
       reported_more (sent_more h.0 waiting) p.0,
       line_breaks d c.args.totals c.loop-frame.totals s f.octets.now c.loop-frame.waiting.lines.items c.line_of.result.now p.0 c.loop-frame.sent c.loop-frame.end h.0 h.1 at adds p.1,
-      both_reported _ _ _ _ _ (sent_more h.0 waiting) p.0 (both_sent _ _ _ _ _ h.0 waiting h.2 c.in_ok-put_all-in-Stays.ensures.all) p.2,
+      both_reported _ _ _ _ _ (sent_more h.0 waiting) p.0 (both_sent _ _ _ _ _ h.0 waiting h.2 c.in_ok-put_all-in-Stopped.ensures.all) p.2,
     )
 
-pub loop-frame-preserved-in_ok-add-in-Stays : goal.loop-frame-preserved-in_ok-add-in-Stays
-loop-frame-preserved-in_ok-add-in-Stays g c =
+pub loop-frame-preserved-in_ok-add-in-Stopped : goal.loop-frame-preserved-in_ok-add-in-Stopped
+loop-frame-preserved-in_ok-add-in-Stopped g c =
     let d = g.D.Decide.decides c.args.policy.now in
     let h = c.loop-frame.invariant in
     let s = c.args.octets.now in
@@ -132,15 +132,15 @@ loop-frame-preserved-in_ok-add-in-Stays g c =
     let waiting = take (c.loop-frame.end - c.loop-frame.sent) (drop c.loop-frame.sent s) in
     let adds : Adds d (next_number c.loop-frame.totals) (staying f.octets.now) c.line_of.result.now =
     subst (Adds d (next_number c.loop-frame.totals) (staying f.octets.now)) (sym c.line_of.ensures.line)
-    (subst (λ (k : ℕ). Adds d k (staying f.octets.now) (report_line c.next_number-number.result c.in-Stays.report))
-    c.next_number-number.ensures c.in-Stays.ensures.judged) in
-    let q = c.in_ok-add-in-Stays.ensures.all in (
+    (subst (λ (k : ℕ). Adds d k (staying f.octets.now) (report_line c.next_number-number.result c.in-Stopped.report))
+    c.next_number-number.ensures c.in-Stopped.ensures.judged) in
+    let q = c.in_ok-add-in-Stopped.ensures.all in (
       reported_more (sent_more h.0 waiting) q.0,
       stays_next d c.args.totals c.loop-frame.totals c.after_staying-totals.result s f.octets.now c.loop-frame.waiting.lines.items c.line_of.result.now q.0
           c.add.new.self.lines.items c.loop-frame.sent c.loop-frame.end h.0 h.1 at adds c.after_staying-totals.ensures q.1,
-      both_reported _ _ _ _ _ (sent_more h.0 waiting) q.0 (both_sent _ _ _ _ _ h.0 waiting h.2 c.in_ok-put_all-in-Stays.ensures.all) q.2,
-      asks_trans _ _ _ h.3 c.in_ok-add-in-Stays.ensures.lines,
-      c.in_ok-add-in-Stays.ensures.waiting,
+      both_reported _ _ _ _ _ (sent_more h.0 waiting) q.0 (both_sent _ _ _ _ _ h.0 waiting h.2 c.in_ok-put_all-in-Stopped.ensures.all) q.2,
+      asks_trans _ _ _ h.3 c.in_ok-add-in-Stopped.ensures.lines,
+      c.in_ok-add-in-Stopped.ensures.waiting,
     )
 
 pub loop-frame-preserved : goal.loop-frame-preserved
@@ -153,15 +153,15 @@ loop-frame-preserved g c =
     let waiting = take (c.loop-frame.end - c.loop-frame.sent) (drop c.loop-frame.sent s) in
     let adds : Adds d (next_number c.loop-frame.totals) (staying f.octets.now) c.line_of.result.now =
     subst (Adds d (next_number c.loop-frame.totals) (staying f.octets.now)) (sym c.line_of.ensures.line)
-    (subst (λ (k : ℕ). Adds d k (staying f.octets.now) (report_line c.next_number-number.result c.in-Stays.report))
-    c.next_number-number.ensures c.in-Stays.ensures.judged) in
-    let q = c.in_ok-add-in-Stays.ensures.all in (
+    (subst (λ (k : ℕ). Adds d k (staying f.octets.now) (report_line c.next_number-number.result c.in-Stopped.report))
+    c.next_number-number.ensures c.in-Stopped.ensures.judged) in
+    let q = c.in_ok-add-in-Stopped.ensures.all in (
       reported_more (sent_more h.0 waiting) q.0,
       stays_next d c.args.totals c.loop-frame.totals c.after_staying-totals.result s f.octets.now c.loop-frame.waiting.lines.items c.line_of.result.now q.0
           c.add.new.self.lines.items c.loop-frame.sent c.loop-frame.end h.0 h.1 at adds c.after_staying-totals.ensures q.1,
-      both_reported _ _ _ _ _ (sent_more h.0 waiting) q.0 (both_sent _ _ _ _ _ h.0 waiting h.2 c.in_ok-put_all-in-Stays.ensures.all) q.2,
-      asks_trans _ _ _ h.3 c.in_ok-add-in-Stays.ensures.lines,
-      c.in_ok-add-in-Stays.ensures.waiting,
+      both_reported _ _ _ _ _ (sent_more h.0 waiting) q.0 (both_sent _ _ _ _ _ h.0 waiting h.2 c.in_ok-put_all-in-Stopped.ensures.all) q.2,
+      asks_trans _ _ _ h.3 c.in_ok-add-in-Stopped.ensures.lines,
+      c.in_ok-add-in-Stopped.ensures.waiting,
     )
 
 -- ---- each call ends a line
@@ -181,9 +181,9 @@ pub returns-in_err-put-in-Goes-clause-lines : goal.returns-in_err-put-in-Goes-cl
 returns-in_err-put-in-Goes-clause-lines g c =
     asks_trans _ _ _ c.loop-frame.invariant.3 c.in_err-put-in-Goes.ensures.lines
 
-pub returns-in_err-put_all-in-Stays-clause-lines : goal.returns-in_err-put_all-in-Stays-clause-lines
-returns-in_err-put_all-in-Stays-clause-lines g c = c.loop-frame.invariant.3
+pub returns-in_err-put_all-in-Stopped-clause-lines : goal.returns-in_err-put_all-in-Stopped-clause-lines
+returns-in_err-put_all-in-Stopped-clause-lines g c = c.loop-frame.invariant.3
 
-pub returns-in_err-add-in-Stays-clause-lines : goal.returns-in_err-add-in-Stays-clause-lines
-returns-in_err-add-in-Stays-clause-lines g c =
-    asks_trans _ _ _ c.loop-frame.invariant.3 c.in_err-add-in-Stays.ensures.lines
+pub returns-in_err-add-in-Stopped-clause-lines : goal.returns-in_err-add-in-Stopped-clause-lines
+returns-in_err-add-in-Stopped-clause-lines g c =
+    asks_trans _ _ _ c.loop-frame.invariant.3 c.in_err-add-in-Stopped.ensures.lines

@@ -16,14 +16,14 @@ use Rattle.guard_frames.proofs.policies.PolicyDecide.line.Goals as goal
 pub reason-requires : goal.reason-requires
 reason-requires c =
     let p = policy_view c.args.self.now in
-    let octets = c.args.body.now.message.now in
+    let octets = c.args.body.now.message_octets.now in
     let same : route_view c.route_of-route.result ≡ route_of (body_view c.args.body.now) = c.route_of-route.ensures in
     subst (λ (r : AbstractRoute). IfSome c.args.marks (AreMarksOf p r.message octets)) (sym same) c.requires.told
 
 pub returns-clause-reports : goal.returns-clause-reports
 returns-clause-reports c =
     let p = policy_view c.args.self.now in
-    let octets = c.args.body.now.message.now in
+    let octets = c.args.body.now.message_octets.now in
     let w = verdict_view c.in_ok-verdict.verdict in
     let same : route_view c.route_of-route.result ≡ route_of (body_view c.args.body.now) = c.route_of-route.ensures in
     if_ok_map (λ line. line.items ≡ line_octets p (route_view c.route_of-route.result) c.args.number w)

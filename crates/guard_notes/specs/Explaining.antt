@@ -8,7 +8,9 @@ use Rattle.guard_tagcheck.specs.Views.{common_view}
 use Rattle.guard_schema.specs.declared.fault.SchemaFault.{SchemaFault}
 use Rattle.guard_schema.specs.declared.fault.SchemaFault.TheVariants as schema
 use Rattle.guard_policy.specs.declared.fault.PolicyFault.{PolicyFault}
-use Rattle.guard_notes.specs.Notes.{AbstractNote, policy_note, schema_note}
+use Rattle.guard_notes.specs.Marking.{columns}
+use Rattle.guard_notes.specs.Notes.{schema_place, policy_place}
+use Rattle.guard_notes.specs.declared.notes.Place.{Place}
 use Rattle.guard_notes.specs.PolicyNotes.{IsSaidOfPolicy}
 use Rattle.guard_notes.specs.Sources.{AbstractSources, sources, module_text, place_lines}
 use Rattle.guard_notes.specs.TextNotes.{octets_at, character_line}
@@ -53,16 +55,28 @@ IsSaidOfModules s schema.OutOfMemory lines = lines ≡ []
 
 -- ---- all of it
 
--- the place, what more is said, and what to do; nothing where memory ran out
-abbrev pub note_lines : AbstractSources → List ℕ → Option AbstractNote → List ℕ
-note_lines s said None = []
-note_lines s said (Some n) = place_lines s n.place ++ (said ++ (codes "  " ++ (n.advice ++ codes "\n")))
+-- a line of words, of which at most 120 columns are shown
+abbrev pub words_line : List ℕ → List ℕ
+words_line words = codes "  " ++ (columns words ++ codes "\n")
 
--- this comes after the line of a fault of modules
+-- what is wrong and what to do, and perhaps a second line
+abbrev pub advice_lines : List ℕ → Option (List ℕ) → List ℕ
+advice_lines words None = words_line words
+advice_lines words (Some more) = words_line words ++ words_line more
+
+-- the place, what more is said, and what to do; nothing where memory ran out
+abbrev pub note_lines : AbstractSources → Option Place → List ℕ → List ℕ → Option (List ℕ) → List ℕ
+note_lines s None said words more = []
+note_lines s (Some place) said words more = place_lines s place ++ (said ++ advice_lines words more)
+
+-- this comes after the line of a fault of modules; which words it has is shown by rows, as it is below
 abbrev pub IsSchemaNote : AbstractSources → SchemaFault → List ℕ → Type 0
-IsSchemaNote s f note = (said : List ℕ) × IsSaidOfModules s f said × (note ≡ note_lines s said (schema_note f))
+IsSchemaNote s f note =
+    (said words : List ℕ) × (more : Option (List ℕ)) × IsSaidOfModules s f said
+    × (note ≡ note_lines s (schema_place f) said words more)
 
 -- this after that of a fault of the policy at a path, which has this text
 abbrev pub IsPolicyNote : List ℕ → List ℕ → PolicyFault → List ℕ → Type 0
 IsPolicyNote path text f note =
-    (said : List ℕ) × IsSaidOfPolicy text f said × (note ≡ note_lines (sources path [] []) said (policy_note f))
+    (said words : List ℕ) × (more : Option (List ℕ)) × IsSaidOfPolicy text f said
+    × (note ≡ note_lines (sources path [] []) (policy_place f) said words more)

@@ -1,5 +1,5 @@
 -- What more is said of a fault of a module, by the octets at its place.
-use Rattle.std.specs.Prelude.{◌&&◌, ℕ, Bool, nat_le, nat_eq, List, [], ◌∷◌, codes, drop, slice_get, unwrap_or, if◌then◌else◌}
+use Rattle.std.specs.Prelude.{◌&&◌, ◌||◌, ℕ, Bool, nat_le, nat_eq, List, [], ◌∷◌, codes, drop, slice_get, unwrap_or, if◌then◌else◌}
 use Rattle.std.specs.List.{starts_with}
 use Rattle.guard_model.specs.declared.site.Site.{Site}
 use Rattle.guard_lexer.specs.Octets.{is_digit}
@@ -21,16 +21,21 @@ is_curly_quote rest = starts_with nat_eq rest (226 ∷ 128 ∷ []) && nat_le 152
 abbrev pub is_dash : List ℕ → Bool
 is_dash rest = starts_with nat_eq rest (226 ∷ 128 ∷ []) && nat_le 144 (octet 2 rest) && nat_le (octet 2 rest) 149
 
--- what is said of an octet at which no token begins: it is outside ASCII; a low line, 95; a digit, which no token
--- begins with only after the number 0
+-- `#`, 35, or `//`, 47 twice, which begin comments in other notations
+abbrev pub begins_comment : List ℕ → Bool
+begins_comment rest = starts_with nat_eq rest (35 ∷ []) || starts_with nat_eq rest (47 ∷ 47 ∷ [])
+
+-- what is said of an octet at which no token begins: it is outside ASCII; a low line, 95; an equals sign, 61; a digit,
+-- which no token begins with only after the number 0
 abbrev pub octet_line : ℕ → List ℕ
 octet_line o =
     if nat_le 128 o then codes "  This character is not in ASCII. Only comments and strings may have such.\n"
     else if nat_eq o 95 then codes "  A name has no low line. Write a hyphen, -.\n"
+    else if nat_eq o 61 then codes "  An equals sign assigns nothing. Write ::=.\n"
     else if is_digit o then codes "  A digit comes after the number 0. Numbers have no leading zeros.\n"
     else []
 
--- what the character there is: U+FEFF, one of those above, U+00A0, or any other
+-- what the character there is: U+FEFF, one of those above, U+00A0, a mark of comments elsewhere, or any other
 abbrev pub character_line : List ℕ → List ℕ
 character_line rest =
     if starts_with nat_eq rest (239 ∷ 187 ∷ 191 ∷ [])
@@ -38,4 +43,5 @@ character_line rest =
     else if is_curly_quote rest then codes "  This is a typographic quote. Write a straight one, \" or '.\n"
     else if is_dash rest then codes "  This is a typographic dash. Write a hyphen, -.\n"
     else if starts_with nat_eq rest (194 ∷ 160 ∷ []) then codes "  This is a no-break space. Write a blank.\n"
+    else if begins_comment rest then codes "  A comment begins with two hyphens. Write --.\n"
     else octet_line (octet 0 rest)

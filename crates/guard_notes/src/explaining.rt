@@ -1,12 +1,15 @@
 //! What comes after the line of a fault of modules or of a policy.
 ghost use Rattle.std.specs.Prelude.{◌≡◌, option_map, string_bytes, IfOk};
-ghost use Rattle.guard_notes.specs.Explaining.{lex_lines, note_lines, IsSaidOfName, IsSaidOfSyntax};
-ghost use Rattle.guard_notes.specs.Explaining.{IsSaidOfModules, IsSchemaNote, IsPolicyNote};
-ghost use Rattle.guard_notes.specs.Notes.{note_view};
+ghost use Rattle.guard_notes.specs.Explaining.{lex_lines, words_line, advice_lines, note_lines, IsSaidOfName};
+ghost use Rattle.guard_notes.specs.Explaining.{IsSaidOfSyntax, IsSaidOfModules, IsSchemaNote, IsPolicyNote};
 ghost use Rattle.guard_notes.specs.Sources.{sources_view};
 
+use crate::advice::{Advice, schema_advice};
 use crate::clash_notes::clash_line;
-use crate::notes::{Note, policy_note, schema_note};
+use crate::crowding::crowding;
+use crate::marking::columns;
+use crate::notes::{Place, policy_place, schema_place};
+use crate::policy_advice::policy_advice;
 use crate::policy_notes::policy_lines;
 use crate::sources::{Sources, module_text, place_lines};
 use crate::syntax_notes::said_of_unexpected;
@@ -16,7 +19,7 @@ use guard_lexer::LexFault;
 use guard_model::{OutOfMemory, Site};
 use guard_policy::PolicyFault;
 use guard_schema::SchemaFault;
-use std::alloc::Global;
+use std::alloc::{AllocError, Global};
 
 /// What comes after the line of a fault of modules, over their texts.
 pub fn explain_schema(
@@ -27,13 +30,15 @@ pub fn explain_schema(
     ensures { IfOk result (λ note. IsSchemaNote (sources_view sources.now) fault.now (string_bytes note)) }
 {
     let said = said_of_modules(alloc, sources, fault)?;
-    note_lines(alloc, sources, &said, schema_note(fault))
+    let advice = schema_advice(alloc, sources, fault)?;
+    note_lines(alloc, sources, schema_place(fault), &said, advice)
 }
 
-/// What comes after the line of a fault of the policy at this path, which has this text.
+/// What comes after the line of a fault of the policy at this path, which has this text, over its modules.
 pub fn explain_policy(
     alloc: Global,
     path: &str,
+    modules: &[Vec<u8>],
     text: &[u8],
     fault: &PolicyFault,
 ) -> Result<String, OutOfMemory>
@@ -45,25 +50,49 @@ pub fn explain_policy(
         modules: &[],
     };
     let said = policy_lines(alloc, text, fault)?;
-    note_lines(alloc, &sources, &said, policy_note(fault))
+    let crowding = crowding(alloc, modules, text, fault)?;
+    let advice = policy_advice(fault, &said, &crowding);
+    note_lines(alloc, &sources, policy_place(fault), &said, advice)
 }
 
-/// The place, what more is said, and what to do.
+/// The place, what more is said, and what to do; nothing where there is no place.
 fn note_lines(
     alloc: Global,
     sources: &Sources,
+    place: Option<Place>,
     said: &str,
-    note: Option<Note>,
+    advice: Advice,
 ) -> Result<String, OutOfMemory>
-    ensures { IfOk result (λ text. string_bytes text
-        ≡ note_lines (sources_view sources.now) said.now (option_map note_view note)) }
+    ensures { IfOk result (λ text. string_bytes text ≡ note_lines (sources_view sources.now) place said.now
+        advice.entry.words.now (option_map (λ more. more.now) advice.entry.more)) }
 {
-    let Some(note) = note else {
+    let Some(place) = place else {
         return Ok(String::new(alloc));
     };
-    let lines = place_lines(alloc, sources, note.place)?;
-    let advice = note.advice;
-    Ok(format!(in alloc; "{lines}{said}  {advice}\n")?)
+    let lines = place_lines(alloc, sources, place)?;
+    let advice = advice_lines(alloc, advice)?;
+    Ok(format!(in alloc; "{lines}{said}{advice}")?)
+}
+
+fn advice_lines(alloc: Global, advice: Advice) -> Result<String, AllocError>
+    ensures { IfOk result (λ lines. string_bytes lines
+        ≡ advice_lines advice.entry.words.now (option_map (λ more. more.now) advice.entry.more)) }
+{
+    let line = words_line(alloc, advice.words)?;
+    match advice.more {
+        Some(more) => {
+            let second = words_line(alloc, more)?;
+            format!(in alloc; "{line}{second}")
+        }
+        None => Ok(line),
+    }
+}
+
+fn words_line(alloc: Global, words: &str) -> Result<String, AllocError>
+    ensures { IfOk result (λ line. string_bytes line ≡ words_line words.now) }
+{
+    let shown = columns(alloc, words.as_bytes())?;
+    format!(in alloc; "  {shown}\n")
 }
 
 fn said_of_modules(

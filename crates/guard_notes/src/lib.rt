@@ -3,7 +3,9 @@
 //! | question | code | definition |
 //! |---|---|---|
 //! | What comes after the line of a fault? | `explaining.rt` (`explain_schema`, `explain_policy`) | `specs/Explaining.antt` |
-//! | What is said of each numbered fault? | `notes.rt` | `specs/Notes.antt` |
+//! | Where is each numbered fault? | `notes.rt` | `specs/Notes.antt` |
+//! | Which words say what to do? | `advice.rt`, `policy_advice.rt`, of forms that are left out `left_out.rt` | none, rows show them |
+//! | Of which part is too much asked? | `crowding.rt` | none, rows show it |
 //! | How is a place shown? | `sources.rt` | `specs/Sources.antt` |
 //! | How is a line shown with a mark under a column? | `marking.rt` | `specs/Marking.antt` |
 //! | What are the lines of a text? | `lines.rt` | `specs/Lines.antt` |
@@ -15,12 +17,16 @@
 //! | Which name is near to one that means nothing? | `token_notes.rt` | `specs/TokenNotes.antt` |
 #![tactic(auto)]
 
+mod advice;
 mod clash_notes;
+mod crowding;
 mod explaining;
 mod headers;
+mod left_out;
 mod lines;
 mod marking;
 mod notes;
+mod policy_advice;
 mod policy_notes;
 mod sources;
 mod syntax_notes;
@@ -30,5 +36,5 @@ mod token_notes;
 pub use explaining::{explain_policy, explain_schema};
 pub use lines::{first_line, line_end};
 pub use marking::columns;
-pub use notes::{Note, Place, schema_note};
+pub use notes::{Place, schema_place};
 pub use sources::{Sources, beside, place_lines};

@@ -172,7 +172,7 @@ fn number_of_rule(rules: &[Value], message: Option<&str>, among: usize) -> Optio
 }
 
 /// Whether the rule is one of this message.
-fn is_of(rule: &Value, message: Option<&str>) -> bool
+pub fn is_of(rule: &Value, message: Option<&str>) -> bool
     ensures { result ≡ is_of (option_map (λ name. name.now) message.entry) (view rule.now) }
 {
     match (message, word_at(Some(rule), Key::Message)) {
@@ -330,7 +330,7 @@ fn is_party(text: &str) -> bool
 // ---- what `toml` has
 
 /// The text at a key of an entry.
-fn word_at<'a>(entry: Option<&'a Value>, key: Key) -> Option<&'a str>
+pub fn word_at<'a>(entry: Option<&'a Value>, key: Key) -> Option<&'a str>
     ensures { option_map (λ word. word.now) result ≡ word_at key (option_map (λ value. view value.now) entry.entry) }
 {
     match value_at(entry, key) {
@@ -357,14 +357,14 @@ fn value_at<'a>(entry: Option<&'a Value>, key: Key) -> Option<&'a Value>
 }
 
 /// The entry of this number, from 1.
-fn entry_of<'a>(top: &'a Table, kind: Key, number: usize) -> Option<&'a Value>
+pub fn entry_of<'a>(top: &'a Table, kind: Key, number: usize) -> Option<&'a Value>
     ensures { option_map (λ value. view value.now) result ≡ entry_of kind number (table_view top.now) }
 {
     item_at(listed(top, kind), number.saturating_sub(1))
 }
 
 /// The list of the messages or of the rules.
-fn listed<'a>(top: &'a Table, kind: Key) -> Option<&'a Value>
+pub fn listed<'a>(top: &'a Table, kind: Key) -> Option<&'a Value>
     ensures { option_map (λ value. view value.now) result ≡ listed kind (table_view top.now) }
 {
     top.get(kind.text())

@@ -72,6 +72,17 @@ pub fn module_text<'a>(sources: &Sources<'a>, number: u32) -> &'a [u8]
     }
 }
 
+/// Whether a module before that of this number, from 1, has the same text.
+pub fn is_listed_before(sources: &Sources, number: u32) -> bool {
+    let text = module_text(sources, number);
+    for place in 1..number {
+        if module_text(sources, place) == text {
+            return true;
+        }
+    }
+    false
+}
+
 fn place_of(number: u32) -> usize
     ensures { result ≡ number - 1 }
 {

@@ -1,6 +1,7 @@
 //! What more is said of a fault of a module, by the octets at its place.
 ghost use Rattle.std.specs.Prelude.{◌≡◌};
-ghost use Rattle.guard_notes.specs.TextNotes.{octets_at, octet, is_curly_quote, is_dash, octet_line, character_line};
+ghost use Rattle.guard_notes.specs.TextNotes.{octets_at, octet, is_curly_quote, is_dash, begins_comment, octet_line};
+ghost use Rattle.guard_notes.specs.TextNotes.{character_line};
 
 use crate::marking::{line_at, place_of};
 use guard_model::Site;
@@ -26,6 +27,8 @@ pub fn character_line(rest: &[u8]) -> &'static str
         "  This is a typographic dash. Write a hyphen, -.\n"
     } else if rest.starts_with(b"\xC2\xA0") {
         "  This is a no-break space. Write a blank.\n"
+    } else if begins_comment(rest) {
+        "  A comment begins with two hyphens. Write --.\n"
     } else {
         octet_line(octet(rest, 0))
     }
@@ -38,6 +41,8 @@ fn octet_line(octet: u8) -> &'static str
         "  This character is not in ASCII. Only comments and strings may have such.\n"
     } else if octet == b'_' {
         "  A name has no low line. Write a hyphen, -.\n"
+    } else if octet == b'=' {
+        "  An equals sign assigns nothing. Write ::=.\n"
     } else if octet.is_ascii_digit() {
         "  A digit comes after the number 0. Numbers have no leading zeros.\n"
     } else {
@@ -57,6 +62,13 @@ fn is_dash(rest: &[u8]) -> bool
     ensures { result ≡ is_dash rest.now }
 {
     rest.starts_with(b"\xE2\x80") && 144 <= octet(rest, 2) && octet(rest, 2) <= 149
+}
+
+/// Whether a comment would begin here in other notations: `#` or `//`.
+fn begins_comment(rest: &[u8]) -> bool
+    ensures { result ≡ begins_comment rest.now }
+{
+    rest.starts_with(b"#") || rest.starts_with(b"//")
 }
 
 /// The octet at a place, and 0 where there is none.

@@ -1,10 +1,12 @@
 //! The guard as a process: the program over the machine's files, standard input, standard output and standard error.
 //!
-//! What it does is the library `derguard_program`; where its files come from is `real_files.rt`.
+//! What it does is the library `derguard_program`; where its files come from is `real_files.rt`, and how its devices
+//! wait is `waiting.rt`.
 #![tactic(auto)]
 
 mod noting;
 mod real_files;
+mod waiting;
 
 use derguard_program::{program, tell_no_memory, tell_text};
 use guard_frames::{Sink, Through};
@@ -14,13 +16,17 @@ use std::alloc::{AllocError, Global};
 use std::io::ErrorKind;
 use std::process::ExitCode;
 use std::{env, io};
+use waiting::Waiting;
 
 /// The status where the words are bad.
 const BAD_WORDS: u8 = 2;
 
 /// Does what the words of the command line ask for.
 fn main(rt: HostRuntime) -> ExitCode {
-    let mut err = Through::new(rt.stderr());
+    let mut err = Through::new(Waiting {
+        rt: &rt,
+        inner: rt.stderr(),
+    });
     let status = match words_of(&rt) {
         Ok(words) => started(&rt, &words, &System::new(), &mut err),
         Err(e) if e.kind() == ErrorKind::OutOfMemory => tell_no_memory(&mut err),
@@ -39,11 +45,17 @@ fn started<E: Sink>(rt: &HostRuntime, words: &[String], system: &System, err: &m
         return tell_no_memory(err);
     };
     let mut source = Through::new(Noting {
-        inner: rt.stdin(),
+        inner: Waiting {
+            rt,
+            inner: rt.stdin(),
+        },
         last: &system.input,
     });
     let mut out = Through::new(Noting {
-        inner: rt.stdout(),
+        inner: Waiting {
+            rt,
+            inner: rt.stdout(),
+        },
         last: &system.output,
     });
     program(

@@ -5,7 +5,7 @@ use Rattle.guard_model.specs.AbstractValue.{AbstractValue}
 use Rattle.guard_policy.specs.Decisions.{NumberedRule, allows, speaking, speaks_of}
 use Rattle.guard_policy.specs.Policies.{AbstractRoute, AbstractRule}
 use Rattle.derguard_program.specs.Reached.{allowing, unreached_line, unreached_lines}
-use Rattle.derguard_program.specs.Reasons.{allowing_line_of, allowing_lines}
+use Rattle.derguard_program.specs.Reasons.{allowing_line_of, allowing_lines, message_rules, rule_line_of}
 
 allowing_next : (route : AbstractRoute) (v : AbstractValue) (rules : List AbstractRule) (i : ℕ) (r : AbstractRule) → slice_get rules i ≡ Some r
     → allowing_lines route v (drop i rules) ≡ allowing_line_of route v r ++ allowing_lines route v (drop (suc i) rules)
@@ -23,6 +23,26 @@ one_allowing route v rules i r text all at so_far =
     append_assoc text (allowing_line_of route v r) (allowing_lines route v (drop (i + 1) rules))
     ∙ ap (λ (n : ℕ). text ++ (allowing_line_of route v r ++ allowing_lines route v (drop n rules))) (add-one i)
     ∙ ap (λ (xs : List ℕ). text ++ xs) (sym (allowing_next route v rules i r at))
+    ∙ so_far
+
+-- ---- rules of a message
+
+rules_next : (message : List ℕ) (rules : List AbstractRule) (i : ℕ) (r : AbstractRule) → slice_get rules i ≡ Some r
+    → message_rules message (drop i rules) ≡ rule_line_of message r ++ message_rules message (drop (suc i) rules)
+rules_next message [] i r at = absurd cc
+rules_next message (q ∷ rules) zero r at =
+    let same : q ≡ r = ap (λ o. unwrap_or o q) at in
+    ap (λ (x : AbstractRule). rule_line_of message x ++ message_rules message rules) same
+rules_next message (q ∷ rules) (suc i) r at = rules_next message rules i r at
+
+-- the line of one more rule
+pub one_of_message : (message : List ℕ) (rules : List AbstractRule) (i : ℕ) (r : AbstractRule) (text all : List ℕ) → slice_get rules i ≡ Some r
+    → text ++ message_rules message (drop i rules) ≡ all
+    → (text ++ rule_line_of message r) ++ message_rules message (drop (i + 1) rules) ≡ all
+one_of_message message rules i r text all at so_far =
+    append_assoc text (rule_line_of message r) (message_rules message (drop (i + 1) rules))
+    ∙ ap (λ (n : ℕ). text ++ (rule_line_of message r ++ message_rules message (drop n rules))) (add-one i)
+    ∙ ap (λ (xs : List ℕ). text ++ xs) (sym (rules_next message rules i r at))
     ∙ so_far
 
 -- ---- numbers

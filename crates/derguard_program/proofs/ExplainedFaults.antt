@@ -2,11 +2,11 @@
 use Rattle.std.proofs.Common.{◌≡◌, ◌⊎◌, ℕ, List, [], inl, inr, refl, subst, sym}
 use Rattle.guard_notes.specs.Sources.{sources}
 use Rattle.derguard_program.specs.declared.fault.Fault.{Fault}
-use Rattle.derguard_program.specs.declared.fault.Fault.TheVariants.{BadHex, CannotRead, Schema, Policy, Run, NoMemory}
+use Rattle.derguard_program.specs.declared.fault.Fault.TheVariants.{BadHex, CannotRead, TooLarge, Schema, Policy, Run, NoMemory}
 use Rattle.derguard_program.specs.Explaining.{AreTextsOf, IsExplained, IsExplanation}
 use Rattle.derguard_program.specs.Files.{Told, HasText}
-use Rattle.derguard_program.specs.Reading.{IsNoPolicyAt, SayNothing}
-use Rattle.derguard_program.specs.inside.Texts.{CannotBeRead, IsBeforeModules}
+use Rattle.derguard_program.specs.Reading.{IsNoPolicyAt, IsUnreadable, SayNothing}
+use Rattle.derguard_program.specs.inside.Texts.{IsBeforeModules}
 use Rattle.derguard_program.proofs.Refusals.{policy_unread}
 
 module _ (told : Told) (path note : List ℕ) where
@@ -14,8 +14,9 @@ module _ (told : Told) (path note : List ℕ) where
   silent : (r : Fault) → (r ≡ NoMemory) × (note ≡ []) → IsExplained told path r note
   silent r h = subst (λ (x : Fault). IsExplained told path x note) (sym h.0) (inr (inr refl), h.1)
 
-  unread : (f : Fault) → CannotBeRead told path f → IsExplanation (sources path [] []) [] f note → IsExplained told path f note
-  unread (CannotRead file) h e = (policy_unread told path (CannotRead file) h, e)
+  unread : (f : Fault) → IsUnreadable told path f → IsExplanation (sources path [] []) [] f note → IsExplained told path f note
+  unread (CannotRead file obstacle) h e = (policy_unread told path (CannotRead file obstacle) h, e)
+  unread (TooLarge file) h e = (policy_unread told path (TooLarge file) h, e)
   unread NoMemory h e = (inr (inr refl), e)
   unread BadHex h e = absurd h
   unread (Schema f) h e = absurd h
@@ -23,7 +24,7 @@ module _ (told : Told) (path note : List ℕ) where
   unread (Run f) h e = absurd h
 
   -- the policy's file
-  pub unread_explained : (f r : Fault) → CannotBeRead told path f
+  pub unread_explained : (f r : Fault) → IsUnreadable told path f
       → ((r ≡ f) × IsExplanation (sources path [] []) [] f note) ⊎ ((r ≡ NoMemory) × (note ≡ [])) → IsExplained told path r note
   unread_explained f r h (inl e) = subst (λ (x : Fault). IsExplained told path x note) (sym e.0) (unread f h e.1)
   unread_explained f r h (inr e) = silent r e
@@ -32,7 +33,8 @@ module _ (told : Told) (path note : List ℕ) where
     beside : (f : Fault) → IsBeforeModules f → IsNoPolicyAt told path f → IsExplanation (sources path [] []) text f note → IsExplained told path f note
     beside (Schema f) before missing e = absurd before
     beside (Policy f) before missing e = (text, has, missing, e)
-    beside (CannotRead file) before missing e = (missing, e)
+    beside (CannotRead file obstacle) before missing e = (missing, e)
+    beside (TooLarge file) before missing e = (missing, e)
     beside BadHex before missing e = (missing, e)
     beside (Run f) before missing e = (missing, e)
     beside NoMemory before missing e = (missing, e)
@@ -50,7 +52,8 @@ module _ (told : Told) (path note : List ℕ) where
     said_none (Schema f) none e = (text, files, modules, are, none, e)
     said_none (Policy f) none e = (text, are.0, inr (inl (text, modules, (are.0, (files, are.1, are.2)), none)), e)
     said_none BadHex none e = absurd none
-    said_none (CannotRead file) none e = absurd none
+    said_none (CannotRead file obstacle) none e = absurd none
+    said_none (TooLarge file) none e = absurd none
     said_none (Run f) none e = absurd none
     said_none NoMemory none e = absurd none
 

@@ -22,6 +22,12 @@ outside_has_value p route octets w (inl h) = absurd (true≢false (sym (ap has_n
 outside_has_value p route octets w (inr (t, there, inl h)) = absurd (true≢false (sym (ap has_none h.2)))
 outside_has_value p route octets w (inr (t, there, inr (v, fit, is, e))) = (t, v, there, fit, is, tt)
 
+pub denied_has_value : (p : AbstractPolicy) (route : AbstractRoute) (octets : List ℕ) (i : ℕ)
+    → IsReason p route octets (denied_by i) → HasValue p route.message octets
+denied_has_value p route octets i (inl h) = absurd (true≢false (sym (ap has_none h.1)))
+denied_has_value p route octets i (inr (t, there, inl h)) = absurd (true≢false (sym (ap has_none h.2)))
+denied_has_value p route octets i (inr (t, there, inr (v, fit, is, e))) = (t, v, there, fit, is, tt)
+
 pub pass_has_value : (p : AbstractPolicy) (route : AbstractRoute) (octets : List ℕ) → IsReason p route octets pass → HasValue p route.message octets
 pass_has_value p route octets (inl h) = absurd (true≢false (sym (ap has_none h.1)))
 pass_has_value p route octets (inr (t, there, inl h)) = absurd (true≢false (sym (ap has_none h.2)))

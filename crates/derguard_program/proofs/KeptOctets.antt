@@ -1,15 +1,16 @@
 -- Why nothing can be read at a path.
 use Rattle.std.proofs.Common.{◌≡◌, ◌⊎◌, ℕ, List, inl, inr, refl, false}
 use Rattle.derguard_program.specs.declared.fault.Fault.{Fault}
-use Rattle.derguard_program.specs.declared.fault.Fault.TheVariants.{BadHex, CannotRead, Schema, Policy, Run, NoMemory}
+use Rattle.derguard_program.specs.declared.fault.Fault.TheVariants.{BadHex, CannotRead, TooLarge, Schema, Policy, Run, NoMemory}
 use Rattle.derguard_program.specs.Devices.{Input, IsUnread}
 use Rattle.derguard_program.specs.Files.{Told}
 use Rattle.derguard_program.specs.Finding.{IsNotKeptBy}
-use Rattle.derguard_program.specs.inside.Texts.{CannotBeRead}
+use Rattle.derguard_program.specs.inside.Texts.{HasNoFront}
 
-pub not_kept : (told : Told) (path : List ℕ) (input : Input) (f : Fault) → IsUnread input → CannotBeRead told path f
+pub not_kept : (told : Told) (path : List ℕ) (input : Input) (f : Fault) → IsUnread input → HasNoFront told path f
     → IsNotKeptBy false told path input f ⊎ (f ≡ NoMemory)
-not_kept told path input (CannotRead file) unread is = inl (unread, is.0, is.1)
+not_kept told path input (CannotRead file obstacle) unread is = inl (unread, is.0, is.1)
+not_kept told path input (TooLarge file) unread is = absurd is
 not_kept told path input NoMemory unread is = inr refl
 not_kept told path input BadHex unread is = absurd is
 not_kept told path input (Schema f) unread is = absurd is

@@ -5,6 +5,7 @@ pub mod Asked
 pub mod Showing
 pub mod Lines
 pub mod ReadingTexts
+pub mod WholeTexts
 pub mod Refusals
 pub mod Streams
 pub mod Meetings
@@ -23,6 +24,7 @@ pub mod WrittenValues
 pub mod LoadedTexts
 pub mod CasesFound
 pub mod TriedCases
+pub mod FaultyCases
 pub mod RecordLaws
 pub mod PassingLaws
 pub mod RecordReading
@@ -36,6 +38,7 @@ pub mod FramesWatched
 pub mod RecordsRead
 pub mod TallyLaws
 pub mod Turning
+pub mod OwnRecords
 pub mod Doings
 pub mod BegunLaws
 pub mod Keeping

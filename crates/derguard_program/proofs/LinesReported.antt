@@ -10,7 +10,7 @@ use Rattle.guard_frames.proofs.HeaderLaws.{body_takes}
 
 -- it has the reason, or says that there was no memory for it
 pub stays_with : (d : Decision) (n : ℕ) (frame octets line : List ℕ) (b : AbstractBody) → octets ≡ drop 4 frame
-    → Some b ≡ body_in octets → (d.Goes b → ⊥)
+    → Some b ≡ body_in octets → (d.LetsGo b → ⊥)
     → d.Reports n b line ⊎ (line ≡ decimal n ++ codes " no-memory\n") → Adds d n (staying frame) line
 stays_with d n frame octets line b same is decided text =
     inr (inl (record {

@@ -3,7 +3,7 @@ use Rattle.std.proofs.Common.{◌≡◌, ◌∙◌, ap, ℕ, zero, suc, ◌+◌,
 use Rattle.std.proofs.lemmas.List.{append-nil, drop_all}
 use Rattle.std.specs.declared.alloc.Global.{Global}
 use Rattle.guard_policy.proofs.EntriesRead.{left_is}
-use Rattle.derguard_program.specs.Files.{Told, after_read, after_reads, IsLater, HasText, HasNone}
+use Rattle.derguard_program.specs.Files.{Told, after_read, after_reads, IsLater, HasFront, HasNone}
 use Rattle.derguard_program.specs.Reading.{HaveTexts, FirstMissing}
 
 -- With these texts, of the names in front of what is left: what holds of the names that are left, by the reads to come,
@@ -15,7 +15,7 @@ pub record ReadSoFar (told now : Told) (beside : List ℕ) (all left done : List
 pub read_none : (told : Told) (beside : List ℕ) (all : List (List ℕ)) → ReadSoFar told told beside all all []
 read_none told beside all = record { have = λ texts h. h; lack = λ path h. h }
 
-pub read_one : (told now : Told) (beside : List ℕ) (all left done : List (List ℕ)) (name text : List ℕ) → HasText now (beside ++ name) text
+pub read_one : (told now : Told) (beside : List ℕ) (all left done : List (List ℕ)) (name text : List ℕ) → HasFront now (beside ++ name) text
     → ReadSoFar told now beside all (name ∷ left) done → ReadSoFar told (after_read now) beside all left (done ++ text ∷ [])
 read_one told now beside all left done name text has so_far = record {
   have = λ texts h.
@@ -34,12 +34,12 @@ missing_here told now beside all left done name none so_far = so_far.lack (besid
 
 -- one more file is read, of the name at the place where the loop is
 pub read_next : (told now : Told) (beside : List ℕ) (listed : List (String Global)) (i : ℕ) (name : String Global) (path text : List ℕ) (done : List (List ℕ))
-    → i < length listed → name ≡ get_or listed i name → path ≡ beside ++ string_bytes name → HasText now path text
+    → i < length listed → name ≡ get_or listed i name → path ≡ beside ++ string_bytes name → HasFront now path text
     → ReadSoFar told now beside (map string_bytes listed) (map string_bytes (drop i listed)) done
     → ReadSoFar told (after_read now) beside (map string_bytes listed) (map string_bytes (drop (i + 1) listed)) (done ++ text ∷ [])
 read_next told now beside listed i name path text done lt is at has so_far =
     read_one told now beside (map string_bytes listed) (map string_bytes (drop (i + 1) listed)) done (string_bytes name) text
-    (subst (λ (p : List ℕ). HasText now p text) at has)
+    (subst (λ (p : List ℕ). HasFront now p text) at has)
     (subst (λ (left : List (List ℕ)). ReadSoFar told now beside (map string_bytes listed) left done) (left_is string_bytes listed i name lt is) so_far)
 
 -- the loop is after them all

@@ -9,16 +9,17 @@ use Rattle.guard_frames.specs.declared.texts.TextsFault.{TextsFault}
 use Rattle.guard_frames.specs.declared.texts.TextsFault.TheVariants as texts
 use Rattle.guard_frames.specs.Texts.{SayPolicy, SayNone}
 use Rattle.derguard_program.specs.declared.fault.Fault.{Fault}
-use Rattle.derguard_program.specs.declared.fault.Fault.TheVariants.{BadHex, CannotRead, Schema, Policy, Run, NoMemory}
+use Rattle.derguard_program.specs.declared.fault.Fault.TheVariants.{BadHex, CannotRead, TooLarge, Schema, Policy, Run, NoMemory}
 use Rattle.derguard_program.specs.Faults.{StandsForPolicy, of_texts}
 use Rattle.derguard_program.specs.Files.{Told, after_read, HasText}
-use Rattle.derguard_program.specs.Reading.{folder, AreTexts, SayNothing, IsNoPolicyAt}
-use Rattle.derguard_program.specs.inside.Texts.{CannotBeRead, CannotAllBeRead, IsBeforeModules}
+use Rattle.derguard_program.specs.Reading.{folder, AreTexts, IsUnreadable, SayNothing, IsNoPolicyAt}
+use Rattle.derguard_program.specs.inside.Texts.{CannotAllBeRead, IsBeforeModules}
 
 module _ (told : Told) (path : List ℕ) where
   -- the policy's file
-  pub policy_unread : (f : Fault) → CannotBeRead told path f → IsNoPolicyAt told path f
-  policy_unread (CannotRead file) h = inl (inl h)
+  pub policy_unread : (f : Fault) → IsUnreadable told path f → IsNoPolicyAt told path f
+  policy_unread (CannotRead file obstacle) h = inl (inl h)
+  policy_unread (TooLarge file) h = inl h
   policy_unread NoMemory h = inr (inr refl)
   policy_unread BadHex h = absurd h
   policy_unread (Schema f) h = absurd h
@@ -37,7 +38,8 @@ module _ (told : Told) (path : List ℕ) where
 
     -- the files of its modules
     pub modules_unread : (files : List (List ℕ)) → ListsFiles text files → (f : Fault) → CannotAllBeRead (after_read told) (folder path) files f → IsNoPolicyAt told path f
-    modules_unread files listed (CannotRead file) h = inl (inr (text, files, has, listed, h))
+    modules_unread files listed (CannotRead file obstacle) h = inl (inr (text, files, has, listed, h))
+    modules_unread files listed (TooLarge file) h = absurd h
     modules_unread files listed NoMemory h = inr (inr refl)
     modules_unread files listed BadHex h = absurd h
     modules_unread files listed (Schema f) h = absurd h

@@ -5,7 +5,7 @@ use Rattle.std.proofs.lemmas.List.{get_or-take}
 use Rattle.guard_frames.specs.declared.running.RunFault.{RunFault}
 use Rattle.guard_frames.specs.declared.running.RunFault.TheVariants.{FrameTooLong, WriteFailed, TornFrame, ReadFailed, OutOfMemory}
 use Rattle.derguard_program.specs.declared.fault.Fault.{Fault}
-use Rattle.derguard_program.specs.declared.fault.Fault.TheVariants.{BadHex, CannotRead, Schema, Policy, Run, NoMemory}
+use Rattle.derguard_program.specs.declared.fault.Fault.TheVariants.{BadHex, CannotRead, TooLarge, Schema, Policy, Run, NoMemory}
 use Rattle.derguard_program.specs.Saying.{HasNoLineFeed, IsSaidOfRun, IsSaidOfFault}
 
 pub none_of_run : (f : RunFault) → IsSaidOfRun f []
@@ -16,7 +16,8 @@ none_of_run TornFrame = refl
 none_of_run OutOfMemory = refl
 
 pub none_of_fault : (f : Fault) → IsSaidOfFault f []
-none_of_fault (CannotRead file) = inl refl
+none_of_fault (CannotRead file obstacle) = inl refl
+none_of_fault (TooLarge file) = refl
 none_of_fault BadHex = refl
 none_of_fault (Schema f) = refl
 none_of_fault (Policy f) = refl

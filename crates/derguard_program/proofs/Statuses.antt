@@ -8,7 +8,7 @@ use Rattle.guard_frames.specs.Added.{Added}
 use Rattle.guard_frames.specs.Gateways.{AbstractGateway, AbstractEvent}
 use Rattle.guard_frames.proofs.Appending.{Appends_is}
 use Rattle.derguard_program.specs.declared.fault.Fault.{Fault}
-use Rattle.derguard_program.specs.declared.fault.Fault.TheVariants.{BadHex, CannotRead, Schema, Policy, Run, NoMemory}
+use Rattle.derguard_program.specs.declared.fault.Fault.TheVariants.{BadHex, CannotRead, TooLarge, Schema, Policy, Run, NoMemory}
 use Rattle.derguard_program.specs.declared.stop.Stop.{Stop}
 use Rattle.derguard_program.specs.declared.stop.Stop.TheVariants.{BadRecord, ReadFailed, WriteFailed, ErrorFailed}
 use Rattle.derguard_program.specs.AtFault.{IsFaultNote}
@@ -27,7 +27,8 @@ use Rattle.derguard_program.proofs.Turning.{all_err-append, status_of-append}
 
 fault_most : (f : Fault) → fault_status f ≤ 3
 fault_most BadHex = omega arith
-fault_most (CannotRead file) = omega arith
+fault_most (CannotRead file obstacle) = omega arith
+fault_most (TooLarge file) = omega arith
 fault_most (Schema f) = omega arith
 fault_most (Policy f) = omega arith
 fault_most (Run f) = omega arith
@@ -35,7 +36,8 @@ fault_most NoMemory = omega arith
 
 fault_some : (f : Fault) → fault_status f ≡ 0 → ⊥
 fault_some BadHex e = omega arith
-fault_some (CannotRead file) e = omega arith
+fault_some (CannotRead file obstacle) e = omega arith
+fault_some (TooLarge file) e = omega arith
 fault_some (Schema f) e = omega arith
 fault_some (Policy f) e = omega arith
 fault_some (Run f) e = omega arith

@@ -9,7 +9,7 @@ use Rattle.guard_frames.specs.RunsTexts.{RunsTexts, IsNoRun}
 use Rattle.guard_frames.specs.Runs.{ReadToLimit}
 use Rattle.guard_frames.specs.declared.running.RunFault.TheVariants.{FrameTooLong, WriteFailed, TornFrame, ReadFailed, OutOfMemory}
 use Rattle.derguard_program.specs.declared.fault.Fault.{Fault}
-use Rattle.derguard_program.specs.declared.fault.Fault.TheVariants.{BadHex, CannotRead, Schema, Policy, Run, NoMemory}
+use Rattle.derguard_program.specs.declared.fault.Fault.TheVariants.{BadHex, CannotRead, TooLarge, Schema, Policy, Run, NoMemory}
 use Rattle.derguard_program.specs.Devices.{Input, Device, device, IsUnread, IsUntouched}
 use Rattle.derguard_program.specs.Faults.{of_texts}
 use Rattle.derguard_program.specs.Files.{Told}
@@ -68,7 +68,8 @@ module _ (told : Told) (path : List ℕ) (input : Input) (out reports : Device) 
   unguarded BadHex (inl h) i o r = absurd h
   unguarded BadHex (inr (inl (text, modules, are, h))) i o r = absurd h
   unguarded BadHex (inr (inr e)) i o r = absurd cc
-  unguarded (CannotRead file) h i o r = (h, i, o, r)
+  unguarded (CannotRead file obstacle) h i o r = (h, i, o, r)
+  unguarded (TooLarge file) h i o r = (h, i, o, r)
   unguarded (Schema f) h i o r = (h, i, o, r)
   unguarded (Policy f) h i o r = (h, i, o, r)
   unguarded NoMemory h i o r = (h, i, o, r)
@@ -79,7 +80,8 @@ module _ (told : Told) (path : List ℕ) (input : Input) (out reports : Device) 
   no_device (Run f) (inr (inl (text, modules, are, h))) = absurd h
   no_device (Run f) (inr (inr e)) = absurd cc
   no_device BadHex h = tt
-  no_device (CannotRead file) h = tt
+  no_device (CannotRead file obstacle) h = tt
+  no_device (TooLarge file) h = tt
   no_device (Schema f) h = tt
   no_device (Policy f) h = tt
   no_device NoMemory h = tt
@@ -103,7 +105,8 @@ pub reports_alike : (told : Told) (path : List ℕ) (input : Input) (out : Devic
     → GuardsAt told path input out (device before after x) (Err f) → GuardsAt told path input out (device before after y) (Err f)
 reports_alike told path input out before after x y (Run f) h = h
 reports_alike told path input out before after x y BadHex h = h
-reports_alike told path input out before after x y (CannotRead file) h = h
+reports_alike told path input out before after x y (CannotRead file obstacle) h = h
+reports_alike told path input out before after x y (TooLarge file) h = h
 reports_alike told path input out before after x y (Schema f) h = h
 reports_alike told path input out before after x y (Policy f) h = h
 reports_alike told path input out before after x y NoMemory h = h
@@ -117,7 +120,8 @@ blames_another input out reports err sound (Run FrameTooLong) h = tt
 blames_another input out reports err sound (Run TornFrame) h = tt
 blames_another input out reports err sound (Run OutOfMemory) h = tt
 blames_another input out reports err sound BadHex h = tt
-blames_another input out reports err sound (CannotRead file) h = tt
+blames_another input out reports err sound (CannotRead file obstacle) h = tt
+blames_another input out reports err sound (TooLarge file) h = tt
 blames_another input out reports err sound (Schema f) h = tt
 blames_another input out reports err sound (Policy f) h = tt
 blames_another input out reports err sound NoMemory h = tt

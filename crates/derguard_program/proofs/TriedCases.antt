@@ -19,7 +19,7 @@ same_tried : (p : AbstractLoaded) (all : Items) (lines lines' : List ℕ) (faile
 same_tried p all lines lines' failed failed' reached reached' l f r h =
     subst (λ (x : List ℕ). AreTried p 1 all lines' failed' x) r (subst (λ (x : ℕ). AreTried p 1 all lines' x reached) f (subst (λ (x : List ℕ). AreTried p 1 all x failed reached) l h))
 
-next_left : (items : List Value) (i : ℕ) (x : Value) → i < length items → x ≡ get_or items i x → items_view (drop i items) ≡ item (view x) (items_view (drop (i + 1) items))
+pub next_left : (items : List Value) (i : ℕ) (x : Value) → i < length items → x ≡ get_or items i x → items_view (drop i items) ≡ item (view x) (items_view (drop (i + 1) items))
 next_left items i x within at = at_drop_more items_view items i x within ∙ ap (λ (y : Value). item (view y) (items_view (drop (i + 1) items))) (sym at)
 
 -- one more case is tried

@@ -24,7 +24,7 @@ use Rattle.guard_values.specs.declared.fault.ValueFault.{ValueFault}
 use Rattle.guard_values.specs.declared.fault.ValueFault.TheVariants as values
 use Rattle.guard_values.specs.FirstFault.{IsFirstFault}
 use Rattle.derguard_program.specs.declared.fault.Fault.{Fault}
-use Rattle.derguard_program.specs.declared.fault.Fault.TheVariants.{BadHex, CannotRead, Schema, Policy, Run, NoMemory}
+use Rattle.derguard_program.specs.declared.fault.Fault.TheVariants.{BadHex, CannotRead, TooLarge, Schema, Policy, Run, NoMemory}
 use Rattle.derguard_program.specs.ValueTexts.{HaveNoTree, IsNoValue, IsWrittenAs, OfText}
 use Rattle.derguard_program.specs.inside.Assigned.{assigned, sites_around, AssignsOne, IsLexFault, IsSyntaxFault, IsUnexpected, IsValueFault, place_of, syntax_refusal, value_refusal}
 use Rattle.derguard_program.proofs.AssignedTrees.{module_of, module_written, one_assigned, value_assigned}
@@ -62,7 +62,8 @@ pub of_text_weaker : (A B : SchemaFault → Type 0) → ((g : SchemaFault) → A
 of_text_weaker A B w (Schema g) h = w g h
 of_text_weaker A B w NoMemory h = tt
 of_text_weaker A B w BadHex h = absurd h
-of_text_weaker A B w (CannotRead file) h = absurd h
+of_text_weaker A B w (CannotRead file obstacle) h = absurd h
+of_text_weaker A B w (TooLarge file) h = absurd h
 of_text_weaker A B w (Policy f) h = absurd h
 of_text_weaker A B w (Run f) h = absurd h
 

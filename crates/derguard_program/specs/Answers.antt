@@ -20,6 +20,7 @@ use Rattle.derguard_program.specs.declared.fault.Fault.TheVariants.{BadHex, NoMe
 use Rattle.derguard_program.specs.Devices.{Device, IsUntouched}
 use Rattle.derguard_program.specs.Explaining.{AreTextsOf, TellsWith}
 use Rattle.derguard_program.specs.Files.{Told}
+use Rattle.derguard_program.specs.HeaderNotes.{header_note}
 use Rattle.derguard_program.specs.FirstRun.{first_module, first_policy, IsFirstRun}
 use Rattle.derguard_program.specs.Framing.{route_body}
 use Rattle.derguard_program.specs.Listing.{listing}
@@ -109,7 +110,7 @@ body_route b = record { from = b.sender; to = b.receiver; message = b.name }
 -- What is answered to it, by its route and its octets. A frame that isn't three names and a message is said to be none,
 -- as a report says it.
 abbrev pub OfHeld : (AbstractRoute → List ℕ → AbstractAnswer → Type 0) → Option AbstractBody → AbstractAnswer → Type 0
-OfHeld IsAnswer (Some b) a = IsAnswer (body_route b) b.message a
+OfHeld IsAnswer (Some b) a = IsAnswer (body_route b) b.message_octets a
 OfHeld IsAnswer None a = (a.out ≡ codes "bad-header\n") × (a.status ≡ 1)
 
 -- the verdict on it, under the policy at the path
@@ -142,6 +143,13 @@ abbrev pub IsHeldExplained : Told → List ℕ → Option AbstractBody → Abstr
 IsHeldExplained told path held a =
     (text : List ℕ) × (files : List (List ℕ)) × (modules : List (List ℕ)) × AreTextsOf told path text files modules
     × IsExplainedOver (sources path files modules) text held a
+
+-- and where the octets of a frame aren't three names and a message, why below that
+abbrev pub IsFoundExplained : Told → List ℕ → Option AbstractBody → List ℕ → AbstractAnswer → Type 0
+IsFoundExplained told path (Some b) octets a = IsHeldExplained told path (Some b) a
+IsFoundExplained told path None octets a =
+    (shown : AbstractAnswer) × IsHeldExplained told path None shown × (a.out ≡ shown.out ++ header_note octets)
+    × (a.status ≡ shown.status)
 
 -- of the octets that the digits write
 abbrev pub IsDecidedExplained : Told → List ℕ → AbstractRoute → List ℕ → AbstractAnswer → Type 0

@@ -4,6 +4,7 @@ use Rattle.std.specs.List.{list_any}
 use Rattle.std.specs.Option.{is_some, option_or}
 use Rattle.toml.specs.Data.{Data, Items, no_items, item, Members, no_members, member, get_member, as_str, as_array, as_table}
 use Rattle.guard_policy.specs.Documents.{IsDocument, IsNoDocument}
+use Rattle.guard_policy.specs.Names.{is_name}
 use Rattle.derguard_program.specs.declared.cases.Case.{Case}
 
 -- ---- cases
@@ -49,7 +50,8 @@ list_at (Some d) = as_array d
 abbrev pub cases_at : Members → Option Items
 cases_at top = list_at (get_member (codes "case") top)
 
--- ---- faults, as they print: a key that says nothing; one that is missing or of another kind; no message, or two
+-- ---- faults, as they print: a key that says nothing; one that is missing or of another kind; no message, or two; a
+-- text that no frame has for its sender, its receiver or its message's name
 
 abbrev pub case_text : ℕ → List ℕ
 case_text number = codes "case " ++ decimal number
@@ -62,6 +64,9 @@ missing_text place key = codes "T3 MissingKey " ++ (place ++ (codes " " ++ key))
 
 abbrev pub message_text : List ℕ → List ℕ
 message_text place = codes "T4 OctetsOrValue " ++ place
+
+abbrev pub bad_name_text : List ℕ → List ℕ → List ℕ
+bad_name_text place key = codes "T5 BadName " ++ (place ++ (codes " " ++ key))
 
 -- the first word that is none of the keys, in the order of their octets, in which the members stand
 abbrev pub first_unknown : List (List ℕ) → Members → Option (List ℕ)
@@ -89,11 +94,23 @@ has_one entry =
 abbrev pub one_fault : ℕ → Members → Option (List ℕ)
 one_fault number entry = if has_one entry then None else Some (message_text (case_text number))
 
+-- the first of the keys at which there is no name
+abbrev pub first_nameless : List (List ℕ) → Members → Option (List ℕ)
+first_nameless [] entry = None
+first_nameless (key ∷ keys) entry = if is_name (text_of key entry) then first_nameless keys entry else Some key
+
+abbrev pub name_keys : List (List ℕ)
+name_keys = codes "from" ∷ codes "to" ∷ codes "message" ∷ []
+
+abbrev pub name_fault : ℕ → Members → Option (List ℕ)
+name_fault number entry = option_map (bad_name_text (case_text number)) (first_nameless name_keys entry)
+
 -- of the case of this number, from 1
 abbrev pub case_fault : ℕ → Members → Option (List ℕ)
 case_fault number entry =
     option_or (option_map (unknown_text (case_text number)) (first_unknown case_keys entry))
-    (option_or (option_map (missing_text (case_text number)) (first_missing required_keys entry)) (one_fault number entry))
+    (option_or (option_map (missing_text (case_text number)) (first_missing required_keys entry))
+    (option_or (one_fault number entry) (name_fault number entry)))
 
 -- of the first case that has one
 abbrev pub list_fault : ℕ → Items → Option (List ℕ)

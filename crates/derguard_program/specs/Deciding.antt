@@ -2,7 +2,7 @@
 use Rattle.std.specs.Prelude.{ℕ, Bool, true, false, List, codes, Option, Some}
 use Rattle.guard_policy.specs.Policies.{AbstractPolicy, AbstractRoute}
 use Rattle.guard_frames.specs.Bodies.{AbstractBody, body_in}
-use Rattle.derguard_program.specs.Answers.{AbstractAnswer, Gives, GivesExplained, IsDecided, IsDecidedExplained, IsUndecided, IsHeldDecided, IsHeldExplained, OfHeld}
+use Rattle.derguard_program.specs.Answers.{AbstractAnswer, Gives, GivesExplained, IsDecided, IsDecidedExplained, IsUndecided, IsHeldDecided, IsFoundExplained, OfHeld}
 use Rattle.derguard_program.specs.Devices.{Input, Device, IsUnread, IsUntouched}
 use Rattle.derguard_program.specs.Explaining.{IsExplained, IsUndecidedExplained}
 use Rattle.derguard_program.specs.Files.{Told}
@@ -36,15 +36,16 @@ GivesWritten false told path route digits = Gives (IsDecided told path route dig
 GivesWritten true told path route digits =
     GivesExplained (IsDecidedExplained told path route digits) (IsUndecidedExplained told path digits)
 
-abbrev pub GivesHeld : Bool → Told → List ℕ → Option AbstractBody → Device → Device → ℕ → Type 0
-GivesHeld false told path held = Gives (IsHeldDecided told path held) (IsNoPolicyAt told path)
-GivesHeld true told path held = GivesExplained (IsHeldExplained told path held) (IsExplained told path)
+-- which these octets hold
+abbrev pub GivesHeld : Bool → Told → List ℕ → Option AbstractBody → List ℕ → Device → Device → ℕ → Type 0
+GivesHeld false told path held octets = Gives (IsHeldDecided told path held) (IsNoPolicyAt told path)
+GivesHeld true told path held octets = GivesExplained (IsFoundExplained told path held octets) (IsExplained told path)
 
 abbrev pub DecidesAt : AbstractPlace → Told → AbstractQuestion → Input → Device → Device → ℕ → Type 0
 DecidesAt (written digits) told q input out err status =
     IsUnread input × GivesWritten q.explain told q.policy (asked_route q) digits out err status
 DecidesAt (elsewhere spot) told q input out err status =
-    AnswersFound (λ later octets. GivesHeld q.explain later q.policy (held_in (asked_route q) spot octets))
+    AnswersFound (λ later octets. GivesHeld q.explain later q.policy (held_in (asked_route q) spot octets) octets)
     told spot input out err status
 DecidesAt nowhere told q input out err status = TellsUnasked input out err status
 

@@ -7,7 +7,7 @@ use Rattle.derguard_program.specs.declared.fault.Fault.TheVariants.{CannotRead, 
 use Rattle.derguard_program.specs.declared.finding.Unfound.{Unfound}
 use Rattle.derguard_program.specs.declared.finding.Unfound.TheVariants.{Faulty, TooLong, NoSuchFrame, BadRecord}
 use Rattle.derguard_program.specs.Devices.{Input, Device, IsUnread, IsUntouched}
-use Rattle.derguard_program.specs.Files.{Told, HasText, HasNone, after_read}
+use Rattle.derguard_program.specs.Files.{Told, HasFront, HasNone, after_read}
 use Rattle.derguard_program.specs.Intake.{IsRead, IsLost}
 use Rattle.derguard_program.specs.Linked.{IsNthOfLink, EndsBefore, IsTornBefore, IsTooLongBefore, IsBadBefore, IsLostBefore}
 use Rattle.derguard_program.specs.Numbered.{IsNatural, IsNumber, IsNth, HasFewer, StopsBefore}
@@ -20,15 +20,16 @@ use Rattle.derguard_program.specs.Writing.{TellsLine, TellsText, Tells}
 abbrev pub is_input : List ℕ → Bool
 is_input path = bytes_eq path (codes "-")
 
--- these octets, by whether the path is standard input; and what reads of files to come find
+-- These octets, by whether the path is standard input; and what reads of files to come find. One octet more is read
+-- than a message may have.
 abbrev pub IsKeptBy : Bool → Told → List ℕ → Input → List ℕ → Told → Type 0
 IsKeptBy true told path input octets later = IsRead input octets × (later ≡ told)
-IsKeptBy false told path input octets later = IsUnread input × HasText told path octets × (later ≡ after_read told)
+IsKeptBy false told path input octets later = IsUnread input × HasFront told path octets × (later ≡ after_read told)
 
 -- why there are none
 abbrev pub IsNotKeptBy : Bool → Told → List ℕ → Input → Fault → Type 0
 IsNotKeptBy true told path input f = (f ≡ Run ReadFailed) × IsLost input
-IsNotKeptBy false told path input (CannotRead file) = IsUnread input × HasNone told path × (string_bytes file ≡ path)
+IsNotKeptBy false told path input (CannotRead file obstacle) = IsUnread input × HasNone told path × (string_bytes file ≡ path)
 IsNotKeptBy false told path input _ = ⊥
 
 -- ---- at a spot

@@ -7,10 +7,10 @@ use Rattle.guard_frames.specs.Bodies.{AbstractBody, has_names, named}
 -- the names as they are asked for, and the message; a name that isn't given is no octets, which are no name
 abbrev pub body_of : Option (List ℕ) → Option (List ℕ) → List ℕ → List ℕ → AbstractBody
 body_of from to name message =
-    record { sender = unwrap_or from []; receiver = unwrap_or to []; name = name; message = message }
+    record { sender = unwrap_or from []; receiver = unwrap_or to []; name = name; message_octets = message }
 
 abbrev pub body_octets : AbstractBody → List ℕ
-body_octets b = named b.sender ++ (named b.receiver ++ (named b.name ++ b.message))
+body_octets b = named b.sender ++ (named b.receiver ++ (named b.name ++ b.message_octets))
 
 -- the octets are the frame with this body: four octets of length, the high one first, and the body
 pub record IsFrameOf (b : AbstractBody) (octets : List ℕ) : Type 0 where
@@ -25,7 +25,7 @@ HasNoFrame b = (has_names b ≡ false) ⊎ (1048576 < length (body_octets b))
 -- the same of a route
 abbrev pub route_body : AbstractRoute → List ℕ → AbstractBody
 route_body route message =
-    record { sender = route.from; receiver = route.to; name = route.message; message = message }
+    record { sender = route.from; receiver = route.to; name = route.message; message_octets = message }
 
 -- What is written of a message: its octets; or a frame that holds it, where a sender or a receiver is given.
 abbrev pub IsPayload : Option (List ℕ) → Option (List ℕ) → List ℕ → List ℕ → List ℕ → Type 0

@@ -23,6 +23,7 @@ pub mod Tallying
 pub mod AtFault
 pub mod Turns
 pub mod Muxing
+pub mod OwnRecords
 -- ---- a message in a file, in a frame or in a frame of a link
 pub mod Numbered
 pub mod Linked
@@ -35,6 +36,7 @@ pub mod Watching
 pub mod Explaining
 pub mod RuleTypes
 pub mod Reasons
+pub mod HeaderNotes
 -- ---- what is listed of a policy, what is shown of a message
 pub mod Listing
 pub mod Shown
@@ -42,6 +44,7 @@ pub mod Remarked
 pub mod Strictness
 -- ---- what encodes a value that is written
 pub mod ValueTexts
+pub mod NoValue
 pub mod Framing
 pub mod Intake
 pub mod Encodes

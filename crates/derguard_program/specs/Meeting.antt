@@ -13,7 +13,7 @@ use Rattle.guard_frames.specs.Runs.{Runs, ReadToLimit}
 use Rattle.guard_frames.specs.declared.running.RunFault.{RunFault}
 use Rattle.guard_frames.specs.declared.running.RunFault.TheVariants.{FrameTooLong, WriteFailed, TornFrame, ReadFailed, OutOfMemory}
 use Rattle.derguard_program.specs.declared.fault.Fault.{Fault}
-use Rattle.derguard_program.specs.declared.fault.Fault.TheVariants.{BadHex, CannotRead, Schema, Policy, Run, NoMemory}
+use Rattle.derguard_program.specs.declared.fault.Fault.TheVariants.{BadHex, CannotRead, TooLarge, Schema, Policy, Run, NoMemory}
 use Rattle.derguard_program.specs.Files.{Told}
 use Rattle.derguard_program.specs.Requests.{AbstractRequest, first, check, decide, show, encode, test, run, ask, mux}
 use Rattle.derguard_program.specs.Words.{Asks, joined, the_app, version}
@@ -59,7 +59,8 @@ GuardsAt told path input out reports (Ok totals) =
 GuardsAt told path input out reports (Err (Run f)) =
     (p : AbstractPolicy) × IsPolicyAt told path p × (f ≡ OutOfMemory → ⊥) × GuardsUnder p input out reports (Err f)
 GuardsAt told path input out reports (Err BadHex) = ⊥
-GuardsAt told path input out reports (Err (CannotRead file)) = GuardsNone told path (CannotRead file) input out reports
+GuardsAt told path input out reports (Err (CannotRead file obstacle)) = GuardsNone told path (CannotRead file obstacle) input out reports
+GuardsAt told path input out reports (Err (TooLarge file)) = GuardsNone told path (TooLarge file) input out reports
 GuardsAt told path input out reports (Err (Schema f)) = GuardsNone told path (Schema f) input out reports
 GuardsAt told path input out reports (Err (Policy f)) = GuardsNone told path (Policy f) input out reports
 GuardsAt told path input out reports (Err NoMemory) = GuardsNone told path NoMemory input out reports
@@ -73,7 +74,8 @@ IsDeviceFault (Run FrameTooLong) input out reports = Unit {0}
 IsDeviceFault (Run TornFrame) input out reports = Unit {0}
 IsDeviceFault (Run OutOfMemory) input out reports = Unit {0}
 IsDeviceFault BadHex input out reports = Unit {0}
-IsDeviceFault (CannotRead file) input out reports = Unit {0}
+IsDeviceFault (CannotRead file obstacle) input out reports = Unit {0}
+IsDeviceFault (TooLarge file) input out reports = Unit {0}
 IsDeviceFault (Schema f) input out reports = Unit {0}
 IsDeviceFault (Policy f) input out reports = Unit {0}
 IsDeviceFault NoMemory input out reports = Unit {0}

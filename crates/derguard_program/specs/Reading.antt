@@ -12,15 +12,15 @@ use Rattle.guard_policy.specs.PolicyFaults as policy
 use Rattle.guard_frames.specs.Texts.{SayPolicy, SayNone}
 use Rattle.guard_frames.specs.declared.texts.TextsFault.TheVariants as texts
 use Rattle.derguard_program.specs.declared.fault.Fault.{Fault}
-use Rattle.derguard_program.specs.declared.fault.Fault.TheVariants.{BadHex, CannotRead, Schema, Policy, Run, NoMemory}
+use Rattle.derguard_program.specs.declared.fault.Fault.TheVariants.{BadHex, CannotRead, TooLarge, Schema, Policy, Run, NoMemory}
 use Rattle.derguard_program.specs.declared.loaded.Loaded.{Loaded}
-use Rattle.derguard_program.specs.Files.{Told, after_read, HasText, HasNone}
+use Rattle.derguard_program.specs.Files.{Told, after_read, HasFront, HasText, HasNone, IsTooLarge}
 
--- the texts at these names in a folder, read in order
+-- the texts at these names in a folder, read in order, each up to one octet more than a module may have
 abbrev pub HaveTexts : Told → List ℕ → List (List ℕ) → List (List ℕ) → Type 0
 HaveTexts told beside [] texts = texts ≡ []
 HaveTexts told beside (name ∷ names) texts =
-    (text : List ℕ) × (others : List (List ℕ)) × HasText told (beside ++ name) text
+    (text : List ℕ) × (others : List (List ℕ)) × HasFront told (beside ++ name) text
     × HaveTexts (after_read told) beside names others × (texts ≡ text ∷ others)
 
 -- the path of the first of these names at which nothing can be read
@@ -28,7 +28,7 @@ abbrev pub FirstMissing : Told → List ℕ → List (List ℕ) → List ℕ →
 FirstMissing told beside [] path = ⊥
 FirstMissing told beside (name ∷ names) path =
     (HasNone told (beside ++ name) × (path ≡ beside ++ name))
-    ⊎ ((text : List ℕ) × HasText told (beside ++ name) text × FirstMissing (after_read told) beside names path)
+    ⊎ ((text : List ℕ) × HasFront told (beside ++ name) text × FirstMissing (after_read told) beside names path)
 
 -- the policy at the path has this text, and then the modules that it lists, beside it, have these
 abbrev pub AreTexts : Told → List ℕ → List ℕ → List (List ℕ) → Type 0
@@ -42,11 +42,22 @@ LacksModule told path file =
     (text : List ℕ) × (files : List (List ℕ)) × HasText told path text × ListsFiles text files
     × FirstMissing (after_read told) (folder path) files file
 
--- Why there are no such texts, the first of these: nothing can be read at the path; the text there lists no modules;
--- nothing can be read at one of them.
+-- nothing can be read at the path, which is named; or the text there is too large; or memory ran out
+abbrev pub IsUnreadable : Told → List ℕ → Fault → Type 0
+IsUnreadable told path (CannotRead file obstacle) = HasNone told path × (string_bytes file ≡ path)
+IsUnreadable told path (TooLarge file) = IsTooLarge told path × (string_bytes file ≡ path)
+IsUnreadable told path NoMemory = Unit {0}
+IsUnreadable told path BadHex = ⊥
+IsUnreadable told path (Schema f) = ⊥
+IsUnreadable told path (Policy f) = ⊥
+IsUnreadable told path (Run f) = ⊥
+
+-- Why there are no such texts, the first of these: nothing can be read at the path; the text there is too large; it
+-- lists no modules; nothing can be read at one of them.
 abbrev pub AreMissing : Told → List ℕ → Fault → Type 0
-AreMissing told path (CannotRead file) =
+AreMissing told path (CannotRead file obstacle) =
     (HasNone told path × (string_bytes file ≡ path)) ⊎ LacksModule told path (string_bytes file)
+AreMissing told path (TooLarge file) = IsTooLarge told path × (string_bytes file ≡ path)
 AreMissing told path (Policy f) =
     (text : List ℕ) × HasText told path text × IsSomeAnd (policy.named f) (ListsNoFiles text)
 AreMissing told path BadHex = ⊥
@@ -84,7 +95,8 @@ abbrev pub SayNothing : List (List ℕ) → List ℕ → Fault → Type 0
 SayNothing modules text (Schema f) = SayNone modules text (texts.Schema f)
 SayNothing modules text (Policy f) = SayNone modules text (texts.Policy f)
 SayNothing modules text BadHex = ⊥
-SayNothing modules text (CannotRead file) = ⊥
+SayNothing modules text (CannotRead file obstacle) = ⊥
+SayNothing modules text (TooLarge file) = ⊥
 SayNothing modules text (Run f) = ⊥
 SayNothing modules text NoMemory = ⊥
 

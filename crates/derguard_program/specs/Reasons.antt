@@ -1,7 +1,8 @@
 -- What comes below the text of a verdict where it is to be explained: of each constraint that the value fails its line
--- with a mark, and the part that fails it; of a denying rule its type, where that is assigned, and the lines of its
--- constraints; of any other verdict that stops a message a sentence; of a message that passes each rule that allows it.
-use Rattle.std.specs.Prelude.{◌≡◌, ℕ, ◌&&◌, List, [], ◌∷◌, ◌++◌, codes, option_map, slice_get, Option, Some, None, IsTrue, if◌then◌else◌}
+-- with a mark, and the part that fails it; of a denying rule its type, where that is assigned, the lines of its
+-- constraints, and the value; of any other verdict that stops a message a sentence, and where no rule allows anything
+-- the rules that the message has; of a message that passes each rule that allows it.
+use Rattle.std.specs.Prelude.{◌≡◌, ℕ, ◌&&◌, List, [], ◌∷◌, ◌++◌, bytes_eq, codes, option_map, slice_get, Option, Some, None, IsTrue, if◌then◌else◌}
 use Rattle.guard_model.specs.declared.site.Site.{Site}
 use Rattle.guard_model.specs.declared.site.Step.{Step}
 use Rattle.guard_model.specs.declared.site.Step.TheVariants.{Component, Element}
@@ -18,7 +19,7 @@ use Rattle.guard_report.specs.Text.{component_of, type_within}
 use Rattle.guard_notes.specs.Marking.{columns}
 use Rattle.guard_notes.specs.Sources.{AbstractSources, place_lines}
 use Rattle.guard_notes.specs.declared.notes.Place.TheVariants.{At}
-use Rattle.derguard_program.specs.Listing.{places_of}
+use Rattle.derguard_program.specs.Listing.{places_of, said_text}
 use Rattle.derguard_program.specs.RuleTypes.{AbstractGrounds, rule_type_lines}
 
 -- ---- the part of a value that fails a constraint
@@ -71,6 +72,16 @@ abbrev pub allowing_lines : AbstractRoute → AbstractValue → List AbstractRul
 allowing_lines route v [] = []
 allowing_lines route v (r ∷ rs) = allowing_line_of route v r ++ allowing_lines route v rs
 
+-- ---- the rules of a message
+
+-- `  north>south order: allow small`
+abbrev pub rule_line_of : List ℕ → AbstractRule → List ℕ
+rule_line_of message r = if bytes_eq r.message message then said_text r ++ codes "\n" else []
+
+abbrev pub message_rules : List ℕ → List AbstractRule → List ℕ
+message_rules message [] = []
+message_rules message (r ∷ rs) = rule_line_of message r ++ message_rules message rs
+
 -- ---- the rule that denies a value
 
 -- the line of each of these constraints, with a mark
@@ -107,7 +118,9 @@ ExplainsVerdict g p route octets (undecodable b) note =
     note ≡ codes "  The octets are no DER encoding of a value of the declared type. docs/FAULTS.md has the breaches.\n"
 ExplainsVerdict g p route octets (outside_type w) note =
     OfValue p route.message octets (λ t v. note ≡ violation_lines g.sources t v w)
-ExplainsVerdict g p route octets (denied_by i) note = note ≡ denied_lines g i (slice_get p.rules i)
+ExplainsVerdict g p route octets (denied_by i) note =
+    OfValue p route.message octets (λ t v. note ≡ denied_lines g i (slice_get p.rules i) ++ part_line t v [])
 ExplainsVerdict g p route octets (not_allowed rs) note =
     OfValue p route.message octets (λ t v. note ≡ shortfall_lines g.sources t v rs)
-ExplainsVerdict g p route octets no_rule note = note ≡ codes "  No rule of the policy allows anything on this route.\n"
+ExplainsVerdict g p route octets no_rule note =
+    note ≡ codes "  No rule of the policy allows anything on this route.\n" ++ message_rules route.message p.rules

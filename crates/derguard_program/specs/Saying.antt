@@ -4,7 +4,7 @@ use Rattle.std.specs.Prelude.{◌≡◌, ◌<◌, ◌⊎◌, ℕ, List, [], ◌+
 use Rattle.guard_frames.specs.declared.running.RunFault.{RunFault}
 use Rattle.guard_frames.specs.declared.running.RunFault.TheVariants.{FrameTooLong, WriteFailed, TornFrame, ReadFailed, OutOfMemory}
 use Rattle.derguard_program.specs.declared.fault.Fault.{Fault}
-use Rattle.derguard_program.specs.declared.fault.Fault.TheVariants.{BadHex, CannotRead, Schema, Policy, Run, NoMemory}
+use Rattle.derguard_program.specs.declared.fault.Fault.TheVariants.{BadHex, CannotRead, TooLarge, Schema, Policy, Run, NoMemory}
 use Rattle.derguard_program.specs.declared.seen.Seen.{Seen}
 use Rattle.derguard_program.specs.Devices.{Device}
 use Rattle.derguard_program.specs.Explaining.{TellsWith}
@@ -30,7 +30,8 @@ IsSaidOfRun OutOfMemory line = line ≡ []
 
 -- of a file that can't be read
 abbrev pub IsSaidOfFault : Fault → List ℕ → Type 0
-IsSaidOfFault (CannotRead file) line = IsSaid (string_bytes file) line
+IsSaidOfFault (CannotRead file obstacle) line = IsSaid (string_bytes file) line
+IsSaidOfFault (TooLarge file) line = line ≡ []
 IsSaidOfFault BadHex line = line ≡ []
 IsSaidOfFault (Schema f) line = line ≡ []
 IsSaidOfFault (Policy f) line = line ≡ []

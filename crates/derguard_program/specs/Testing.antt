@@ -1,5 +1,5 @@
 -- What comes of `test`: each case that doesn't come out as it should, how many, and the rules that no case reaches.
-use Rattle.std.specs.Prelude.{◌≡◌, ◌⊎◌, ℕ, ◌+◌, Bool, ◌||◌, bytes_eq, nat_eq, List, [], ◌∷◌, ◌++◌, codes, decimal, string_bytes, unwrap_or, Option, Some, None, Ok, Err, if◌then◌else◌}
+use Rattle.std.specs.Prelude.{◌≡◌, ◌⊎◌, ℕ, ◌+◌, Bool, ◌||◌, bytes_eq, nat_eq, List, [], ◌∷◌, ◌++◌, codes, decimal, unwrap_or, Option, Some, None, Ok, Err, if◌then◌else◌}
 use Rattle.hex.specs.Hex.{decode_of}
 use Rattle.hex.specs.declared.error.FromHexError.{FromHexError}
 use Rattle.toml.specs.Data.{Items, no_items, item}
@@ -9,16 +9,16 @@ use Rattle.guard_policy.specs.Policies.{AbstractMessage, AbstractPolicy, Abstrac
 use Rattle.guard_policy.specs.Verdicts.{AbstractVerdict}
 use Rattle.guard_report.specs.Text.{verdict_octets}
 use Rattle.derguard_program.specs.declared.fault.Fault.{Fault}
-use Rattle.derguard_program.specs.declared.fault.Fault.TheVariants.{BadHex, CannotRead, Schema, Policy, Run, NoMemory}
+use Rattle.derguard_program.specs.declared.fault.Fault.TheVariants.{NoMemory}
 use Rattle.derguard_program.specs.declared.testing.Came.{Came}
 use Rattle.derguard_program.specs.Answers.{AbstractAnswer}
 use Rattle.derguard_program.specs.Cases.{AbstractCase, case_in, case_text, members_in, IsCasesFault, SaysCases}
 use Rattle.derguard_program.specs.Counted.{first_word}
 use Rattle.derguard_program.specs.Devices.{Input, Device, IsUnread, IsUntouched}
 use Rattle.derguard_program.specs.Encodes.{IsEncoding}
-use Rattle.derguard_program.specs.Faults.{IsText}
-use Rattle.derguard_program.specs.Files.{Told, HasText, HasNone, IsLater}
-use Rattle.derguard_program.specs.Reading.{AbstractLoaded, IsLoadedAt, IsNoPolicyAt, folder}
+use Rattle.derguard_program.specs.Files.{Told, HasText, IsLater}
+use Rattle.derguard_program.specs.NoValue.{no_value_text}
+use Rattle.derguard_program.specs.Reading.{AbstractLoaded, IsLoadedAt, IsNoPolicyAt, IsUnreadable, folder}
 use Rattle.derguard_program.specs.Reached.{Reaches, cover_lines}
 use Rattle.derguard_program.specs.ValueTexts.{names_for, IsNoValue, OfText}
 use Rattle.derguard_program.specs.Writing.{Writes, Tells, TellsText, TellsNoMemory}
@@ -65,8 +65,8 @@ abbrev pub CameOfValue : AbstractLoaded → AbstractRoute → AbstractMessage �
 CameOfValue l route d text came =
     ((v : AbstractValue) × (octets : List ℕ) × IsEncoding (names_for l d) d.ty text v octets
     × CameOfOctets l.policy route octets came)
-    ⊎ ((f : Fault) × OfText (IsNoValue (names_for l d) d.ty text) f × (f ≡ NoMemory → ⊥) × IsText f came.text
-    × (came.reached ≡ []))
+    ⊎ ((f : Fault) × OfText (IsNoValue (names_for l d) d.ty text) f × (f ≡ NoMemory → ⊥)
+    × (came ≡ only (no_value_text f)))
 
 -- where the message is declared
 abbrev pub CameOfText : AbstractLoaded → AbstractRoute → Option AbstractMessage → List ℕ → AbstractCame → Type 0
@@ -144,15 +144,6 @@ TestsText l cover text out err status =
     × Writes a.out a.status out err status)
     ⊎ ((fault : List ℕ) × IsCasesFault text fault × IsUntouched out × TellsText fault 2 err status)
     ⊎ (IsUntouched out × TellsNoMemory err status)
-
--- nothing can be read at the path, which is named; or memory ran out
-abbrev pub IsUnreadable : Told → List ℕ → Fault → Type 0
-IsUnreadable told path (CannotRead file) = HasNone told path × (string_bytes file ≡ path)
-IsUnreadable told path NoMemory = Unit {0}
-IsUnreadable told path BadHex = ⊥
-IsUnreadable told path (Schema f) = ⊥
-IsUnreadable told path (Policy f) = ⊥
-IsUnreadable told path (Run f) = ⊥
 
 -- of the file at the path; or it can't be read
 abbrev pub TestsFile : AbstractLoaded → Bool → Told → List ℕ → Device → Device → ℕ → Type 0

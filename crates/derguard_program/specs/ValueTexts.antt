@@ -16,10 +16,10 @@ use Rattle.guard_schema.specs.Known.{values_in}
 use Rattle.guard_policy.specs.Policies.{AbstractMessage}
 use Rattle.guard_schema.specs.declared.fault.SchemaFault.{SchemaFault}
 use Rattle.guard_schema.specs.declared.fault.SchemaFault.TheVariants.{Lex, Syntax, Name, Tag, Clash, Cons, Value, DefaultOutside, TooLarge, OutOfMemory}
-use Rattle.guard_notes.specs.Notes.{schema_note}
+use Rattle.guard_notes.specs.Notes.{schema_place}
 use Rattle.guard_notes.specs.Sources.{AbstractSources, sources, place_lines}
 use Rattle.derguard_program.specs.declared.fault.Fault.{Fault}
-use Rattle.derguard_program.specs.declared.fault.Fault.TheVariants.{BadHex, CannotRead, Schema, Policy, Run, NoMemory}
+use Rattle.derguard_program.specs.declared.fault.Fault.TheVariants.{BadHex, CannotRead, TooLarge, Schema, Policy, Run, NoMemory}
 use Rattle.derguard_program.specs.Reading.{AbstractLoaded}
 
 -- What values names mean in a text that writes a value of a message: those that they mean in the module of its declared
@@ -61,7 +61,8 @@ abbrev pub OfText : (SchemaFault → Type 0) → Fault → Type 0
 OfText Is (Schema f) = Is f
 OfText Is NoMemory = Unit {0}
 OfText Is BadHex = ⊥
-OfText Is (CannotRead file) = ⊥
+OfText Is (CannotRead file obstacle) = ⊥
+OfText Is (TooLarge file) = ⊥
 OfText Is (Policy f) = ⊥
 OfText Is (Run f) = ⊥
 
@@ -71,9 +72,10 @@ value_sources text = sources [] (codes "value" ∷ []) (text ∷ [])
 
 -- what comes after the line of such a fault: its place, and the line with a mark under the column
 abbrev pub value_note : List ℕ → Fault → List ℕ
-value_note text (Schema f) = option_map_or (λ n. place_lines (value_sources text) n.place) (schema_note f) []
+value_note text (Schema f) = option_map_or (place_lines (value_sources text)) (schema_place f) []
 value_note text BadHex = []
-value_note text (CannotRead file) = []
+value_note text (CannotRead file obstacle) = []
+value_note text (TooLarge file) = []
 value_note text (Policy f) = []
 value_note text (Run f) = []
 value_note text NoMemory = []

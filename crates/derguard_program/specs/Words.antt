@@ -131,7 +131,9 @@ IsCommand name rows (mux path verbose) =
 
 -- an option of a message, of which the next word is the value
 abbrev pub takes_next : Text → Bool
-takes_next word = bytes_eq word (codes "--from") || bytes_eq word (codes "--to") || bytes_eq word (codes "--message")
+takes_next word =
+    bytes_eq word (codes "--from") || bytes_eq word (codes "--to") || bytes_eq word (codes "--message")
+    || bytes_eq word (codes "--frame") || bytes_eq word (codes "--link")
 
 -- The words as `clap` reads them: an option of a message and the word after it are one, as `--from=a`, so that the
 -- value may be any word. After `--` all words stay as they are.

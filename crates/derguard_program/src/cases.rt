@@ -4,13 +4,16 @@ ghost use Rattle.std.specs.Prelude.{string_bytes, IfOk, IfErr, OnOk};
 ghost use Rattle.toml.specs.Data.{get_member, as_array};
 ghost use Rattle.toml.specs.View.{items_view, table_view, view};
 ghost use Rattle.guard_policy.specs.Documents.{IsDocument, IsNoDocument};
+ghost use Rattle.guard_policy.specs.Names.{is_name};
 ghost use Rattle.derguard_program.specs.Cases.{case_view, text_at, text_of, case_in, members_in, cases_at, case_text};
-ghost use Rattle.derguard_program.specs.Cases.{unknown_text, missing_text, message_text, first_unknown, first_missing};
+ghost use Rattle.derguard_program.specs.Cases.{unknown_text, missing_text, message_text, bad_name_text};
+ghost use Rattle.derguard_program.specs.Cases.{first_unknown, first_missing, first_nameless, name_keys};
 ghost use Rattle.derguard_program.specs.Cases.{required_keys, case_keys, has_one, case_fault, list_fault, cases_fault};
 ghost use Rattle.derguard_program.specs.declared.cases.Untested.TheVariants.{NoMemory};
 ghost use Rattle.derguard_program.specs.inside.Caseless.{Meets, OfFault};
 
 use crate::parties::is_among;
+use guard_policy::is_name;
 use std::alloc::{AllocError, Global};
 use toml::{Table, Value};
 
@@ -56,7 +59,7 @@ pub fn document(alloc: Global, text: &[u8]) -> Result<Table, Untested>
     }
 }
 
-/// The cases of a document, each without a fault; or the first fault (T2 to T4).
+/// The cases of a document, each without a fault; or the first fault (T2 to T5).
 pub fn cases_of<'a>(alloc: Global, top: &'a Table) -> Result<&'a [Value], Untested>
     ensures cases { IfOk result (λ items. cases_at (table_view top.now) ≡ Some (items_view items.now)) }
     ensures right { OnOk result (cases_fault (table_view top.now) ≡ None) }
@@ -126,6 +129,9 @@ fn check_case(alloc: Global, number: usize, table: &Table) -> Result<(), Unteste
     if !has_one(table) {
         return Err(Untested::Faulty(message_text(alloc, number)?));
     }
+    if let Some(key) = nameless_in_case(table) {
+        return Err(Untested::Faulty(bad_name_text(alloc, &case_text(alloc, number)?, key)?));
+    }
     Ok(())
 }
 
@@ -153,6 +159,12 @@ fn message_text(alloc: Global, number: usize) -> Result<String, AllocError>
     ensures { IfOk result (λ text. string_bytes text ≡ message_text (case_text number)) }
 {
     format!(in alloc; "T4 OctetsOrValue case {number}")
+}
+
+fn bad_name_text(alloc: Global, place: &str, key: &str) -> Result<String, AllocError>
+    ensures { IfOk result (λ text. string_bytes text ≡ bad_name_text place.now key.now) }
+{
+    format!(in alloc; "T5 BadName {place} {key}")
 }
 
 // ---- keys
@@ -189,6 +201,27 @@ fn missing_in_case(table: &Table) -> Option<&'static str>
     } else {
         None
     }
+}
+
+/// The first of the keys of a route at which there is no name.
+fn nameless_in_case(table: &Table) -> Option<&'static str>
+    ensures { option_map (λ key. key.now) result ≡ first_nameless name_keys (table_view table.now) }
+{
+    if !has_name(table, "from") {
+        Some("from")
+    } else if !has_name(table, "to") {
+        Some("to")
+    } else if !has_name(table, "message") {
+        Some("message")
+    } else {
+        None
+    }
+}
+
+fn has_name(table: &Table, key: &str) -> bool
+    ensures { result ≡ is_name (text_of key.now (table_view table.now)) }
+{
+    is_name(text_of(table, key).as_bytes())
 }
 
 fn has_text(table: &Table, key: &str) -> bool

@@ -1,5 +1,5 @@
 //! What becomes of one message.
-ghost use Rattle.std.specs.Prelude.{◌≡◌, ◌⊎◌, [], map, option_map, string_bytes, Ok, Err, IfOk, IfErr};
+ghost use Rattle.std.specs.Prelude.{◌≡◌, ◌⊎◌, ◌++◌, [], map, option_map, string_bytes, Ok, Err, IfOk, IfErr};
 ghost use Rattle.hex.specs.Hex.{decode_of};
 ghost use Rattle.hex.specs.declared.error.FromHexError.{FromHexError};
 ghost use Rattle.guard_policy.specs.PolicyView.{policy_view, route_view};
@@ -12,8 +12,10 @@ ghost use Rattle.guard_syntax.specs.ModuleViews.{module_view};
 ghost use Rattle.toml.specs.Data.{Members};
 ghost use Rattle.guard_notes.specs.Sources.{sources};
 ghost use Rattle.derguard_program.specs.Answers.{answer_view, verdict_status, IsVerdict, IsDecided, IsUndecided};
-ghost use Rattle.derguard_program.specs.Answers.{IsExplainedVerdict, IsHeldExplained, IsExplainedBy, IsExplainedOver};
+ghost use Rattle.derguard_program.specs.Answers.{IsExplainedVerdict, IsFoundExplained, IsHeldExplained};
+ghost use Rattle.derguard_program.specs.Answers.{IsExplainedBy, IsExplainedOver};
 ghost use Rattle.derguard_program.specs.Answers.{IsDecidedExplained, OfHeld};
+ghost use Rattle.derguard_program.specs.HeaderNotes.{header_note};
 ghost use Rattle.derguard_program.specs.Explaining.{IsExplained, IsUndecidedExplained, IsExplanation};
 ghost use Rattle.derguard_program.specs.Reading.{SayNothing};
 ghost use Rattle.derguard_program.specs.RuleTypes.{grounds_view};
@@ -25,6 +27,7 @@ use crate::checking::{load, read_explained};
 use crate::explaining::{Refusal, sources_of, sources_of_path};
 use crate::fault::Fault;
 use crate::files::Files;
+use crate::header_notes::header_note;
 use crate::holding::{bad_header, body_of, route_in};
 use crate::loaded::Loaded;
 use crate::octets::add;
@@ -77,6 +80,45 @@ pub fn decide_explained<F: Files>(
         }
         Err(fault) => Err(Refusal::new(alloc, &sources_of_path(path), &[], fault)),
     }
+}
+
+/// The explained verdict on the message that these octets hold; or why they hold none.
+pub fn explain_found<F: Files>(
+    alloc: Global,
+    path: &str,
+    held: Option<Body>,
+    octets: &[u8],
+    files: &mut F,
+) -> Result<Answer, Refusal>
+    ensures decided { IfOk result (λ a. IsFoundExplained (F.told files.old) path.now (option_map body_view held.entry)
+        octets.now (answer_view a)) }
+    ensures undecided { IfErr result
+        (λ r. IsExplained (F.told files.old) path.now r.fault (string_bytes r.note)) }
+{
+    match held {
+        Some(body) => explain_held(alloc, path, Some(body), files),
+        None => match explain_held(alloc, path, None, files) {
+            Ok(answer) => match with_header(alloc, answer, octets) {
+                Ok(answer) => Ok(answer),
+                Err(_) => Err(Refusal::no_memory(alloc)),
+            },
+            Err(refusal) => Err(refusal),
+        },
+    }
+}
+
+/// Why these octets aren't three names and a message, below the answer.
+fn with_header(alloc: Global, answer: Answer, octets: &[u8]) -> Result<Answer, OutOfMemory>
+    ensures text { IfOk result (λ a. a.out.items ≡ answer.out.items ++ header_note octets.now) }
+    ensures status { IfOk result (λ a. a.status ≡ answer.status) }
+{
+    let note = header_note(alloc, octets)?;
+    let mut out = answer.out;
+    add(&mut out, &note)?;
+    Ok(Answer {
+        out,
+        status: answer.status,
+    })
 }
 
 /// The explained verdict on a message that is held.
@@ -203,7 +245,13 @@ fn explained_answer(
         (option_map body_view held.entry) (answer_view a)) }
 {
     match held {
-        Some(body) => explained_verdict(alloc, grounds, policy, &route_in(&body), body.message),
+        Some(body) => explained_verdict(
+            alloc,
+            grounds,
+            policy,
+            &route_in(&body),
+            body.message_octets,
+        ),
         None => bad_header(alloc),
     }
 }

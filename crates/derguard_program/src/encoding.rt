@@ -39,7 +39,7 @@ use crate::written::encoded;
 use guard_eval::{Violation, first_violation};
 use guard_frames::{Sink, Source};
 use guard_model::{OutOfMemory, Ty, Value};
-use guard_notes::{Sources, place_lines, schema_note};
+use guard_notes::{Sources, place_lines, schema_place};
 use guard_policy::{Policy, Route, SaidMessage, Verdict};
 use guard_report::verdict_text;
 use guard_syntax::Module;
@@ -228,7 +228,7 @@ fn value_note(alloc: Global, text: &[u8], fault: &Fault) -> Result<String, OutOf
     let Fault::Schema(fault) = fault else {
         return Ok(String::new(alloc));
     };
-    let Some(note) = schema_note(fault) else {
+    let Some(place) = schema_place(fault) else {
         return Ok(String::new(alloc));
     };
     let files = vec![in alloc; String::from_str(alloc, "value")?]?;
@@ -238,7 +238,7 @@ fn value_note(alloc: Global, text: &[u8], fault: &Fault) -> Result<String, OutOf
         files: files.as_slice(),
         modules: modules.as_slice(),
     };
-    Ok(place_lines(alloc, &sources, note.place)?)
+    Ok(place_lines(alloc, &sources, place)?)
 }
 
 // ---- what is written

@@ -1,10 +1,11 @@
 //! What comes after the line of a fault where it is to be explained.
 ghost use Rattle.std.specs.Prelude.{◌≡◌, ◌⊎◌, [], map, string_bytes, IfOk};
 ghost use Rattle.guard_notes.specs.Sources.{sources, sources_view};
-ghost use Rattle.derguard_program.specs.Explaining.{IsExplanation};
+ghost use Rattle.derguard_program.specs.Explaining.{IsExplanation, obstacle_line, unread_note};
 ghost use Rattle.derguard_program.specs.declared.fault.Fault.TheVariants.{NoMemory};
 
 use crate::fault::Fault;
+use crate::files::Obstacle;
 use crate::texts::Texts;
 use guard_model::OutOfMemory;
 use guard_notes::{Sources, explain_policy, explain_schema};
@@ -75,16 +76,43 @@ fn explanation(
 {
     match fault {
         Fault::Schema(fault) => explain_schema(alloc, sources, fault),
-        Fault::Policy(fault) => explain_policy(alloc, sources.path, policy, fault),
+        Fault::Policy(fault) => {
+            explain_policy(alloc, sources.path, sources.modules, policy, fault)
+        },
         Fault::BadHex => sentence(
             alloc,
             "  A message is written by pairs of hexadecimal digits, 0 to 9 and a to f. Mend the digits.\n",
         ),
-        Fault::CannotRead(_) => sentence(
+        Fault::CannotRead(_, obstacle) => unread_note(alloc, *obstacle),
+        Fault::TooLarge(_) => sentence(
             alloc,
-            "  Nothing can be read at this path. Module files are looked for in the folder of the policy.\n",
+            "  A policy has 67,108,864 octets at most. Look whether this path leads to one.\n",
         ),
         Fault::Run(_) | Fault::NoMemory => Ok(String::new(alloc)),
+    }
+}
+
+fn unread_note(alloc: Global, obstacle: Obstacle) -> Result<String, OutOfMemory>
+    ensures { IfOk result (λ note. string_bytes note ≡ unread_note obstacle) }
+{
+    let mut note = String::from_str(alloc, obstacle_line(obstacle))?;
+    note.push_str(
+        "  Nothing can be read at this path. Module files are looked for in the folder of the policy.\n",
+    )?;
+    Ok(note)
+}
+
+fn obstacle_line(obstacle: Obstacle) -> &'static str
+    ensures { result.now ≡ obstacle_line obstacle }
+{
+    match obstacle {
+        Obstacle::Untold => "",
+        Obstacle::NoFile => "  There is no file.\n",
+        Obstacle::LostLink => "  There is a link, and nothing where it leads.\n",
+        Obstacle::Folder => "  There is a folder in place of a file.\n",
+        Obstacle::NotAllowed => {
+            "  This user may not read the file, or not go through a folder on the way to it.\n"
+        }
     }
 }
 

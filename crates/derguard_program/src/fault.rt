@@ -4,6 +4,7 @@ ghost use Rattle.guard_frames.specs.Texts.{of_schema};
 ghost use Rattle.derguard_program.specs.Faults.{fault_status, IsText, StandsForPolicy, of_texts};
 ghost use Rattle.derguard_program.specs.declared.fault.Fault.TheVariants as fault;
 
+use crate::files::Obstacle;
 use guard_frames::{RunFault, TextsFault};
 use guard_model::OutOfMemory;
 use guard_policy::PolicyFault;
@@ -16,7 +17,9 @@ pub enum Fault {
     /// The hexadecimal digits write no octets.
     BadHex,
     /// The file at this path can't be read.
-    CannotRead(String),
+    CannotRead(String, Obstacle),
+    /// The file at this path has more octets than a policy or a file of cases may have.
+    TooLarge(String),
     /// The modules' first fault.
     Schema(SchemaFault),
     /// The policy's first fault.
@@ -33,7 +36,11 @@ impl Fault {
         ensures { result ≡ fault_status self.now }
     {
         match self {
-            Fault::BadHex | Fault::CannotRead(_) | Fault::Schema(_) | Fault::Policy(_) => 2,
+            Fault::BadHex
+            | Fault::CannotRead(_, _)
+            | Fault::TooLarge(_)
+            | Fault::Schema(_)
+            | Fault::Policy(_) => 2,
             Fault::Run(_) | Fault::NoMemory => 3,
         }
     }
@@ -44,7 +51,8 @@ impl Fault {
     {
         match self {
             Fault::BadHex => String::from_str(alloc, "bad hex"),
-            Fault::CannotRead(path) => format!(in alloc; "cannot read {path}"),
+            Fault::CannotRead(path, _) => format!(in alloc; "cannot read {path}"),
+            Fault::TooLarge(path) => format!(in alloc; "too large {path}"),
             Fault::Schema(fault) => format!(in alloc; "{fault}"),
             Fault::Policy(fault) => format!(in alloc; "{fault}"),
             Fault::Run(fault) => format!(in alloc; "{fault}"),

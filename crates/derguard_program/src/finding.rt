@@ -19,7 +19,7 @@ use crate::numbered::{natural_in, nth_frame, number_in};
 use crate::outputs::{tell, tell_bad_record, tell_text};
 use crate::question::Spot;
 use crate::records::new_room;
-use crate::texts::read;
+use crate::texts::read_front;
 use guard_frames::{RunFault, Sink, Source};
 use guard_model::OutOfMemory;
 use std::alloc::Global;
@@ -94,7 +94,7 @@ fn kept_octets<F: Files, S: Source>(
     Ok(octets)
 }
 
-/// All octets at the path; of standard input one more than a message has, where there are more.
+/// All octets at the path; where there are more than a message has, one more than that.
 fn all_at<F: Files, S: Source>(
     alloc: Global,
     path: &str,
@@ -109,7 +109,7 @@ fn all_at<F: Files, S: Source>(
     if path == "-" {
         read_input(alloc, input)
     } else {
-        read(alloc, path, files)
+        read_front(alloc, path, files)
     }
 }
 

@@ -13,8 +13,9 @@ use std::alloc::Global;
 /// The most octets of a body.
 const LONGEST_BODY: usize = 1_048_576;
 
-/// The frame that holds the message on the route; none where one of the names of the route is none, or the body would
-/// have more than 1,048,576 octets. It fails only where memory runs out.
+/// The frame that carries this message, with the three names of the route in its header. None where one of the three
+/// isn't a name of 1 to 63 letters, digits, `-`, `_` and `.`, or the frame's body would have more than 1,048,576
+/// octets. OutOfMemory is the only error.
 pub fn frame(alloc: Global, route: &Route, message: &[u8]) -> Result<Option<Vec<u8>>, OutOfMemory>
     ensures made { IfOk result (λ found. IfSome found (λ frame. IsFrameOf
         (route_body (route_view route.now) message.now) frame.items)) }

@@ -59,7 +59,7 @@ pub fn body_of<'a>(from: &'a [u8], to: &'a [u8], message: &'a [u8], octets: &'a 
         sender: from,
         receiver: to,
         name: message,
-        message: octets,
+        message_octets: octets,
     }
 }
 
@@ -101,7 +101,7 @@ fn verdict_answer(alloc: Global, policy: &Policy, held: Option<Body>) -> Result<
         (answer_view a)) }
 {
     match held {
-        Some(body) => verdict_on(alloc, policy, &route_in(&body), body.message),
+        Some(body) => verdict_on(alloc, policy, &route_in(&body), body.message_octets),
         None => bad_header(alloc),
     }
 }
@@ -126,7 +126,7 @@ fn shown_answer(alloc: Global, policy: &Policy, held: Option<Body>) -> Result<An
         (option_map body_view held.entry) (answer_view a)) }
 {
     match held {
-        Some(body) => show_octets(alloc, policy, body.name, body.message),
+        Some(body) => show_octets(alloc, policy, body.name, body.message_octets),
         None => bad_header(alloc),
     }
 }

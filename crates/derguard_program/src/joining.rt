@@ -52,5 +52,9 @@ fn next_word(
 fn takes_next(word: &str) -> bool
     ensures { result ≡ takes_next word.now }
 {
-    word == "--from" || word == "--to" || word == "--message"
+    word == "--from"
+        || word == "--to"
+        || word == "--message"
+        || word == "--frame"
+        || word == "--link"
 }

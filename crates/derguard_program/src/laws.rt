@@ -1,26 +1,34 @@
 //! Laws of the definitions. The functions do nothing when they run.
-ghost use Rattle.std.specs.Prelude.{◌≡◌, ◌≤◌, ℕ, List, [], Some, IsTrue, length};
+ghost use Rattle.std.specs.Prelude.{◌≡◌, ◌<◌, ◌≤◌, ℕ, List, [], Option, Some, IsTrue, length};
 ghost use Rattle.std.specs.Io.KnownBytes.{Appends};
 ghost use Rattle.clap.specs.Words.{Text, fault_of};
 ghost use Rattle.derguard_program.specs.Devices.{Input, Device};
 ghost use Rattle.derguard_program.specs.Files.{Told};
-ghost use Rattle.derguard_program.specs.Muxing.{GuardsLinks};
+ghost use Rattle.derguard_program.specs.Muxing.{GuardsLinks, new_mux};
+ghost use Rattle.derguard_program.specs.OwnRecords.{AreTurns};
 ghost use Rattle.derguard_program.specs.Reading.{AbstractLoaded, IsLoadedAt, IsPolicyAt};
 ghost use Rattle.derguard_program.specs.Records.{Record, AreRecords, HasNoRecord};
 ghost use Rattle.derguard_program.specs.Requests.{AbstractRequest};
+ghost use Rattle.derguard_program.specs.Turns.{AbstractMux, Written, InTurn};
+ghost use Rattle.derguard_program.specs.declared.seen.Seen.{Seen};
 ghost use Rattle.derguard_program.specs.Words.{Asks, joined, the_app};
 ghost use Rattle.derguard_program.specs.Encodes.{IsEncoding};
 ghost use Rattle.guard_der.specs.Der.{der};
 ghost use Rattle.guard_der.specs.Fits.{fits};
 ghost use Rattle.guard_der.specs.ProperConstraints.{is_short};
 ghost use Rattle.guard_der.specs.Sound.{is_sound};
+ghost use Rattle.guard_frames.specs.GatewaySteps.{Turn};
+ghost use Rattle.guard_frames.specs.OwnPieces.{pieces_of, added_to, is_broken};
+ghost use Rattle.guard_frames.specs.OwnStream.{Gives};
 ghost use Rattle.guard_lexer.specs.Lexing.{longest_text};
+ghost use Rattle.guard_policy.specs.Policies.{AbstractPolicy};
 ghost use Rattle.guard_model.specs.AbstractType.{AbstractType};
 ghost use Rattle.guard_model.specs.AbstractValue.{AbstractValue};
 ghost use Rattle.guard_report.specs.Shown.{value_shown};
 ghost use Rattle.guard_values.specs.Meanings.{Meaning};
 ghost use Rattle.reads_back.specs.Names.{HasNames, is_seen};
 
+use guard_frames::laws::law_own_stream;
 use reads_back::laws::{law_one_value_of_text, law_shown_reads_back};
 
 /// Words in which nothing is wrong ask for a request, and for one alone.
@@ -47,6 +55,19 @@ pub fn law_status_of_links()
     ensures silent { (told : Told) (path : List ℕ) (input : Input) (out err : Device) →
         GuardsLinks told path input out err 0 → Appends err.before err.after [] }
 {}
+
+/// Whatever else comes in the stream of records, what is written of one of its sixteen links is what that link's own
+/// stream gives: each frame of its pieces decided, numbered and reported by the policy in force as its last octet came,
+/// up to a failure of an output of the link. Its own stream is its pieces until its first end, or until a piece that
+/// was answered with a fault.
+pub fn law_own_records()
+    ensures { (k : ℕ) (path : List ℕ) (p : AbstractPolicy) (told : Told) (seen : Option Seen) (records : List Record)
+        (written : List Written) (last : AbstractMux) → k < 16 → InTurn path (new_mux p told seen) records written last
+        → (turns : List Turn) × AreTurns path (new_mux p told seen) records written turns
+        × Gives (pieces_of k p turns) (added_to k turns) (is_broken k turns) }
+{
+    law_own_stream();
+}
 
 /// What is loaded to write values under the policy at a path has the policy that is there.
 pub fn law_loaded()

@@ -34,9 +34,12 @@
 //! | Which octets has a value that is written? | `encoding.rt`, `framing.rt` | `specs/Encodes.antt`, `specs/Framing.antt` |
 //! | Which value does a text write, and why none? | `written.rt` | `specs/ValueTexts.antt` |
 //! | Which cases does a text say, and which come out as they should? | `cases.rt`, `testing.rt` | `specs/Cases.antt`, `specs/Testing.antt` |
+//! | What is said of a text that writes no value? | `no_value.rt` | `specs/NoValue.antt` |
 //! | Which rules does no case reach? | `reached.rt`, `allowing.rt` | `specs/Reached.antt` |
 //! | What is all that a source gives? | `intake.rt` | `specs/Intake.antt` |
 //! | What is shown below a verdict where it is to be explained? | `reasons.rt`, `allowing.rt` | `specs/Reasons.antt` |
+//! | Which names stand in a frame that isn't three names and a message, and why not the next one? | `header_notes.rt` | `specs/HeaderNotes.antt` |
+//! | Which rules has a message? | `message_rules.rt` | `specs/Reasons.antt` |
 //! | Which type has a rule, and where is it assigned? | `rule_types.rt` | `specs/RuleTypes.antt` |
 //! | Which line and status has a fault? | `fault.rt`, `outputs.rt` | `specs/Faults.antt`, `specs/Writing.antt` |
 //! | Which policy is built in? | `first_run.rt` | `specs/FirstRun.antt` |
@@ -62,6 +65,7 @@ mod frames;
 mod framing;
 mod giving;
 mod guarding;
+mod header_notes;
 mod holding;
 mod intake;
 mod joining;
@@ -72,7 +76,9 @@ mod listing;
 mod loaded;
 mod looking;
 mod meeting;
+mod message_rules;
 mod muxing;
+mod no_value;
 mod numbered;
 mod octets;
 mod outputs;
@@ -100,7 +106,7 @@ mod watching_links;
 mod words;
 mod written;
 
-pub use files::{Files, FilesFault};
+pub use files::{Files, FilesFault, Obstacle};
 pub use meeting::program;
 pub use outputs::{tell_no_memory, tell_text};
 pub use saying::{Failing, Says};

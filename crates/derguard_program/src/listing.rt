@@ -314,7 +314,8 @@ fn add_rule(text: &mut Vec<u8>, rules: &[Found], found: &Found) -> Result<(), Ou
     add(text, b"\n")
 }
 
-fn add_said(text: &mut Vec<u8>, rule: &SaidRule) -> Result<(), OutOfMemory>
+/// Adds a rule's route, its effect and its name.
+pub fn add_said(text: &mut Vec<u8>, rule: &SaidRule) -> Result<(), OutOfMemory>
     ensures { OnOk result (text.new.items ≡ text.old.items ++ said_text (said_view rule.now)) }
 {
     add(text, b"  ")?;

@@ -8,7 +8,7 @@ ghost use Rattle.derguard_program.specs.Finding.{AnswersFound};
 ghost use Rattle.derguard_program.specs.Questions.{question_view, asked_route, spot_view};
 ghost use Rattle.derguard_program.specs.Reading.{IsNoPolicyAt};
 
-use crate::deciding::{decide, decide_explained, explain_held};
+use crate::deciding::{decide, decide_explained, explain_found};
 use crate::files::Files;
 use crate::finding::{find, tell_unfound};
 use crate::giving::{give, give_explained};
@@ -113,7 +113,7 @@ fn decide_found<F: Files, S: Source, O: Sink, E: Sink>(
 ) -> u8
     ensures { AnswersFound (λ later octets. GivesHeld (question_view question.now).explain later
         (question_view question.now).policy
-        (held_in (asked_route (question_view question.now)) (spot_view spot.now) octets))
+        (held_in (asked_route (question_view question.now)) (spot_view spot.now) octets) octets)
         (F.told files.old) (spot_view spot.now)
         (source_of S.tells S.takes S.has_failed input.old input.new)
         (device_of O.taken O.has_failed out.old out.new)
@@ -123,29 +123,30 @@ fn decide_found<F: Files, S: Source, O: Sink, E: Sink>(
         Ok(octets) => {
             let route = route_asked(question);
             let held = held_in(route.from, route.to, route.message, spot, &octets);
-            give_held(alloc, question, held, files, out, err)
+            give_held(alloc, question, held, &octets, files, out, err)
         }
         Err(reason) => tell_unfound(alloc, &reason, err),
     }
 }
 
-/// Says what becomes of a message that is held.
+/// Says what becomes of a message that is held by these octets.
 fn give_held<F: Files, O: Sink, E: Sink>(
     alloc: Global,
     question: &Question,
     held: Option<Body>,
+    octets: &[u8],
     files: &mut F,
     out: &mut O,
     err: &mut E,
 ) -> u8
     ensures { GivesHeld (question_view question.now).explain (F.told files.old) (question_view question.now).policy
-        (option_map body_view held.entry) (device_of O.taken O.has_failed out.old out.new)
+        (option_map body_view held.entry) octets.now (device_of O.taken O.has_failed out.old out.new)
         (device_of E.taken E.has_failed err.old err.new) result }
 {
     if question.explain {
         give_explained(
             alloc,
-            explain_held(alloc, question.policy, held, files),
+            explain_found(alloc, question.policy, held, octets, files),
             out,
             err,
         )

@@ -1,5 +1,5 @@
 //! What comes below the text of a verdict where it is to be explained.
-ghost use Rattle.std.specs.Prelude.{◌≡◌, ◌++◌, Some, codes, map, option_map, IfOk, OnOk, IsTrue};
+ghost use Rattle.std.specs.Prelude.{◌≡◌, ◌++◌, [], Some, codes, map, option_map, slice_get, IfOk, OnOk, IsTrue};
 ghost use Rattle.guard_model.specs.TypeView.{type_view, constraint_view, constraints_of};
 ghost use Rattle.guard_model.specs.ValueView.{value_view};
 ghost use Rattle.guard_der.specs.Der.{der};
@@ -13,13 +13,14 @@ ghost use Rattle.guard_notes.specs.Sources.{place_lines, sources_view};
 ghost use Rattle.derguard_program.specs.RuleTypes.{grounds_view, rule_type_lines};
 ghost use Rattle.derguard_program.specs.Listing.{places_in};
 ghost use Rattle.guard_notes.specs.Marking.{columns};
-ghost use Rattle.derguard_program.specs.Reasons.{step_name, name_at, name_before, part_shown, part_line};
+ghost use Rattle.derguard_program.specs.Reasons.{message_rules, step_name, name_at, name_before, part_shown, part_line};
 ghost use Rattle.derguard_program.specs.Reasons.{violation_lines, shortfall_lines, allowing_lines, lines_of_places};
 ghost use Rattle.derguard_program.specs.Reasons.{type_lines, denied_lines, OfValue, ExplainsVerdict};
 ghost use Rattle.guard_notes.specs.declared.notes.Place.TheVariants.{At};
 ghost use Rattle.derguard_program.specs.inside.Values.{HasValue};
 
 use crate::allowing::allowing_lines;
+use crate::message_rules::message_rules;
 use crate::octets::add;
 use crate::rule_types::{Grounds, rule_type_lines};
 use guard_der::{DecodeFault, decode};
@@ -57,15 +58,28 @@ pub fn verdict_note(
         Verdict::OutsideType(violation) => {
             outside_note(alloc, &grounds.sources, policy, route, octets, violation)
         }
-        Verdict::DeniedBy(number) => denied_note(alloc, grounds, *number, policy.rule(*number)),
+        Verdict::DeniedBy(number) => {
+            denied_by_note(alloc, grounds, policy, route, octets, *number)
+        }
         Verdict::NotAllowed(shortfalls) => {
             not_allowed_note(alloc, &grounds.sources, policy, route, octets, shortfalls)
         }
-        Verdict::NoRule => sentence(
-            alloc,
-            "  No rule of the policy allows anything on this route.\n",
-        ),
+        Verdict::NoRule => no_rule_note(alloc, policy, route.message),
     }
+}
+
+/// That no rule allows anything, and each rule of the message.
+fn no_rule_note(alloc: Global, policy: &Policy, message: &[u8]) -> Result<Vec<u8>, OutOfMemory>
+    ensures { IfOk result (λ note. note.items ≡ codes "  No rule of the policy allows anything on this route.\n"
+        ++ message_rules message.now (policy_view policy.now).rules) }
+{
+    let rules = message_rules(alloc, policy, message)?;
+    let mut note = sentence(
+        alloc,
+        "  No rule of the policy allows anything on this route.\n",
+    )?;
+    add(&mut note, &rules)?;
+    Ok(note)
 }
 
 fn sentence(alloc: Global, text: &str) -> Result<Vec<u8>, OutOfMemory>
@@ -147,6 +161,26 @@ pub fn value_of<'a>(
         Err(DecodeFault::Breach(_)) => unreachable!(),
         Err(DecodeFault::OutOfMemory) => Err(OutOfMemory),
     }
+}
+
+/// What is shown of the denying rule of this number, and the value that it has.
+fn denied_by_note(
+    alloc: Global,
+    grounds: &Grounds,
+    policy: &Policy,
+    route: &Route,
+    octets: &[u8],
+    number: usize,
+) -> Result<Vec<u8>, OutOfMemory>
+    requires { HasValue (policy_view policy.now) (route_view route.now).message octets.now }
+    ensures { IfOk result (λ note. OfValue (policy_view policy.now) (route_view route.now).message octets.now
+        (λ t v. note.items ≡ denied_lines (grounds_view grounds.now) number
+        (slice_get (policy_view policy.now).rules number) ++ part_line t v [])) }
+{
+    let (ty, value) = value_of(alloc, policy, route.message, octets)?;
+    let mut note = denied_note(alloc, grounds, number, policy.rule(number))?;
+    add_part(alloc, &mut note, ty, &value, &[])?;
+    Ok(note)
 }
 
 /// The type of the denying rule of this number, where it is assigned and constrained, and what follows for the value.

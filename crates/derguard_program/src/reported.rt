@@ -2,7 +2,7 @@
 ghost use Rattle.std.specs.Prelude.{◌≡◌, ◌≤◌, ◌+◌, ◌++◌, None, length, drop, decimal, IfSome};
 ghost use Rattle.guard_frames.specs.Calls.{EndsLine};
 ghost use Rattle.guard_frames.specs.Guarding.{Adds};
-ghost use Rattle.guard_frames.specs.Outcomes.{Goes, staying};
+ghost use Rattle.guard_frames.specs.Outcomes.{FrameGoes, staying};
 ghost use Rattle.derguard_program.specs.inside.Reported.{line_octets};
 
 use arrayvec::ArrayVec;
@@ -38,13 +38,13 @@ impl Line {
 /// taken.
 pub fn line_of<D: Decide>(alloc: Global, policy: &D, number: u64, frame: &[u8]) -> Option<Line>
     requires { 4 ≤ length frame.now }
-    ensures goes { result ≡ None → Goes (D.decides policy.now) frame.now }
+    ensures goes { result ≡ None → FrameGoes (D.decides policy.now) frame.now }
     ensures stays { IfSome result (λ line.
         Adds (D.decides policy.now) number (staying frame.now) (line_octets line)) }
     ensures ends { IfSome result (λ line. EndsLine (line_octets line)) }
 {
     let body = body_of(frame);
-    let Passing::Stays(marks) = policy.goes(body, &mut LastRoute::none()) else {
+    let Passing::Stopped(marks) = policy.goes(body, &mut LastRoute::none()) else {
         return None;
     };
     let Some(names) = read_body(body) else {

@@ -60,10 +60,13 @@ pub fn said_of_fault<T: Says>(
     ensures { IfOk result (λ line. IsSaidOfFault fault.now line.items) }
 {
     match fault {
-        Fault::CannotRead(path) => line_said(alloc, Failing::File, path, system),
-        Fault::BadHex | Fault::Schema(_) | Fault::Policy(_) | Fault::Run(_) | Fault::NoMemory => Ok(
-            Vec::new(alloc),
-        ),
+        Fault::CannotRead(path, _) => line_said(alloc, Failing::File, path, system),
+        Fault::BadHex
+        | Fault::TooLarge(_)
+        | Fault::Schema(_)
+        | Fault::Policy(_)
+        | Fault::Run(_)
+        | Fault::NoMemory => Ok(Vec::new(alloc)),
     }
 }
 

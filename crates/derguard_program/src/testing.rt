@@ -32,6 +32,7 @@ use crate::counts::first_word;
 use crate::fault::Fault;
 use crate::files::Files;
 use crate::loaded::Loaded;
+use crate::no_value::no_value_text;
 use crate::octets::add;
 use crate::outputs::{tell, tell_no_memory, tell_text, write};
 use crate::reached::{cover_lines, reached};
@@ -453,7 +454,7 @@ fn came_of_value(
     match encoded(alloc, &loaded.modules, message, text) {
         Ok((_, octets)) => came_of_octets(alloc, &loaded.policy, route, &octets),
         Err(Fault::NoMemory) => Err(OutOfMemory),
-        Err(fault) => Ok(only(alloc, fault.text(alloc)?.into_bytes())),
+        Err(fault) => Ok(only(alloc, no_value_text(alloc, &fault)?)),
     }
 }
 

@@ -4,11 +4,11 @@ ghost use Rattle.guard_policy.specs.Loads.{ListsFiles};
 ghost use Rattle.guard_schema.specs.Accepts.{ReadsModules};
 ghost use Rattle.guard_schema.specs.Texts.{AreOfTexts};
 ghost use Rattle.guard_syntax.specs.ModuleViews.{module_view};
-ghost use Rattle.derguard_program.specs.Files.{Told, HasText, after_read, IsLater};
-ghost use Rattle.derguard_program.specs.Reading.{folder, HaveTexts, AreTexts, IsNoPolicyAt};
+ghost use Rattle.derguard_program.specs.Files.{Told, HasFirst, HasFront, HasText, after_read, IsLater};
+ghost use Rattle.derguard_program.specs.Reading.{folder, HaveTexts, AreTexts, IsNoPolicyAt, IsUnreadable};
 ghost use Rattle.derguard_program.specs.Explaining.{AreTextsOf};
 ghost use Rattle.derguard_program.specs.inside.Loading.{SayNoneLoaded};
-ghost use Rattle.derguard_program.specs.inside.Texts.{CannotBeRead, CannotAllBeRead, IsBeforeModules};
+ghost use Rattle.derguard_program.specs.inside.Texts.{HasNoFront, CannotAllBeRead, IsBeforeModules};
 
 use crate::fault::Fault;
 use crate::files::{Files, FilesFault};
@@ -17,6 +17,12 @@ use guard_policy::module_files;
 use guard_schema::read_modules;
 use guard_syntax::Module;
 use std::alloc::{AllocError, Global};
+
+/// The most octets of a policy or of a file of cases.
+const MOST: usize = 67_108_864;
+
+/// One octet more than a module, or a message in a file, may have.
+const FRONT: usize = 1_048_577;
 
 /// The text of a policy, the files of the modules that it lists, in order, and their texts.
 #[derive(Drop)]
@@ -29,8 +35,8 @@ pub struct Texts {
 impl Texts {
     /// Reads the policy at this path, and then each module that it lists, beside it.
     ///
-    /// It refuses with CannotRead by the path at which nothing can be read, and with Policy where the policy's text
-    /// lists no modules (Q1 to Q3 of its top).
+    /// It refuses with CannotRead by the path at which nothing can be read, with TooLarge where the policy has more
+    /// than 67,108,864 octets, and with Policy where its text lists no modules (Q1 to Q3 of its top).
     pub fn read<F: Files>(alloc: Global, path: &str, files: &mut F) -> Result<Texts, Fault>
         ensures read { IfOk result (λ texts. AreTexts (F.told files.old) path.now texts.policy.items
             (map (λ text. text.items) texts.modules.items)) }
@@ -110,21 +116,52 @@ fn module_texts<F: Files>(
     let mut texts = Vec::with_capacity(alloc, listed.len())?;
     for name in listed {
         let place = beside(alloc, path, name)?;
-        let text = read(alloc, &place, files)?;
+        let text = read_front(alloc, &place, files)?;
         texts.push(text)?;
     }
     Ok(texts)
 }
 
-/// The text at a path. What can't be read is named.
+/// All of a policy or of a file of cases. What can't be read is named, and so is one that has too many octets.
 pub fn read<F: Files>(alloc: Global, path: &str, files: &mut F) -> Result<Vec<u8>, Fault>
     ensures text { IfOk result (λ text. HasText (F.told files.old) path.now text.items) }
-    ensures missing { IfErr result (CannotBeRead (F.told files.old) path.now) }
+    ensures missing { IfErr result (IsUnreadable (F.told files.old) path.now) }
     ensures next { F.told files.new ≡ after_read (F.told files.old) }
 {
-    match files.read(alloc, path) {
+    match files.read(alloc, path, MOST + 1) {
+        Ok(text) => whole(alloc, path, text),
+        Err(FilesFault::CannotRead(obstacle)) => {
+            Err(Fault::CannotRead(String::from_str(alloc, path)?, obstacle))
+        }
+        Err(FilesFault::OutOfMemory) => Err(Fault::NoMemory),
+    }
+}
+
+/// The text that was read, unless it has too many octets.
+fn whole(alloc: Global, path: &str, text: Vec<u8>) -> Result<Vec<u8>, Fault>
+    ensures all { (told : Told) → HasFirst 67108865 told path.now text.items
+        → IfOk result (λ all. HasText told path.now all.items) }
+    ensures none { (told : Told) → HasFirst 67108865 told path.now text.items
+        → IfErr result (IsUnreadable told path.now) }
+{
+    if text.len() > MOST {
+        return Err(Fault::TooLarge(String::from_str(alloc, path)?));
+    }
+    Ok(text)
+}
+
+/// A module, or a message in a file: where it has too many octets, one more than it may have. What can't be read is
+/// named.
+pub fn read_front<F: Files>(alloc: Global, path: &str, files: &mut F) -> Result<Vec<u8>, Fault>
+    ensures text { IfOk result (λ text. HasFront (F.told files.old) path.now text.items) }
+    ensures missing { IfErr result (HasNoFront (F.told files.old) path.now) }
+    ensures next { F.told files.new ≡ after_read (F.told files.old) }
+{
+    match files.read(alloc, path, FRONT) {
         Ok(text) => Ok(text),
-        Err(FilesFault::CannotRead) => Err(Fault::CannotRead(String::from_str(alloc, path)?)),
+        Err(FilesFault::CannotRead(obstacle)) => {
+            Err(Fault::CannotRead(String::from_str(alloc, path)?, obstacle))
+        }
         Err(FilesFault::OutOfMemory) => Err(Fault::NoMemory),
     }
 }

@@ -4,7 +4,7 @@ use Rattle.std.specs.Io.KnownBytes.{Appends}
 use Rattle.guard_frames.specs.Added.{Octets}
 use Rattle.guard_frames.specs.Calls.{EndsLine}
 use Rattle.guard_frames.specs.Guarding.{Adds}
-use Rattle.guard_frames.specs.Outcomes.{Decision, Goes, staying}
+use Rattle.guard_frames.specs.Outcomes.{Decision, FrameGoes, staying}
 use Rattle.guard_frames.specs.Totals.{after_going, after_staying, next_number}
 use Rattle.derguard_program.specs.declared.seen.Seen.{Seen}
 use Rattle.derguard_program.specs.Counted.{counts_after}
@@ -12,7 +12,7 @@ use Rattle.derguard_program.specs.Passing.{lines_of}
 
 -- It goes, and is out.
 pub record IsOut (d : Decision) (frame : List ℕ) (old new : Seen) (out reports : Octets) : Type 0 where
-  pub goes : Goes d frame
+  pub goes : FrameGoes d frame
   pub sent : Appends out.0 out.1 frame
   pub silent : reports.1 ≡ reports.0
   pub totals : new.totals ≡ after_going old.totals

@@ -10,6 +10,6 @@ pub returns-in-Some : goal.returns-in-Some
 returns-in-Some c =
     let p = policy_view c.args.policy.now in
     let g = grounds_view c.args.grounds.now in
-    let decided = subst (λ (r : AbstractRoute). IfOk c.explained_verdict.result (λ a. IsExplainedVerdict g p r c.in-Some.body.message.now (answer_view a)))
+    let decided = subst (λ (r : AbstractRoute). IfOk c.explained_verdict.result (λ a. IsExplainedVerdict g p r c.in-Some.body.message_octets.now (answer_view a)))
     c.route_in.ensures c.explained_verdict.ensures in
     rw c.in-Some.is decided

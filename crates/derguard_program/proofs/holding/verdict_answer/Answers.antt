@@ -8,6 +8,6 @@ use Rattle.derguard_program.proofs.holding.verdict_answer.Goals as goal
 pub returns-in-Some : goal.returns-in-Some
 returns-in-Some c =
     let p = policy_view c.args.policy.now in
-    let decided = subst (λ (r : AbstractRoute). IfOk c.verdict_on.result (λ a. IsVerdict p r c.in-Some.body.message.now (answer_view a)))
+    let decided = subst (λ (r : AbstractRoute). IfOk c.verdict_on.result (λ a. IsVerdict p r c.in-Some.body.message_octets.now (answer_view a)))
     c.route_in.ensures c.verdict_on.ensures in
     rw c.in-Some.is decided

@@ -1,7 +1,7 @@
 use Rattle.std.proofs.Common.{Bool, subst, sym}
 use Rattle.std.specs.Prelude.{option_map}
 use Rattle.guard_frames.specs.Bodies.{body_view}
-use Rattle.derguard_program.specs.Answers.{IsHeldDecided, IsHeldExplained}
+use Rattle.derguard_program.specs.Answers.{IsFoundExplained, IsHeldDecided}
 use Rattle.derguard_program.specs.Deciding.{GivesHeld}
 use Rattle.derguard_program.specs.Devices.{device}
 use Rattle.derguard_program.specs.Explaining.{IsExplained}
@@ -17,9 +17,9 @@ returns-then-question g c =
     let out = device (g.O.Sink.taken c.args.out.now) (g.O.Sink.taken c.give_explained.new.out) (g.O.Sink.has_failed c.give_explained.new.out) in
     let err = device (g.E.Sink.taken c.args.err.now) (g.E.Sink.taken c.give_explained.new.err) (g.E.Sink.has_failed c.give_explained.new.err) in
     let held = option_map body_view c.args.held in
-    subst (λ (b : Bool). GivesHeld b told q.policy held out err c.give_explained.result) (sym c.if-question.true)
-    (gives_explained (IsHeldExplained told q.policy held) (IsExplained told q.policy) out err c.give_explained.result c.explain_held.result
-    c.explain_held.ensures.decided c.explain_held.ensures.undecided c.give_explained.ensures.written c.give_explained.ensures.told)
+    subst (λ (b : Bool). GivesHeld b told q.policy held c.args.octets.now out err c.give_explained.result) (sym c.if-question.true)
+    (gives_explained (IsFoundExplained told q.policy held c.args.octets.now) (IsExplained told q.policy) out err c.give_explained.result c.explain_found.result
+    c.explain_found.ensures.decided c.explain_found.ensures.undecided c.give_explained.ensures.written c.give_explained.ensures.told)
 
 pub returns-else-question : goal.returns-else-question
 returns-else-question g c =
@@ -28,6 +28,6 @@ returns-else-question g c =
     let out = device (g.O.Sink.taken c.args.out.now) (g.O.Sink.taken c.give.new.out) (g.O.Sink.has_failed c.give.new.out) in
     let err = device (g.E.Sink.taken c.args.err.now) (g.E.Sink.taken c.give.new.err) (g.E.Sink.has_failed c.give.new.err) in
     let held = option_map body_view c.args.held in
-    subst (λ (b : Bool). GivesHeld b told q.policy held out err c.give.result) (sym c.if-question.false)
+    subst (λ (b : Bool). GivesHeld b told q.policy held c.args.octets.now out err c.give.result) (sym c.if-question.false)
     (gives (IsHeldDecided told q.policy held) (IsNoPolicyAt told q.policy) out err c.give.result c.decide_held.result
     c.decide_held.ensures.decided c.decide_held.ensures.none c.give.ensures.written c.give.ensures.told)

@@ -25,12 +25,12 @@ line-requires-clause-names g c = names_are c.body_of-body.result.now (body_view 
 pub line-requires-clause-stays : goal.line-requires-clause-stays
 line-requires-clause-stays g c =
     stays_there (g.D.Decide.decides c.args.policy.now) c.body_of-body.result.now (body_view c.in-Some.names)
-    c.in-Stays.ensures.0 c.in-Some.ensures
+    c.in-Stopped.ensures.0 c.in-Some.ensures
 
 pub line-requires-clause-told : goal.line-requires-clause-told
 line-requires-clause-told g c =
     marks_there (g.D.Decide.marks_of c.args.policy.now) c.body_of-body.result.now (body_view c.in-Some.names)
-    c.in-Stays.marks c.in-Stays.ensures.1 c.in-Some.ensures
+    c.in-Stopped.marks c.in-Stopped.ensures.1 c.in-Some.ensures
 
 pub returns-in-Ok-clause-stays : goal.returns-in-Ok-clause-stays
 returns-in-Ok-clause-stays g c =
@@ -38,7 +38,7 @@ returns-in-Ok-clause-stays g c =
     let octets = c.body_of-body.result.now in
     let b = body_view c.in-Some.names in
     stays_with d c.args.number c.args.frame.now octets c.in-Ok.line.items b c.body_of-body.ensures c.in-Some.ensures
-    (stays_there d octets b c.in-Stays.ensures.0 c.in-Some.ensures)
+    (stays_there d octets b c.in-Stopped.ensures.0 c.in-Some.ensures)
     (inl c.in-Ok.ensures.reports)
 
 pub returns-in-Err-clause-stays : goal.returns-in-Err-clause-stays
@@ -48,7 +48,7 @@ returns-in-Err-clause-stays g c =
     let b = body_view c.in-Some.names in
     stays_with d c.args.number c.args.frame.now octets c.numbered-in-Err.result.items b c.body_of-body.ensures
     c.in-Some.ensures
-    (stays_there d octets b c.in-Stays.ensures.0 c.in-Some.ensures)
+    (stays_there d octets b c.in-Stopped.ensures.0 c.in-Some.ensures)
     (inr c.numbered-in-Err.ensures)
 
 pub returns-in-Err-clause-ends : goal.returns-in-Err-clause-ends

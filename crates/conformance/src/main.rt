@@ -322,6 +322,7 @@ fn try_streams<R: Files + Print + AllocGlobal>(rt: &R, tally: &mut Tally) -> io:
             "frames/failing_devices.rows",
             "frames/one_link.rows",
             "frames/under_a_policy.rows",
+            "frames/arrays.rows",
         ],
     )?;
     check_files::<R, TextStreams>(rt, tally, &["frames/texts.rows"])?;

@@ -1,8 +1,8 @@
 //! Files in memory, which tell what each read finds.
-ghost use Rattle.std.specs.Prelude.{◌≡◌, Some, option_map};
+ghost use Rattle.std.specs.Prelude.{◌≡◌, ◌≤◌, Some, length, option_map, take};
 ghost use Rattle.conformance.specs.Memory.{found, text_at};
 
-use derguard_program::{Files, FilesFault};
+use derguard_program::{Files, FilesFault, Obstacle};
 use std::alloc::{AllocError, Global};
 
 /// A text at a path.
@@ -28,15 +28,27 @@ impl<'r, 't> Reads<'r, 't> {
 impl Files for Reads<'_, '_> {
     ghost told = { λ files n path. Some (found files.coming.now n path) };
 
-    fn read(&mut self, alloc: Global, path: &str) -> Result<Vec<u8>, FilesFault> {
+    fn read(&mut self, alloc: Global, path: &str, most: usize) -> Result<Vec<u8>, FilesFault> {
         let [now, later @ ..] = self.coming else {
-            return Err(FilesFault::CannotRead);
+            return Err(FilesFault::CannotRead(Obstacle::Untold));
         };
         self.coming = later;
         match text_at(now, path) {
-            Some(text) => Ok(Vec::from_slice(alloc, text)?),
-            None => Err(FilesFault::CannotRead),
+            Some(text) => Ok(Vec::from_slice(alloc, front(text, most))?),
+            None => Err(FilesFault::CannotRead(Obstacle::Untold)),
         }
+    }
+}
+
+/// The first octets of a text, at most so many.
+fn front(text: &[u8], most: usize) -> &[u8]
+    ensures same { result.now ≡ take most text.now }
+    ensures few { length result.now ≤ most }
+{
+    if text.len() > most {
+        &text[..most]
+    } else {
+        text
     }
 }
 

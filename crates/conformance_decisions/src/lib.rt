@@ -5,12 +5,13 @@
 //! |---|---|
 //! | `policy` | `policies.rt`, of verdicts `verdicts.rt` |
 //! | `report` | `reports.rt`, `written_verdicts.rt` |
-//! | `frames` | `streams.rt`, `text_streams.rt`, `links.rt`, `link_orders.rt` |
+//! | `frames` | `streams.rt`, `text_streams.rt`, `links.rt`, `link_orders.rt`, `arrays.rt` |
 //!
-//! Sources and sinks are those of `devices.rt`. Whether a message goes just where its verdict is to pass is tried on
-//! the rows of policies and frames by `passing.rt`.
+//! Sources and sinks are those of `devices.rt`, and sinks that take no memory those of `arrays.rt`. Whether a message
+//! goes just where its verdict is to pass is tried on the rows of policies and frames by `passing.rt`.
 #![tactic(auto)]
 
+mod arrays;
 mod devices;
 mod link_orders;
 mod links;

@@ -1,10 +1,11 @@
 //! What comes of the events of many links.
 ghost use Rattle.std.specs.Prelude.{◌≤◌, length, IfOk};
 
+use crate::arrays::{Array, Holds};
 use crate::link_orders::each_order;
 use crate::streams::shown;
 use conformance_rows::{Layer, unknown};
-use guard_frames::{Ends, Event, Gateway, Kept, StepFault, load_texts};
+use guard_frames::{Ends, Event, Gateway, Kept, Sink, StepFault, load_texts};
 use guard_policy::Policy;
 use std::alloc::{AllocError, Global};
 
@@ -14,8 +15,18 @@ pub struct Links {
     modules: Vec<Vec<u8>>,
     policies: Vec<Vec<u8>>,
     links: u8,
-    /// Whether a row asks in how many orders of its pieces each link gives what `run` gives of its own stream.
-    asks_orders: bool,
+    asked: Asked,
+}
+
+/// What the rows ask.
+#[derive(Clone, Copy)]
+enum Asked {
+    /// The faults of the events, and what each link's sinks took, which are in memory.
+    Events,
+    /// As many orders of its pieces as there are in which each link gives what `run` gives of its own stream.
+    Orders,
+    /// The faults of the events, and what each link's sinks took, which are arrays.
+    Arrays,
 }
 
 impl Links {
@@ -47,10 +58,10 @@ impl Links {
     }
 
     /// What comes of the events that records say: the faults, and what the sinks of each link took.
-    fn comes(
+    fn comes<S: Holds>(
         &self,
         alloc: Global,
-        gateway: &mut Gateway<Kept>,
+        gateway: &mut Gateway<S>,
         records: &[Record],
     ) -> Result<String, AllocError> {
         let mut said = self.faults(alloc, gateway, records)?;
@@ -60,11 +71,23 @@ impl Links {
         String::from_str(alloc, said.trim_end())
     }
 
+    /// What comes of the events where the sinks of each link are arrays.
+    fn comes_in_arrays(&self, alloc: Global, records: &[Record]) -> Result<String, AllocError> {
+        let Some(policy) = self.policy(alloc, 0)? else {
+            return String::from_str(alloc, "no gateway");
+        };
+        let ends = arrays(alloc, self.links)?;
+        match Gateway::new(alloc, policy, ends) {
+            Ok(mut gateway) => self.comes(alloc, &mut gateway, records),
+            Err(_) => String::from_str(alloc, "no gateway"),
+        }
+    }
+
     /// The faults of the events that records say.
-    fn faults(
+    fn faults<S: Sink>(
         &self,
         alloc: Global,
-        gateway: &mut Gateway<Kept>,
+        gateway: &mut Gateway<S>,
         records: &[Record],
     ) -> Result<String, AllocError> {
         let mut said = String::new(alloc);
@@ -77,10 +100,10 @@ impl Links {
     }
 
     /// What is answered to the event that a record says.
-    fn step(
+    fn step<S: Sink>(
         &self,
         alloc: Global,
-        gateway: &mut Gateway<Kept>,
+        gateway: &mut Gateway<S>,
         record: &Record,
     ) -> Result<Result<(), StepFault>, AllocError> {
         let event = match record.kind {
@@ -96,17 +119,17 @@ impl Links {
 }
 
 /// Says what the sinks of a link took.
-fn add_ends(
+fn add_ends<S: Holds>(
     alloc: Global,
     said: &mut String,
-    gateway: &mut Gateway<Kept>,
+    gateway: &mut Gateway<S>,
     link: u8,
 ) -> Result<(), AllocError> {
     let Some(ends) = gateway.ends_mut(u16::from(link)) else {
         return Ok(());
     };
-    let out = shown(alloc, ends.out.octets())?;
-    let reports = shown(alloc, ends.reports.octets())?;
+    let out = shown(alloc, ends.out.held())?;
+    let reports = shown(alloc, ends.reports.held())?;
     write!(said, "{link} <{out}> <{reports}> ")
 }
 
@@ -119,6 +142,20 @@ fn sinks(alloc: Global, count: u8) -> Result<Vec<Ends<Kept>>, AllocError>
         ends.push(Ends {
             out: Kept::new(alloc),
             reports: Kept::new(alloc),
+        })?;
+    }
+    Ok(ends)
+}
+
+/// So many pairs of sinks that are arrays.
+fn arrays(alloc: Global, count: u8) -> Result<Vec<Ends<Array>>, AllocError>
+    ensures { IfOk result (λ ends. length ends.items ≤ 65535) }
+{
+    let mut ends = Vec::new(alloc);
+    for _ in 0..count {
+        ends.push(Ends {
+            out: Array::new(),
+            reports: Array::new(),
         })?;
     }
     Ok(ends)
@@ -173,14 +210,16 @@ impl Layer for Links {
             modules: Vec::new(alloc),
             policies: Vec::new(alloc),
             links: 0,
-            asks_orders: false,
+            asked: Asked::Events,
         }
     }
 
     fn answer(&mut self, alloc: Global, input: &[u8]) -> Result<String, AllocError> {
         let records = records_in(alloc, input)?;
-        if self.asks_orders {
-            return each_order(alloc, self, &records);
+        match self.asked {
+            Asked::Events => {}
+            Asked::Orders => return each_order(alloc, self, &records),
+            Asked::Arrays => return self.comes_in_arrays(alloc, &records),
         }
         let Some(mut gateway) = self.gateway(alloc)? else {
             return String::from_str(alloc, "no gateway");
@@ -189,7 +228,8 @@ impl Layer for Links {
     }
 
     /// `@modules` begins new lists, `@module TEXT` adds the text of a module, `@policy TEXT` that of a policy, and
-    /// `@links OCTET` says how many links there are. `@ask orders` and `@ask events` say what a row asks.
+    /// `@links OCTET` says how many links there are. `@ask orders`, `@ask arrays` and `@ask events` say what
+    /// a row asks.
     fn set(&mut self, alloc: Global, name: &str, text: &[u8]) -> Result<String, AllocError> {
         match (name, text) {
             ("modules", _) => {
@@ -199,8 +239,9 @@ impl Layer for Links {
             ("module", text) => self.modules.push(Vec::from_slice(alloc, text)?)?,
             ("policy", text) => self.policies.push(Vec::from_slice(alloc, text)?)?,
             ("links", [count]) => self.links = *count,
-            ("ask", b"orders") => self.asks_orders = true,
-            ("ask", b"events") => self.asks_orders = false,
+            ("ask", b"orders") => self.asked = Asked::Orders,
+            ("ask", b"arrays") => self.asked = Asked::Arrays,
+            ("ask", b"events") => self.asked = Asked::Events,
             _ => return unknown(alloc),
         }
         String::from_str(alloc, "ok")

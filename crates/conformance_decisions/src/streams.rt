@@ -1,4 +1,5 @@
 //! What comes of streams of frames.
+use crate::arrays::fed;
 use crate::devices::{Breaking, Pieces, Room};
 use conformance_rows::{Layer, text_of, texts_of, unknown};
 use guard_frames::{
@@ -39,6 +40,8 @@ enum Asked {
     Link,
     /// What a link answers in the same five calls where the sink for frames has no room.
     FullLink,
+    /// What a link answers to the stream where its sinks are arrays, and what these took.
+    Arrays,
     /// How often the sinks for frames and for reports of a run are asked to take octets.
     Calls,
     /// What a sink in memory holds when it took the octets, and when it was emptied.
@@ -386,6 +389,7 @@ fn answer_of(
         Asked::Ten => into_ten(alloc, policy, input),
         Asked::Link => of_link(alloc, policy, input, Room::ample(alloc)),
         Asked::FullLink => of_link(alloc, policy, input, Room::new(alloc, usize::MAX, 0)),
+        Asked::Arrays => fed(alloc, policy, input),
         Asked::Left => left(alloc, policy, input),
         Asked::Errors => errors(alloc, policy, input),
         Asked::Calls => calls(alloc, policy, input),
@@ -429,8 +433,8 @@ impl Layer for Streams {
     }
 
     /// `@ask run`, `@ask each cut`, `@ask each out`, `@ask each report`, `@ask each read`, `@ask through`,
-    /// `@ask ten`, `@ask left`, `@ask errors`, `@ask link`, `@ask full link`, `@ask calls`,
-    /// `@ask kept`; `@pieces SIZE`; `@modules` and `@policy` with the texts of the policy that decides.
+    /// `@ask ten`, `@ask left`, `@ask errors`, `@ask link`, `@ask full link`, `@ask arrays`,
+    /// `@ask calls`, `@ask kept`; `@pieces SIZE`; `@modules` and `@policy` with the texts of the policy that decides.
     fn set(&mut self, alloc: Global, name: &str, text: &[u8]) -> Result<String, AllocError> {
         match name {
             "modules" => {
@@ -450,6 +454,7 @@ impl Layer for Streams {
             ("ask", "ten") => Asked::Ten,
             ("ask", "link") => Asked::Link,
             ("ask", "full link") => Asked::FullLink,
+            ("ask", "arrays") => Asked::Arrays,
             ("ask", "left") => Asked::Left,
             ("ask", "errors") => Asked::Errors,
             ("ask", "calls") => Asked::Calls,

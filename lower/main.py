@@ -1,0 +1,168 @@
+"""The command line of derguard-lower."""
+
+from __future__ import annotations
+
+import argparse
+import sys
+import threading
+from pathlib import Path
+
+import checks
+import report
+import writing
+from bindings import Bindings, read_bindings
+from job import CannotGo
+from library import Library
+from lowering import Job
+from reading_modules import read_modules
+from recursion import Recursion
+from report import Message, Result
+from tokens import Fault, read_file
+from tree import Definition
+
+DEPTH, MOST_RUNS = 3, 40
+
+
+def parser() -> argparse.ArgumentParser:
+    words = argparse.ArgumentParser(
+        prog="derguard-lower",
+        description="Lowers published ASN.1 modules into the profile of derguard, and says what each change costs.",
+    )
+    message = "a type that is sent as a message"
+    words.add_argument("--message", action="append", default=[], metavar="NAME", help=message)
+    words.add_argument("--bindings", metavar="FILE", help="what the author says of holes, depths and losses")
+    words.add_argument("--draft", metavar="FILE", help="write bindings to start from")
+    words.add_argument("-o", "--output", metavar="FOLDER", help="where texts, policy and report go")
+    words.add_argument("modules", nargs="+", metavar="MODULES", help="files of modules")
+    return words
+
+
+def wanted(library: Library, names: list[str]) -> dict[str, Definition]:
+    """The definitions of the messages by the names of those; `*` stands for all types."""
+    found: list[Definition] = []
+    for name in names:
+        module, _, last = name.rpartition(".")
+        modules = [library.modules[module]] if module in library.modules else list(library.modules.values())
+        if module and module not in library.modules:
+            raise Fault(f"no module has the name {module}")
+        if last == "*":
+            found += [d for m in modules for d in m.definitions if is_type(library, d)]
+            continue
+        held = [m.named[last] for m in modules if last in m.named]
+        if not held:
+            raise Fault(f"no module defines {name}")
+        if len(held) > 1:
+            where = ", ".join(definition.module.name for definition in held)
+            raise Fault(f"{name} is in more than one module: {where}; write Module.{name}")
+        if held[0].kind not in ("type", "set", "unread") or held[0].parameters is not None:
+            place = held[0].source.place(held[0].a)
+            raise Fault.at(held[0].source, place, f"{name} is no type without parameters")
+        found += held
+    found = list(dict.fromkeys(found))
+    short = [definition.name for definition in found]
+    return {d.name if short.count(d.name) == 1 else f"{d.module.name}.{d.name}": d for d in found}
+
+
+def is_type(library: Library, definition: Definition) -> bool:
+    """Whether a definition is a type or value set without parameters that its name stands for."""
+    is_first = definition.module.named[definition.name] is definition and definition.name[0].isupper()
+    if definition.kind not in ("type", "set") or definition.parameters is not None or not is_first:
+        return False
+    is_object_set = definition.kind == "set" and library.governs(definition.module, definition.type) is not None
+    return not (is_object_set or library.is_class(definition))
+
+
+def attempt(job: Job, wanted: dict[str, Definition]) -> Result:
+    """Lowers the messages once."""
+    messages = [Message(name, definition) for name, definition in wanted.items()]
+    for message in messages:
+        try:
+            message.out = job.output(message.definition)
+        except CannotGo as stop:
+            message.causes = stop.causes
+    roots = dict.fromkeys(message.out for message in messages if message.out is not None)
+    return Result(job, messages, writing.texts(list(job.library.modules.values()), list(roots)))
+
+
+def lower(library: Library, bindings: Bindings, wanted: dict[str, Definition], leave: bool) -> Result:
+    """Lowers with less and less depth, and without what the guard would refuse, until it refuses nothing."""
+    refused: dict[str, str] = {}
+    depth, definitions = DEPTH, list(wanted.values())
+    for _ in range(MOST_RUNS):
+        job = Job(library, bindings, Recursion(library, bindings, definitions, depth), leave)
+        job.refused = refused
+        result = attempt(job, wanted)
+        findings = checks.check(result.texts)
+        if not findings:
+            result.unread = [d for module in library.modules.values() for d in module.definitions if d.kind == "unread"]
+            result.collect()
+            return result
+        shorter = bindings.depth is None and depth > 0 and job.recursion.members
+        if shorter and any(finding.size for finding in findings):
+            depth -= 1
+        else:
+            refused |= {str(finding.out.place): finding.why for finding in findings}
+    raise Fault("the guard's limits aren't met after many attempts")
+
+
+def write(result: Result, folder: Path, many: bool) -> None:
+    files = {f"{text.name}.asn1": text.text for text in result.texts}
+    files |= {"policy.toml": result.policy(many), "lowering.md": report.as_markdown(result)}
+    folder.mkdir(parents=True, exist_ok=True)
+    for name, text in (files | {"lowering.json": report.as_json(result)}).items():
+        (folder / name).write_text(text, encoding="utf-8")
+
+
+def run(words: argparse.Namespace) -> int:
+    if not words.message:
+        raise Fault("no message is named: --message NAME")
+    if not words.output and not words.draft:
+        raise Fault("neither -o FOLDER nor --draft FILE is there")
+    library = Library()
+    for module in (module for path in words.modules for module in read_modules(read_file(path))):
+        library.add(module)
+    bindings = read_bindings(words.bindings) if words.bindings else Bindings()
+    bindings.check(library)
+    messages, status = wanted(library, words.message), 0
+    if words.draft:
+        draft = lower(library, bindings, messages, True)
+        Path(words.draft).write_text(report.as_draft(draft), encoding="utf-8")
+    if words.output:
+        result = lower(library, bindings, messages, False)
+        write(result, Path(words.output), any(name.rpartition(".")[2] == "*" for name in words.message))
+        tell(result)
+        status = result.status
+    return status
+
+
+def tell(result: Result) -> None:
+    for message in result.messages:
+        print(f"{message.name}: {message.mark}{'' if message.fits else ', not signed'}")
+    for message in result.messages:
+        for cause in message.causes[:3]:
+            node = cause.node
+            fault = Fault.at(node.source, node.source.place(node.a), f"{cause.place}: {cause.why}")
+            print(f"derguard-lower: {message.name} can't go: {fault.shown()}", file=sys.stderr)
+    for name in result.job.bindings.unused():
+        print(f"derguard-lower: no message reaches {name}, which the bindings name", file=sys.stderr)
+
+
+def main() -> int:
+    """Runs the command line in a thread whose stack is large enough for nested types."""
+    words = parser().parse_args()
+    statuses: list[int] = []
+
+    def work() -> None:
+        try:
+            statuses.append(run(words))
+        except Fault as fault:
+            print(f"derguard-lower: {fault.shown()}", file=sys.stderr)
+        except OSError as error:
+            print(f"derguard-lower: cannot write {error.filename}: {error.strerror}", file=sys.stderr)
+
+    sys.setrecursionlimit(200_000)
+    threading.stack_size(512 * 1024 * 1024)
+    thread = threading.Thread(target=work)
+    thread.start()
+    thread.join()
+    return statuses[0] if statuses else 2

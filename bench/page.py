@@ -47,20 +47,19 @@ def about():
     ]
 
 
-BEGIN, END = "<!-- figures of one run: bench/run --keep writes them -->", "<!-- end of the figures -->"
+HEAD = """# Figures of one run
+
+Written by `bench/run --keep`. docs/PERFORMANCE.md says what is measured and what the figures mean."""
 
 
 def keep(lines, picture):
-    """Puts the figures into docs/PERFORMANCE.md between its two marks, in place of those that are there."""
-    docs = os.path.join(TOP, "docs")
-    with open(os.path.join(docs, "PERFORMANCE.md")) as file:
-        before, rest = file.read().split(BEGIN)
-    after = rest.split(END)[1]
-    with open(os.path.join(docs, "PERFORMANCE.md"), "w") as file:
-        file.write("\n".join([before + BEGIN, "", *lines, "", END + after]))
-    with open(os.path.join(docs, "performance.svg"), "w") as file:
+    """Writes bench/figures.md and bench/figures.svg anew."""
+    bench = os.path.join(TOP, "bench")
+    with open(os.path.join(bench, "figures.md"), "w") as file:
+        file.write("\n".join([HEAD, "", *lines, ""]))
+    with open(os.path.join(bench, "figures.svg"), "w") as file:
         file.write(picture)
-    print("bench/run: docs/PERFORMANCE.md and docs/performance.svg have these figures")
+    print("bench/run: bench/figures.md and bench/figures.svg have these figures")
 
 
 def plot(charts):

@@ -8,17 +8,22 @@
  *     if (derguard_passes(&policy, names, names_length, message, message_length)) ..
  *     derguard_free(&policy);
  *
- * What the calls answer and leave is proved of the library's code, for every content of every buffer. They ask this of
- * their caller, and don't check it:
+ * What is proved, for every content of every buffer and every order of calls: what each call answers and leaves in
+ * handles, buffers, `*needed` and `*written`, as it is said beside the call, and that no call reads or writes anywhere
+ * else. What is only tested: the numbers and names of this header, the texts of faults, that no memory is taken where
+ * it is said to be so, and what is said of null below. The calls ask this of their caller, and don't check it:
  *
+ *   - The address of a handle, `needed` and `written` are never null.
  *   - A handle is read and written by these calls alone. It isn't copied: derguard_share makes one more of the same
  *     policy. To move one, copy it and set the old one to DERGUARD_EMPTY.
  *   - One call at a time uses a handle. Another thread may use it later, if a lock, the start or end of a thread, or an
  *     atomic access that is sequentially consistent lies between. Threads that ask one policy at the same time each
  *     have a handle of their own, made by derguard_share; what the policy takes of memory is there once. A link belongs
  *     to one thread at a time.
- *   - Octets are a pointer and their number. The pointer may be null where the number is 0. What a call reads isn't
- *     written meanwhile, and no two things that a call writes overlap, nor does one overlap what it reads.
+ *   - Octets are a pointer and their number, and so are modules. The pointer may be null where the number is 0: no call
+ *     reads or writes at such a pointer, or compares it. The proofs speak of places in memory, and null is none, so this
+ *     is tested: with each such pointer null, under sanitizers and valgrind. What a call reads isn't written meanwhile,
+ *     and no two things that a call writes overlap, nor does one overlap what it reads.
  *   - malloc, realloc and free come from one allocator, and its blocks are aligned as C11 asks.
  *   - No call is made from a signal handler, nor in the child of a fork of a process with threads before it runs
  *     another program.
@@ -101,7 +106,7 @@ uint32_t derguard_load(derguard_policy *policy, const derguard_octets *modules, 
 bool derguard_passes(derguard_policy *policy, const uint8_t *names, size_t names_length, const uint8_t *message,
                      size_t message_length);
 
-/* The same, of a sender, a receiver and a name that lie anywhere. It takes no memory. */
+/* Whether a message passes, of a sender, a receiver and a name that lie anywhere. It takes no memory. */
 bool derguard_passes_from(derguard_policy *policy, const uint8_t *sender, size_t sender_length,
                           const uint8_t *receiver, size_t receiver_length, const uint8_t *name, size_t name_length,
                           const uint8_t *message, size_t message_length);
@@ -114,7 +119,7 @@ bool derguard_passes_from(derguard_policy *policy, const uint8_t *sender, size_t
 uint32_t derguard_verdict(derguard_policy *policy, const uint8_t *names, size_t names_length, const uint8_t *message,
                           size_t message_length, uint8_t *out, size_t out_length, size_t *needed);
 
-/* The same, of a sender, a receiver and a name that lie anywhere. */
+/* The text of the verdict on a message, as derguard_verdict gives it, of a sender, a receiver and a name that lie anywhere. */
 uint32_t derguard_verdict_from(derguard_policy *policy, const uint8_t *sender, size_t sender_length,
                                const uint8_t *receiver, size_t receiver_length, const uint8_t *name,
                                size_t name_length, const uint8_t *message, size_t message_length, uint8_t *out,

@@ -68,9 +68,13 @@ static int is_refused(void) {
 
 void *malloc(size_t size) { return is_refused() ? (errno = ENOMEM, (void *)NULL) : __libc_malloc(size); }
 
-void *calloc(size_t many, size_t size) { return is_refused() ? (errno = ENOMEM, (void *)NULL) : __libc_calloc(many, size); }
+void *calloc(size_t many, size_t size) {
+    return is_refused() ? (errno = ENOMEM, (void *)NULL) : __libc_calloc(many, size);
+}
 
-void *realloc(void *old, size_t size) { return is_refused() ? (errno = ENOMEM, (void *)NULL) : __libc_realloc(old, size); }
+void *realloc(void *old, size_t size) {
+    return is_refused() ? (errno = ENOMEM, (void *)NULL) : __libc_realloc(old, size);
+}
 
 void *aligned_alloc(size_t place, size_t size) {
     return is_refused() ? (errno = ENOMEM, (void *)NULL) : __libc_memalign(place, size);

@@ -1,0 +1,59 @@
+"""Tests of what the scripts of this folder share. No program is called."""
+from __future__ import annotations
+
+import contextlib
+import io
+import pathlib
+import sys
+import unittest
+
+sys.dont_write_bytecode = True
+sys.path.insert(0, str(pathlib.Path(__file__).resolve().parent))
+
+import tally
+import wire
+
+
+class Wire(unittest.TestCase):
+    def test_elements_have_the_fewest_length_octets(self) -> None:
+        # X.690 8.1.2.4 and 8.1.3.5: the number of a tag from 31 on, and lengths from 128 on
+        self.assertEqual(wire.element(2, b"\5", leading=wire.UNIVERSAL), bytes.fromhex("020105"))
+        self.assertEqual(wire.element(300, b"", True)[:4], bytes.fromhex("BF822C00"))
+        self.assertEqual(wire.length(127), b"\x7f")
+        self.assertEqual(wire.length(128), bytes.fromhex("8180"))
+        self.assertEqual(wire.length(65_536), bytes.fromhex("83010000"))
+
+    def test_frames_are_those_of_the_example(self) -> None:
+        stream = (wire.EXAMPLES / "orders.frames").read_bytes()
+        self.assertTrue(stream.startswith(wire.order(wire.PASSES)))
+        self.assertEqual(wire.frame_ends(stream)[0], len(wire.order(wire.PASSES)))
+        self.assertEqual(wire.frame_ends(stream[:-1]), wire.frame_ends(stream)[:-1])
+
+    def test_records(self) -> None:
+        stream = wire.piece(3, b"ab") + wire.piece(4, b"") + wire.piece(3, b"c")
+        self.assertEqual(wire.by_link(stream), {3: b"abc", 4: b""})
+        self.assertEqual(wire.record(wire.RELOAD), bytes.fromhex("02000000000000"))
+        for bad in (stream[:-1], stream[:3], stream + wire.record(wire.END, 3)):
+            with self.assertRaises(wire.BadRecord):
+                wire.by_link(bad)
+
+    def test_a_free_port_is_free(self) -> None:
+        self.assertGreater(wire.free_port(), 1023)
+
+
+class Counting(unittest.TestCase):
+    def test_what_a_script_says_at_its_end_is_read(self) -> None:
+        counts = tally.Counts(12, 1, 2)
+        self.assertEqual(tally.told(f"a line\ntests/links: {counts}\n"), counts)
+        self.assertIsNone(tally.told("no such line\n"))
+
+    def test_a_part_that_ends_by_an_exception_has_failed(self) -> None:
+        counted = tally.Tally("tests/none")
+        with contextlib.redirect_stdout(io.StringIO()):
+            counted.runs(lambda: [])
+            counted.runs(lambda: wire.by_link(b"\0"))
+        self.assertEqual((counted.counts.run, counted.counts.failed), (2, 1))
+
+
+if __name__ == "__main__":
+    unittest.main()

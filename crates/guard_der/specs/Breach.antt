@@ -3,6 +3,17 @@
 -- A place is an offset in the message or in the contents of an element in it. It is reached where what comes before it,
 -- and before each element that it lies in, encodes values of the parts that are due there. At most one reached place is
 -- at fault: after it none is reached.
+--
+-- For example, of `SEQUENCE {a INTEGER, b BOOLEAN}` these octets encode no value:
+--
+--     30 06  02 01 05  02 01 01
+--
+-- The place before the second element is reached, since `02 01 05` encodes a value of component a: `SequenceReached`.
+-- The tag there is that of an INTEGER, and only that of a BOOLEAN is due: `SequenceFault`. So the breach is
+-- `UnexpectedTag`, its offset is 5, and its path is empty. With `01 01 05` in that place the element is due, but its
+-- contents are those of no BOOLEAN, so the breach is `BooleanContents`, also at 5, and component b is its path.
+-- `Faulty` below stands for such a judgement on one element, and `FaultyContents` for one on its contents: these octets
+-- have this breach.
 use Rattle.std.specs.Prelude.{◌≡◌, ◌≢◌, ℕ, zero, suc, ◌+◌, Bool, true, false, not, ◌&&◌, ◌||◌, List, [], ◌∷◌, ◌++◌, length, take, drop, Option, Some, None, Ok, Err, IsTrue, if◌then◌else◌, ◌⊎◌}
 use Rattle.guard_model.specs.declared.site.Step.{Step}
 use Rattle.guard_model.specs.declared.site.Step.TheVariants.{Component, Element}

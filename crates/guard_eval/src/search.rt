@@ -215,7 +215,8 @@ fn failure_among(path: &mut Path, each: &Cons, kind: &Kind, items: &[Value]) -> 
 
 // ---- WITH COMPONENTS
 
-/// What WITH COMPONENTS blames: the first failing name in written order, then the first part that should be absent.
+/// Where WITH COMPONENTS fails: at the first listed part that isn't as its name says; where all are, at the first other
+/// part that is there under a full list.
 #[cycle(search)]
 fn failure_in_parts(
     path: &mut Path,

@@ -8,7 +8,7 @@ use std::simd::prelude::*;
 /// How many octets are looked at together.
 const LANES: usize = 32;
 
-/// Whether each octet lies in one of the ranges, whose two ends belong to them; true where there are no octets.
+/// Whether the ranges have all these octets; both ends of a range belong to it. True where there are no octets.
 /// Condition: there are at most 8 ranges.
 pub fn all_in(ranges: &[(u8, u8)], octets: &[u8]) -> bool
     requires { length ranges.now ≤ 8 }
@@ -21,7 +21,7 @@ pub fn all_in(ranges: &[(u8, u8)], octets: &[u8]) -> bool
     }
 }
 
-/// Whether each octet lies in one of the ranges: compiled anew for each list that is known where it is called.
+/// Whether the ranges have all these octets: compiled anew for each list that is known where it is called.
 #[inline(always)]
 pub fn are_all_in(ranges: &[(u8, u8)], octets: &[u8]) -> bool
     ensures { result ≡ list_all (is_in_some ranges.now) octets.now }
@@ -51,7 +51,7 @@ fn are_first_in(ranges: &[(u8, u8)], octets: &[u8]) -> bool
     outside.to_bitmask() == 0
 }
 
-/// Whether each octet lies in one of the ranges, looked at one after the other.
+/// Whether the ranges have all these octets, looked at one after the other.
 #[inline(always)]
 fn are_in(ranges: &[(u8, u8)], octets: &[u8]) -> bool
     ensures { result ≡ list_all (is_in_some ranges.now) octets.now }

@@ -54,8 +54,8 @@ fn unexpected(place: u32, text: &[u8], tokens: &[Token]) -> SyntaxFault
     }
 }
 
-/// The site after the last octet of a text, also where that octet is white space or part of a comment. `place` is the
-/// text's place in its list, from 1, which only the site shows. Of a text of 2^32-1 octets or more nothing is promised.
+/// The site after the last octet of a text, also where that octet is white space or part of a comment. `place` counts
+/// the texts of a list from 1, and only the site shows it. Of a text of 2^32-1 octets or more nothing is promised.
 pub fn end_of(place: u32, text: &[u8]) -> Site
     ensures { length text.now + 1 < 2 ^ 32 → result ≡ site_after place text.now }
 {

@@ -36,7 +36,8 @@ pub(crate) fn has_crowded_node(
     Ok(found.is_some())
 }
 
-/// The way to the first node that has too many conditions, of this type, to which the way leads, and of those inside it.
+/// The way to the first node that has too many conditions, of this type, to which the way leads, and of those inside
+/// it.
 #[cycle(nodes)]
 fn crowded_from(
     alloc: Global,

@@ -39,8 +39,8 @@ pub fn bit_string(alloc: Global, bits: &Bits) -> Result<Vec<u8>, OutOfMemory>
 }
 
 /// The contents octets of an OBJECT IDENTIFIER: a subidentifier for the first two arcs, then one for each further arc
-/// (X.690 8.19). Condition: there are two arcs at least, the first at most 2, the second at most 39 under 0 and 1, and
-/// no subidentifier above 2^128-1.
+/// (X.690 8.19). Condition: there are two arcs at least; the first is 0, 1 or 2; where it isn't 2 the second is below
+/// 40; no subidentifier is above 2^128-1.
 pub fn object_identifier(alloc: Global, arcs: &[u128]) -> Result<Vec<u8>, OutOfMemory>
     requires { IsTrue (fits_arcs arcs.now) }
     ensures { IfOk result (λ v. v.items ≡ arcs_octets arcs.now) }

@@ -4,7 +4,7 @@ use Rattle.std.specs.Prelude.{Result, Err}
 use Rattle.std.specs.List.{concat}
 use Rattle.std.proofs.lemmas.List.{take-append-drop, take_all}
 use Rattle.guard_frames.specs.Frames.{stated_length, IsFrame, IsUnfinished, IsTooLong, ConsistsOf}
-use Rattle.guard_frames.specs.inside.Cut.{IsRest}
+use Rattle.guard_frames.specs.Cutting.{IsRest}
 use Rattle.guard_frames.specs.inside.Putting.{ArePut}
 use Rattle.guard_frames.specs.declared.cut.Rest.{Rest}
 use Rattle.guard_frames.specs.declared.cut.Rest.TheVariants.{Unfinished, TooLong}

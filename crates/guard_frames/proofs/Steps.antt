@@ -13,7 +13,7 @@ use Rattle.guard_frames.specs.Totals.{after_going, after_staying, next_number, c
 use Rattle.guard_frames.specs.Outcomes.{Decision, FrameGoes, Outcome, staying}
 use Rattle.guard_frames.specs.Added.{Added, nothing}
 use Rattle.guard_frames.specs.Guarding.{Adds, BreaksOff}
-use Rattle.guard_frames.specs.inside.Cut.{IsRest, IsFirst}
+use Rattle.guard_frames.specs.Cutting.{IsRest, IsFirst}
 use Rattle.guard_frames.specs.inside.Putting.{ArePut}
 use Rattle.guard_frames.proofs.Appending.{sent_more, reported_more}
 use Rattle.guard_frames.proofs.Going.{all_going}

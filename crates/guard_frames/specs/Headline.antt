@@ -24,7 +24,7 @@ use Rattle.guard_frames.specs.Added.{Added}
 use Rattle.guard_frames.specs.OfPolicy.{route_of}
 use Rattle.guard_frames.specs.Texts.{SayPolicy}
 
--- The frame has three names and a message. The message is the DER encoding of a value of the type that is declared for
+-- The frame has three names and a message. What the message encodes in DER is a value of the type that is declared for
 -- its name; some rule that allows on this route has the value, and no rule that denies there has it.
 abbrev pub MayGo : AbstractPolicy → List ℕ → Type 0
 MayGo p frame = (b : AbstractBody) × IsBody (drop 4 frame) b

@@ -2,6 +2,7 @@
 pub mod Headline
 -- ---- streams
 pub mod Frames
+pub mod Cutting
 pub mod Bodies
 -- ---- what comes of frames
 pub mod Outcomes
@@ -10,6 +11,7 @@ pub mod Prefix
 pub mod Added
 pub mod Calls
 pub mod Guarding
+pub mod Judged
 pub mod Answering
 -- ---- what the calls do
 pub mod ThroughView

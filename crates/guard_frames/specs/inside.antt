@@ -1,7 +1,5 @@
 -- What private contracts alone cite: the parts of the code.
 pub mod Closing
-pub mod Cut
-pub mod Judged
 pub mod Putting
 pub mod Seats
 pub mod Waiting

@@ -1,2 +1,3 @@
 -- Worked examples, which the checker computes.
 pub mod Rows
+pub mod Orders

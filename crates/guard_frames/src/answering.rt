@@ -14,7 +14,7 @@ use crate::decision::Decide;
 use crate::devices::{Failed, Sink, put_all};
 use crate::header::read_body;
 use crate::report::{Ruling, judge, put_report};
-use crate::short_line::{ShortLine, add};
+use crate::short_line::{ShortLine, append};
 use guard_policy::LastRoute;
 use itoa::Buffer;
 use std::alloc::Global;
@@ -73,13 +73,13 @@ fn put_pass<S: Sink>(answers: &mut S, number: u64, body: &Body) -> Result<(), Fa
 {
     let mut buffer = Buffer::new();
     let mut line = ShortLine::new();
-    add(&mut line, buffer.format(number).as_bytes());
-    add(&mut line, b" ");
-    add(&mut line, body.sender);
-    add(&mut line, b">");
-    add(&mut line, body.receiver);
-    add(&mut line, b" ");
-    add(&mut line, body.name);
-    add(&mut line, b" pass\n");
+    append(&mut line, buffer.format(number).as_bytes());
+    append(&mut line, b" ");
+    append(&mut line, body.sender);
+    append(&mut line, b">");
+    append(&mut line, body.receiver);
+    append(&mut line, b" ");
+    append(&mut line, body.name);
+    append(&mut line, b" pass\n");
     put_all(answers, line.as_slice())
 }

@@ -2,10 +2,13 @@
 
 ghost use Rattle.std.specs.Prelude.{◌≡◌, ◌<◌, ◌≤◌, ◌^◌, length, drop};
 ghost use Rattle.guard_frames.specs.Frames.{stated_length};
-ghost use Rattle.guard_frames.specs.inside.Cut.{IsCut};
+ghost use Rattle.guard_frames.specs.Cutting.{IsCut};
+
+/// How many octets the length of a frame has.
+pub const LENGTH_OCTETS: usize = 4;
 
 /// The most octets that the body of a frame may have.
-pub const LONGEST_BODY: usize = 1048576;
+pub const LONGEST_BODY: usize = 1_048_576;
 
 /// A whole frame.
 #[derive(Clone, Copy)]
@@ -45,7 +48,7 @@ pub fn body_length(octets: &[u8]) -> usize
         + octets[3] as usize
 }
 
-/// What the octets begin with.
+/// What the octets begin with: a whole frame; else octets that can become one, or a length above 1,048,576.
 pub fn first_cut(octets: &[u8]) -> Cut
     ensures { IsCut octets.now result }
 {
@@ -63,7 +66,7 @@ pub fn first_cut(octets: &[u8]) -> Cut
 }
 
 /// These octets as a frame. Condition: there are four octets at least.
-pub(crate) fn frame_of(octets: &[u8]) -> Frame
+pub fn frame_of(octets: &[u8]) -> Frame
     requires { 4 ≤ length octets.now }
     ensures whole { result.octets.now ≡ octets.now }
     ensures body { result.body.now ≡ drop 4 octets.now }

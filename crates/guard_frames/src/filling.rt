@@ -6,7 +6,7 @@ ghost use Rattle.guard_frames.specs.Frames.{IsFrame, IsUnfinished, stated_length
 use crate::cut::{LONGEST_BODY, body_length};
 
 /// How many octets a link can hold: those of the longest frame.
-pub const LONGEST_FRAME: usize = 1048580;
+pub const LONGEST_FRAME: usize = 1_048_580;
 
 /// Appends the first octets of the piece, so many at most, and answers how many. Condition: there is room for so many.
 pub fn hold_some(held: &mut Vec<u8>, piece: &[u8], most: usize) -> usize

@@ -3,7 +3,7 @@
 use crate::devices::{Failed, Sink};
 use std::alloc::Global;
 
-/// A sink that keeps what it takes in memory. Want of memory is its only failure.
+/// A sink in memory, for what is looked at later. It fails where memory runs out, and never else.
 #[derive(Drop)]
 pub struct Kept {
     kept: Vec<u8>,

@@ -3,11 +3,11 @@
 //!
 //! | question | code | definition |
 //! |---|---|---|
-//! | What is a frame, and how is a stream cut into frames? | `cut.rt` | `specs/Frames.antt`, `specs/inside/Cut.antt` |
+//! | What is a frame, and how is a stream cut into frames? | `cut.rt` | `specs/Frames.antt`, `specs/Cutting.antt` |
 //! | What is the header of a frame? | `body.rt`, `header.rt` | `specs/Bodies.antt` |
 //! | What is a name in a header? | `header.rt` | `specs/Names.antt` of `guard_policy` |
 //! | Which bodies go, and what is reported of the others? | `decision.rt` (`Decide`) | `specs/Outcomes.antt` |
-//! | What becomes of one frame? | `report.rt` (`judge`) | `specs/Guarding.antt` (`Adds`), `specs/inside/Judged.antt` |
+//! | What becomes of one frame? | `report.rt` (`judge`) | `specs/Guarding.antt` (`Adds`), `specs/Judged.antt` |
 //! | What goes out of octets in memory? | `putting.rt` (`put_frames`) | `specs/Guarding.antt` (`text_out`) |
 //! | What is reported of them? | `putting.rt` | `specs/Guarding.antt` (`AllAdd`), `specs/inside/Putting.antt` |
 //! | How many frames were there? | `totals.rt` (`Totals`) | `specs/Totals.antt`, `specs/Guarding.antt` (`Counts`) |
@@ -61,16 +61,19 @@ mod waiting;
 
 pub use answering::answer;
 pub use body::Body;
-pub use cut::body_length;
+pub use cut::{Cut, Frame, LENGTH_OCTETS, LONGEST_BODY, Rest, body_length, first_cut, frame_of};
 pub use decision::Decide;
 pub use devices::{Failed, Sink, Source, put_all, put_both};
+pub use filling::LONGEST_FRAME;
 pub use gateway::{Event, Gateway, NoRoom, StepFault};
 pub use guarding::run;
 pub use header::read_body;
 pub use kept::Kept;
 pub use link::{Link, LinkFault};
-pub use running::{RunFault, decide_stream};
+pub use report::{Report, Ruling, judge, line_of};
+pub use running::{MOST_READS, RunFault, decide_stream};
 pub use seats::Ends;
+pub use short_line::{ShortLine, append};
 pub use texts::{TextsFault, load_texts, run_texts};
 pub use through::Through;
 pub use totals::Totals;

@@ -4,7 +4,7 @@ ghost use Rattle.std.specs.Prelude.{◌≡◌, ◌++◌, ◌≤◌, true, List, 
 ghost use Rattle.std.specs.Io.KnownBytes.{Appends};
 ghost use Rattle.guard_frames.specs.Calls.{EndsLine, AsksLines};
 ghost use Rattle.guard_frames.specs.Prefix.{IsProperPrefix};
-ghost use Rattle.guard_frames.specs.inside.Judged.{IsJudged, IsReportOf, ReportEnds, RulingEnds, report_line};
+ghost use Rattle.guard_frames.specs.Judged.{IsJudged, IsReportOf, ReportEnds, RulingEnds, report_line};
 ghost use Rattle.guard_frames.specs.Bodies.{body_view, HasNames};
 
 use crate::body::Body;
@@ -12,14 +12,14 @@ use crate::cut::Frame;
 use crate::decision::Decide;
 use crate::devices::{Failed, Sink, put_all};
 use crate::header::read_body;
-use crate::short_line::{ShortLine, add};
+use crate::short_line::{ShortLine, append};
 use guard_policy::{LastRoute, Marks, Passing};
 use itoa::Buffer;
 use std::alloc::Global;
 
 /// What becomes of a frame.
 #[derive(Drop)]
-pub(crate) enum Ruling {
+pub enum Ruling {
     /// The frame goes out.
     Goes,
     /// The frame stays, and this is reported of it.
@@ -28,7 +28,7 @@ pub(crate) enum Ruling {
 
 /// What is reported of a frame that stays.
 #[derive(Drop)]
-pub(crate) enum Report {
+pub enum Report {
     /// The frame's body isn't three names and a message.
     BadHeader,
     /// There was no memory for the frame's line.
@@ -39,7 +39,7 @@ pub(crate) enum Report {
 
 /// What becomes of the frame of this number. No memory is taken for one that goes. Condition: the frame's body is what
 /// follows its first four octets.
-pub(crate) fn judge<D: Decide>(
+pub fn judge<D: Decide>(
     alloc: Global,
     policy: &D,
     number: u64,
@@ -95,7 +95,7 @@ pub(crate) fn put_report<S: Sink>(sink: &mut S, number: u64, report: &Report) ->
 
 /// The line that says why the frame of this number stays. A line that takes no memory is put together in `short`.
 /// Conditions: a line that is given ends with a line feed, and `short` is empty.
-pub(crate) fn line_of<'a>(number: u64, report: &'a Report, short: &'a mut ShortLine) -> &'a [u8]
+pub fn line_of<'a>(number: u64, report: &'a Report, short: &'a mut ShortLine) -> &'a [u8]
     requires ends { ReportEnds report.now }
     requires empty { short.old.items ≡ [] }
     ensures line { result.now ≡ report_line number report.now }
@@ -117,7 +117,7 @@ fn numbered<'a>(number: u64, octets: &[u8], line: &'a mut ShortLine) -> &'a [u8]
     ensures ends { EndsLine result.now }
 {
     let mut buffer = Buffer::new();
-    add(line, buffer.format(number).as_bytes());
-    add(line, octets);
+    append(line, buffer.format(number).as_bytes());
+    append(line, octets);
     line.as_slice()
 }

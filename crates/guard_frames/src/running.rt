@@ -62,7 +62,7 @@ fn new_buffer(alloc: Global) -> Result<Vec<u8>, OutOfMemory>
 const PIECE: usize = 65536;
 
 /// How many pieces are read at most: 2^40.
-const MOST_READS: u64 = 1_099_511_627_776;
+pub const MOST_READS: u64 = 1_099_511_627_776;
 
 /// Reads the next octets into the front of the buffer.
 fn read_piece<S: Source>(source: &mut S, buffer: &mut Vec<u8>) -> Result<usize, Failed>

@@ -5,7 +5,7 @@ use Rattle.guard_frames.specs.declared.putting.Whole.{Whole}
 use Rattle.guard_frames.specs.Outcomes.{Decision}
 use Rattle.guard_frames.specs.Added.{Added}
 use Rattle.guard_frames.specs.Feeding.{Decides}
-use Rattle.guard_frames.specs.inside.Cut.{IsRest}
+use Rattle.guard_frames.specs.Cutting.{IsRest}
 
 -- The frames were decided in order from the totals n on, they added this, and what follows them is no whole frame.
 pub record ArePut (d : Decision) (n : Totals) (octets : List ℕ) (whole : Whole) (added : Added) : Type 0 where

@@ -2,7 +2,7 @@ use Rattle.std.proofs.Common.{◌≡◌, List, ℕ, subst, sym, ◌∙◌, drop}
 use Rattle.std.proofs.lemmas.List.{take_rest}
 use Rattle.guard_frames.specs.Frames.{IsUnfinished, IsTooLong}
 use Rattle.guard_frames.specs.Feeding.{Decides}
-use Rattle.guard_frames.specs.inside.Cut.{IsRest}
+use Rattle.guard_frames.specs.Cutting.{IsRest}
 use Rattle.guard_frames.proofs.feeding.put_rest.Goals as goal
 
 pub returns-in-TooLong-clause-puts : goal.returns-in-TooLong-clause-puts

@@ -3,7 +3,7 @@ use Rattle.guard_frames.specs.Totals.{next_number}
 use Rattle.guard_frames.specs.Outcomes.{staying}
 use Rattle.guard_frames.specs.Added.{nothing}
 use Rattle.guard_frames.specs.Guarding.{Adds}
-use Rattle.guard_frames.specs.inside.Judged.{report_line}
+use Rattle.guard_frames.specs.Judged.{report_line}
 use Rattle.guard_frames.proofs.Asking.{asks_none, asks_trans}
 use Rattle.guard_frames.proofs.Appending.{sent_more, reported_more, both_none, both_sent, both_reported}
 use Rattle.guard_frames.proofs.Steps.{on_err_of, first_at, at_last}

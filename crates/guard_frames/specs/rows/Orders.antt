@@ -1,0 +1,94 @@
+-- The headline on two frames, computed: an order that goes, and one that stays.
+--
+--     Order ::= SEQUENCE { qty INTEGER }
+--     Small ::= Order (WITH COMPONENTS { qty (1..9) })
+--
+-- One rule lets the small orders of north to south through.
+use Rattle.std.specs.Prelude.{◌≡◌, ℕ, pos, false, List, [], ◌∷◌, ◌++◌, codes, None, refl}
+use Rattle.std.proofs.Common.{inl, inr}
+use Rattle.std.specs.Fmt.{digits}
+use Rattle.guard_model.specs.declared.site.Site.{Site}
+use Rattle.guard_model.specs.declared.site.Step.TheVariants.{Component}
+use Rattle.guard_model.specs.declared.ty.Limit.TheVariants.{At}
+use Rattle.guard_model.specs.AbstractType as type
+use Rattle.guard_model.specs.AbstractType.{AbstractType, Components, Constraints, no_components, component, at, no_constraints, constraint}
+use Rattle.guard_model.specs.AbstractValue as value
+use Rattle.guard_model.specs.AbstractValue.{AbstractValue}
+use Rattle.guard_der.specs.Octets.{fewest, unsigned_octets, signed_octets}
+use Rattle.guard_der.specs.Element.{identifier_octets, length_octets, element}
+use Rattle.guard_eval.specs.rows.Rows.{plain, tagged, column, range_at}
+use Rattle.guard_policy.specs.declared.policy.Effect.TheVariants.{Allow}
+use Rattle.guard_policy.specs.Policies.{AbstractPolicy}
+use Rattle.guard_policy.specs.Verdicts.{AbstractVerdict, not_allowed}
+use Rattle.guard_frames.specs.Bodies.{AbstractBody}
+use Rattle.guard_frames.specs.Headline.{MayGo, IsLineOf}
+
+abbrev components : Components
+components = component (codes "qty") (plain 2 (type.integer [])) type.mandatory no_components
+
+abbrev order_type : Constraints → AbstractType
+order_type cons = tagged 16 (type.sequence components) cons
+
+abbrev small : Constraints
+small = constraint
+    (at (column 17) (type.with_components false
+    (type.part_within (column 36) 0 (range_at 40 (pos 1) (pos 9)) None type.no_parts)))
+    no_constraints
+
+abbrev policy : AbstractPolicy
+policy = record {
+  messages = record { name = codes "order"; home = codes "Orders"; ty = order_type no_constraints } ∷ [];
+  rules = record {
+    name = codes "small";
+    effect = Allow;
+    from = codes "north";
+    to = codes "south";
+    message = codes "order";
+    ty = order_type small;
+  } ∷ [];
+  modules = codes "Orders" ∷ [];
+}
+
+-- an order of so many, from north to south
+abbrev body : ℕ → AbstractBody
+body n = record {
+  sender = codes "north";
+  receiver = codes "south";
+  name = codes "order";
+  message_octets = 0x30 ∷ 3 ∷ 2 ∷ 1 ∷ n ∷ [];
+}
+
+abbrev frame : ℕ → List ℕ
+frame n =
+    0 ∷ 0 ∷ 0 ∷ 23 ∷ 5 ∷ codes "north" ++ (5 ∷ codes "south" ++ (5 ∷ codes "order" ++ (0x30 ∷ 3 ∷ 2 ∷ 1 ∷ n ∷ [])))
+
+abbrev order : ℕ → AbstractValue
+order n = value.fields (value.present (value.integer (pos n)) value.no_fields)
+
+-- five may go: three names, the declared type, its value and encoding, a rule that allows and none that denies
+five_goes : MayGo policy (frame 5)
+unfolding fewest unsigned_octets signed_octets identifier_octets length_octets element
+five_goes = (
+  body 5,
+  record { joined = refl; names = record { sender = refl; receiver = refl; name = refl } },
+  order_type no_constraints,
+  order 5,
+  refl,
+  refl,
+  refl,
+  refl,
+  refl,
+  refl,
+)
+
+-- fifty isn't allowed, by the range in column 40 of the module
+abbrev reason : AbstractVerdict
+reason = not_allowed ((0, record { site = column 40; path = Component 0 ∷ [] }) ∷ [])
+
+fifty_stays : IsLineOf policy 2 (frame 50) (codes "2 north>south order not-allowed small Orders:1:40 $.qty\n")
+unfolding fewest unsigned_octets signed_octets identifier_octets length_octets element digits
+fifty_stays = inl (
+  body 50,
+  record { joined = refl; names = record { sender = refl; receiver = refl; name = refl } },
+  inl (reason, inr (order_type no_constraints, refl, inr (order 50, refl, refl, refl)), refl),
+)

@@ -15,6 +15,14 @@ use guard_tagging::TagFault;
 use guard_values::ValueFault;
 use std::alloc::Global;
 
+/// Where the grammar goes no further.
+pub const NO_FURTHER: &str =
+    "A module can not go on like this. Look at what is here and at what is missing before it.";
+
+/// Where a value isn't written as those of its type are.
+pub const WRONG_VALUE: &str =
+    "A value of its type is not written like this, or the name stands for a value of another type.";
+
 /// What is wrong and what to do, in a line of at most 120 columns; and where there is more to say another such line.
 #[derive(Clone, Copy)]
 pub struct Advice<'a> {
@@ -96,9 +104,7 @@ fn syntax_advice(
     match fault {
         SyntaxFault::Unexpected(site) => {
             let form = form_of_unexpected(alloc, module_text(sources, site.text), *site)?;
-            Ok(form.unwrap_or(words(
-                "A module can not go on like this. Look at what is here and at what is missing before it.",
-            )))
+            Ok(form.unwrap_or(words(NO_FURTHER)))
         }
         SyntaxFault::Unsupported(spelling, _) => Ok(Advice {
             words: "This guard leaves out this form of ASN.1, and messages that need it. docs/COVERAGE.md has what it \
@@ -211,9 +217,7 @@ fn value_advice(
     match fault {
         ValueFault::WrongNotation(site) => {
             let form = form_of_value(alloc, module_text(sources, site.text), *site)?;
-            Ok(form.unwrap_or(words(
-                "A value of its type is not written like this, or the name stands for a value of another type.",
-            )))
+            Ok(form.unwrap_or(words(WRONG_VALUE)))
         }
         _ => Ok(words(value_words(fault))),
     }

@@ -1,7 +1,7 @@
 //! Which form of ASN.1 stands at the place of a fault, where that form is lawful and left out of this profile: what it
 //! is, what to write in its place, and what `derguard-lower` does with it. A form is told by the tokens next to the
 //! place, so what is said of one may be said of something else that begins like it.
-use crate::advice::Advice;
+use crate::advice::{Advice, NO_FURTHER, WRONG_VALUE, two_lines};
 use crate::token_notes::tokens_at;
 use guard_lexer::{LexFault, Mark, Reserved, Token, TokenKind as Kind, tokens};
 use guard_model::{OutOfMemory, Site};
@@ -115,6 +115,16 @@ const NUMBER_BY_NAME: Advice<'static> = Advice {
 const ARC_BY_NAME: Advice<'static> = Advice {
     words: "An arc by its name alone (X.680 32) is ASN.1 that this guard leaves out. Write its number, as 1 or iso(1).",
     more: LOWERED,
+};
+
+/// `a A ::= {iso standard}`, where A may be any type.
+const PERHAPS_ARC: &str =
+    "If this is an object identifier, write a number for each arc, as 1 or iso(1): this guard leaves out names alone.";
+
+/// `a IA5String ::= {0, 1}`
+const CHARACTER_BY_NUMBERS: Advice<'static> = Advice {
+    words: "A character by its numbers (X.680 41) is ASN.1 that this guard leaves out. Write the string in quotes.",
+    more: None,
 };
 
 /// `a < A`
@@ -232,11 +242,7 @@ fn form_at(tokens: &[Token], place: usize) -> Option<Advice<'static>> {
     if let Some(form) = form_ahead(tokens, place) {
         return Some(form);
     }
-    if has_arc_by_name(tokens, place) {
-        Some(ARC_BY_NAME)
-    } else {
-        None
-    }
+    arcs_before(tokens, place)
 }
 
 /// A form that the token at the place tells with at most three before it.
@@ -289,44 +295,75 @@ fn form_ahead(tokens: &[Token], place: usize) -> Option<Advice<'static>> {
     }
 }
 
-/// Braces that are to be an object identifier and begin with a name.
+/// Braces that begin with an arc by its name, or with a number in place of a character.
 fn form_of_braces(tokens: &[Token], place: usize) -> Option<Advice<'static>> {
-    let behind = kind(tokens, place.saturating_add(1));
-    if is_object_identifier(tokens, place) && behind == Some(Kind::LowerName) {
-        Some(ARC_BY_NAME)
-    } else {
-        None
+    match kind(tokens, place.saturating_add(1))? {
+        Kind::LowerName => arcs_in(tokens, place, WRONG_VALUE),
+        Kind::Number => characters_in(tokens, place),
+        _ => None,
     }
 }
 
-/// Whether the place is inside the braces of an object identifier, with a name before it that no parenthesis follows.
-fn has_arc_by_name(tokens: &[Token], place: usize) -> bool {
+/// The braces at the place with a number, where a string is due.
+fn characters_in(tokens: &[Token], place: usize) -> Option<Advice<'static>> {
+    match governor(tokens, place)? {
+        Kind::Reserved(
+            Reserved::Ia5String
+            | Reserved::NumericString
+            | Reserved::PrintableString
+            | Reserved::Utf8String
+            | Reserved::VisibleString,
+        ) => Some(CHARACTER_BY_NUMBERS),
+        _ => None,
+    }
+}
+
+/// Braces around the place, with a name before it that no parenthesis follows.
+fn arcs_before(tokens: &[Token], place: usize) -> Option<Advice<'static>> {
     let mut has_name = false;
     let mut behind = kind(tokens, place);
     for back in 1..place {
-        let Some(token) = kind_before(tokens, place, back) else {
-            return false;
-        };
+        let token = kind_before(tokens, place, back)?;
         if token == Kind::Mark(Mark::LeftBrace) {
-            return has_name && is_object_identifier(tokens, place.saturating_sub(back));
+            let brace = place.saturating_sub(back);
+            return if has_name {
+                arcs_in(tokens, brace, NO_FURTHER)
+            } else {
+                None
+            };
         }
         has_name = has_name || is_arc_by_name(token, behind);
         behind = Some(token);
     }
-    false
+    None
+}
+
+/// The braces at the place with an arc by its name. Where nobody can tell that they are an object identifier, that is
+/// said below these words.
+fn arcs_in(tokens: &[Token], place: usize, words: &'static str) -> Option<Advice<'static>> {
+    match governor(tokens, place)? {
+        Kind::Reserved(Reserved::Identifier) => Some(ARC_BY_NAME),
+        Kind::UpperName => Some(two_lines(words, PERHAPS_ARC)),
+        _ => None,
+    }
 }
 
 fn is_arc_by_name(token: Kind, behind: Option<Kind>) -> bool {
     token == Kind::LowerName && behind != Some(Kind::Mark(Mark::LeftParenthesis))
 }
 
-/// Whether there is a brace at the place, behind `OBJECT IDENTIFIER ::=` or `OBJECT IDENTIFIER DEFAULT`.
-fn is_object_identifier(tokens: &[Token], place: usize) -> bool {
-    let before = kind_before(tokens, place, 1);
-    kind(tokens, place) == Some(Kind::Mark(Mark::LeftBrace))
-        && kind_before(tokens, place, 2) == Some(Kind::Reserved(Reserved::Identifier))
-        && (before == Some(Kind::Mark(Mark::Assignment))
-            || before == Some(Kind::Reserved(Reserved::Default)))
+/// The last token of the type of which the braces at the place are a value: that before `::=`, DEFAULT or a
+/// parenthesis.
+fn governor(tokens: &[Token], place: usize) -> Option<Kind> {
+    let before = kind_before(tokens, place, 1)?;
+    let is_behind_type = before == Kind::Mark(Mark::Assignment)
+        || before == Kind::Mark(Mark::LeftParenthesis)
+        || before == Kind::Reserved(Reserved::Default);
+    if is_behind_type && kind(tokens, place) == Some(Kind::Mark(Mark::LeftBrace)) {
+        kind_before(tokens, place, 2)
+    } else {
+        None
+    }
 }
 
 /// What the token is that comes so many before the place.

@@ -4,8 +4,8 @@ use crate::advice::{Advice, two_lines, words};
 use guard_policy::{Entry, Key, PolicyFault};
 use guard_tables::TableFault;
 
-/// A fault of a policy, Q1 to Q9, the lines that are said of its entry, and of which part too much is asked. Where memory
-/// ran out nothing is shown.
+/// A fault of a policy, Q1 to Q9, the lines that are said of its entry, and of which part too much is asked. Where
+/// memory ran out nothing is shown.
 pub fn policy_advice<'a>(fault: &PolicyFault, said: &str, crowding: &'a str) -> Advice<'a> {
     match fault {
         PolicyFault::Toml => words(
@@ -66,7 +66,8 @@ fn table_advice<'a>(fault: &TableFault, crowding: &'a str) -> Advice<'a> {
         ),
         TableFault::TooManyConditions => two_lines(
             crowding,
-            "Each type counts there, and each constraint. Write ranges for values, or fewer rules: 127 fit with one each.",
+            "Each type counts there, and each constraint. Write ranges for values, or fewer rules: 127 fit with one \
+             each.",
         ),
         TableFault::TooManyRules => {
             words("The message has more than 255 rules. Join some of them by unions of types.")

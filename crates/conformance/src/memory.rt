@@ -2,7 +2,7 @@
 ghost use Rattle.std.specs.Prelude.{◌≡◌, ◌≤◌, Some, length, option_map, take};
 ghost use Rattle.conformance.specs.Memory.{found, text_at};
 
-use derguard_program::{Files, FilesFault, Obstacle};
+use guard_files::{Files, FilesFault, Obstacle};
 use std::alloc::{AllocError, Global};
 
 /// A text at a path.

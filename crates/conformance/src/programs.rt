@@ -2,7 +2,8 @@
 use crate::memory::{Entries, Reads};
 use conformance_decisions::{Pieces, Room};
 use conformance_rows::{Layer, octets_in, text_of};
-use derguard_program::{Failing, Says, program};
+use derguard_program::program;
+use guard_streams::{Failing, Says};
 use std::alloc::{AllocError, Global};
 
 /// What is reported of a standard output that fails.
@@ -17,7 +18,8 @@ enum Asked {
     FirstLines,
     /// How many runs end with 3 where standard output fails after so many octets, for each number, with that report.
     EachOut,
-    /// The same where standard error fails, and nothing is said after what it took.
+    /// How many runs end with 3 where standard error fails after so many octets, for each number. Nothing is said after
+    /// what it took.
     EachErr,
 }
 

@@ -8,7 +8,8 @@ mod noting;
 mod real_files;
 mod waiting;
 
-use derguard_program::{program, tell_no_memory, tell_text};
+use derguard_program::program;
+use guard_files::{tell_no_memory, tell_text};
 use guard_frames::{Sink, Through};
 use noting::{Noting, System};
 use real_files::RealFiles;

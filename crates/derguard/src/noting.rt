@@ -1,5 +1,5 @@
 //! Devices that remember why they failed, and what the system said.
-use derguard_program::{Failing, Says};
+use guard_streams::{Failing, Says};
 use std::alloc::{AllocError, Global};
 use std::cell::Cell;
 use std::io::{self, Read, Write};

@@ -2,7 +2,7 @@
 ghost use Rattle.std.specs.Prelude.{◌≤◌, None, length, IfOk};
 
 use crate::noting::Last;
-use derguard_program::{Files, FilesFault, Obstacle};
+use guard_files::{Files, FilesFault, Obstacle};
 use std::alloc::Global;
 use std::fs::{self, File};
 use std::io::{self, ErrorKind, Read};

@@ -13,8 +13,9 @@ use Rattle.clap.specs.Faults.{check_fault, defaults_fault, entered_fault, fault_
 use Rattle.clap.specs.Kinds.{Kinds, or_else}
 use Rattle.clap.specs.Simple.{App, Shape, argument_words, built, built_leaf, entered, filled, help_rule, help_shape, inherited, label_of, marked_built, names_of, rows_at, subcommand_of, with_index, with_leaf_noted}
 use Rattle.clap.specs.declared.error.kind.ErrorKind.TheVariants as kind
-use Rattle.derguard_program.specs.Encodes.{AbstractEncoding}
-use Rattle.derguard_program.specs.Questions.{AbstractQuestion}
+use Rattle.guard_messages.specs.Questions.{AbstractQuestion}
+use Rattle.guard_authors.specs.Encodes.{AbstractEncoding}
+use Rattle.guard_authors.specs.Testing.{AbstractTrial}
 use Rattle.derguard_program.specs.Requests.{AbstractRequest, first, check, decide, show, encode, test, run, ask, mux}
 use Rattle.derguard_program.specs.Words.{AreFound, IsCommand, ask_shape, check_shape, decide_shape, encode_shape, flag_of, flag_rule, free_option_rule, free_place_rule, mux_shape, option_rule, place_rule, run_shape, show_shape, test_shape, the_app}
 use Rattle.derguard_program.proofs.Filled.{AllFill, Filled, Fills, IsFilled, both_none, finished_filled, flag_fills, help_fills, set_fills, some_kind, walk_filled}
@@ -208,14 +209,14 @@ decide_fills =
 
 show_fills : AllFill built_show.rules
 show_fills =
-    (place_fills 1 (codes "policy"), (free_option_fills (codes "message"), (free_place_fills 2 (codes "hex"), (free_option_fills (codes "der"), (free_option_fills (codes "frame"), (free_option_fills (codes "link"), (help_flag_fills 3, tt)))))))
+    (place_fills 1 (codes "policy"), (free_option_fills (codes "message"), (free_place_fills 2 (codes "hex"), (free_option_fills (codes "der"), (free_option_fills (codes "frame"), (free_option_fills (codes "link"), (switch_fills 3 (codes "capture"), (help_flag_fills 3, tt))))))))
 
 encode_fills : AllFill built_encode.rules
 encode_fills =
     (place_fills 1 (codes "policy"), (option_fills (codes "message"), (free_place_fills 2 (codes "value"), (free_option_fills (codes "from"), (free_option_fills (codes "to"), (switch_fills 3 (codes "der"), (help_flag_fills 3, tt)))))))
 
 test_fills : AllFill built_test.rules
-test_fills = (place_fills 1 (codes "policy"), (free_place_fills 2 (codes "cases"), (switch_fills 3 (codes "cover"), (help_flag_fills 3, tt))))
+test_fills = (place_fills 1 (codes "policy"), (free_place_fills 2 (codes "cases"), (switch_fills 3 (codes "cover"), (switch_fills 3 (codes "explain"), (help_flag_fills 3, tt)))))
 
 run_fills : AllFill built_run.rules
 run_fills = (place_fills 1 (codes "policy"), (switch_fills 2 (codes "verbose"), (help_flag_fills 2, tt)))
@@ -253,8 +254,9 @@ show_asks words e =
       frame = first_of (codes "frame") rows;
       link = first_of (codes "link") rows;
       explain = false;
+      capture = flag_of (codes "capture") rows;
     } in
-    (show asked, (refl, p.1, refl, refl, refl, refl, refl, refl, refl, refl))
+    (show asked, (refl, p.1, refl, refl, refl, refl, refl, refl, refl, refl, refl))
 
 encode_asks : (words : List Text) → level_fault built_encode [] nothing_held words false [] ≡ [] → Requests built_encode words
 encode_asks words e =
@@ -280,7 +282,13 @@ test_asks words e =
     let filled = rows_filled built_test [] words false [] e test_fills in
     let policy = given_next _ _ (check_none built_test [] words false [] e) in
     let p = given_value (codes "policy") rows filled policy.0 in
-    (test p.0 (first_of (codes "cases") rows) (flag_of (codes "cover") rows), (refl, p.1, refl, refl))
+    let asked : AbstractTrial = record {
+      policy = p.0;
+      cases = first_of (codes "cases") rows;
+      cover = flag_of (codes "cover") rows;
+      explain = flag_of (codes "explain") rows;
+    } in
+    (test asked, (refl, p.1, refl, refl, refl))
 
 run_asks : (words : List Text) → level_fault built_run [] nothing_held words false [] ≡ [] → Requests built_run words
 run_asks words e =
@@ -319,8 +327,9 @@ decide_asks words e =
       frame = first_of (codes "frame") rows;
       link = first_of (codes "link") rows;
       explain = flag_of (codes "explain") rows;
+      capture = false;
     } in
-    (decide asked, (refl, p.1, refl, refl, refl, refl, refl, refl, refl, refl))
+    (decide asked, (refl, p.1, refl, refl, refl, refl, refl, refl, refl, refl, refl))
 
 -- ---- the command that the words name
 
@@ -419,6 +428,7 @@ module _ (rows : List Row) where
     frame = first_of (codes "frame") rows;
     link = first_of (codes "link") rows;
     explain = flag_of (codes "explain") rows;
+    capture = false;
   }
 
   abbrev showing_at : AbstractQuestion
@@ -432,6 +442,15 @@ module _ (rows : List Row) where
     frame = first_of (codes "frame") rows;
     link = first_of (codes "link") rows;
     explain = false;
+    capture = flag_of (codes "capture") rows;
+  }
+
+  abbrev trial_at : AbstractTrial
+  trial_at = record {
+    policy = value_of (codes "policy");
+    cases = first_of (codes "cases") rows;
+    cover = flag_of (codes "cover") rows;
+    explain = flag_of (codes "explain") rows;
   }
 
   request_at : ℕ → AbstractRequest
@@ -440,7 +459,7 @@ module _ (rows : List Row) where
       else if nat_eq letter 100 then decide decision_at
       else if nat_eq letter 115 then show showing_at
       else if nat_eq letter 101 then encode encoding_at
-      else if nat_eq letter 116 then test (value_of (codes "policy")) (first_of (codes "cases") rows) (flag_of (codes "cover") rows)
+      else if nat_eq letter 116 then test trial_at
       else if nat_eq letter 114 then run (value_of (codes "policy")) (flag_of (codes "verbose") rows)
       else if nat_eq letter 97 then ask (value_of (codes "policy"))
       else if nat_eq letter 109 then mux (value_of (codes "policy")) (flag_of (codes "verbose") rows)
@@ -468,7 +487,7 @@ module _ (rows : List Row) where
       let d = sym h.6 in
       let n = sym h.7 in
       let l = sym h.8 in
-      (λ i. decide (record { policy = p i; from = f i; to = t i; message = m i; hex = x i; der = d i; frame = n i; link = l i; explain = h.9 i })) ∙ named_at name (codes "decide") h.0
+      (λ i. decide (record { policy = p i; from = f i; to = t i; message = m i; hex = x i; der = d i; frame = n i; link = l i; explain = h.9 i; capture = h.10 i })) ∙ named_at name (codes "decide") h.0
   is_request_at name (show q) h =
       let p = is_value (codes "policy") q.policy h.1 in
       let f = h.2 in
@@ -478,7 +497,7 @@ module _ (rows : List Row) where
       let d = sym h.6 in
       let n = sym h.7 in
       let l = sym h.8 in
-      (λ i. show (record { policy = p i; from = f i; to = t i; message = m i; hex = x i; der = d i; frame = n i; link = l i; explain = h.9 i })) ∙ named_at name (codes "show") h.0
+      (λ i. show (record { policy = p i; from = f i; to = t i; message = m i; hex = x i; der = d i; frame = n i; link = l i; explain = h.9 i; capture = h.10 i })) ∙ named_at name (codes "show") h.0
   is_request_at name (encode asked) h =
       let p = is_value (codes "policy") asked.policy h.1 in
       let m = is_value (codes "message") asked.message h.2 in
@@ -486,10 +505,10 @@ module _ (rows : List Row) where
       let f = sym h.4 in
       let t = sym h.5 in
       (λ i. encode (record { policy = p i; message = m i; value = v i; from = f i; to = t i; der = h.6 i })) ∙ named_at name (codes "encode") h.0
-  is_request_at name (test path cases cover) h =
-      let p = is_value (codes "policy") path h.1 in
+  is_request_at name (test asked) h =
+      let p = is_value (codes "policy") asked.policy h.1 in
       let f = sym h.2 in
-      (λ i. test (p i) (f i) (h.3 i)) ∙ named_at name (codes "test") h.0
+      (λ i. test (record { policy = p i; cases = f i; cover = h.3 i; explain = h.4 i })) ∙ named_at name (codes "test") h.0
   is_request_at name (run path verbose) h =
       let p = is_value (codes "policy") path h.1 in
       (λ i. run (p i) (h.2 i)) ∙ named_at name (codes "run") h.0

@@ -7,10 +7,10 @@ use Rattle.guard_frames.specs.Added.{nothing}
 use Rattle.guard_frames.specs.Gateways.{AbstractGateway, AbstractEvent as event, step_answer}
 use Rattle.guard_frames.specs.GatewaySteps.{Turn, AreSteps}
 use Rattle.guard_frames.specs.LinkView.{new_link}
-use Rattle.derguard_program.specs.OwnRecords.{AreTurns}
-use Rattle.derguard_program.specs.Records.{Record}
-use Rattle.derguard_program.specs.Records.Record.{piece, end, reload}
-use Rattle.derguard_program.specs.Turns.{AbstractMux, Written, InTurn}
+use Rattle.guard_files.specs.Records.{Record}
+use Rattle.guard_files.specs.Records.Record.{piece, end, reload}
+use Rattle.guard_streams.specs.OwnRecords.{AreTurns}
+use Rattle.guard_streams.specs.Turns.{AbstractMux, Written, InTurn}
 
 -- some events that the records are, and the steps that these make
 pub record Are (path : List ℕ) (old : AbstractMux) (records : List Record) (ws : List Written) (new : AbstractMux) : Type 0 where

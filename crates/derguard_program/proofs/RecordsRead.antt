@@ -5,9 +5,9 @@ use Rattle.std.proofs.lemmas.List.Elements.{All-cons}
 use Rattle.std.proofs.lemmas.Nat.{from_be_bytes-to_be_bytes_2, from_be_bytes-to_be_bytes_4}
 use Rattle.std.proofs.Math.Seq.{take-append_seam, drop-append_seam}
 use Rattle.guard_frames.proofs.Elements.{All_none}
-use Rattle.derguard_program.specs.Records.{Record, record_octets, IsAllowed, HasNoRecord, AreRecords}
-use Rattle.derguard_program.specs.Records.Record.{piece, end, reload}
-use Rattle.derguard_program.proofs.RecordReading.{short_none, joined_first}
+use Rattle.guard_files.specs.Records.{Record, record_octets, IsAllowed, HasNoRecord, AreRecords}
+use Rattle.guard_files.specs.Records.Record.{piece, end, reload}
+use Rattle.guard_files.proofs.RecordReading.{short_none, joined_first}
 
 -- ---- what can be decided
 

@@ -3,8 +3,8 @@ use Rattle.std.proofs.Common.{◌≡◌, ◌⊎◌, ℕ, [], ◌∷◌, inl, inr
 use Rattle.clap.specs.Words.{IsAmong, Kinds}
 use Rattle.clap.specs.declared.error.kind.ErrorKind.{ErrorKind}
 use Rattle.clap.specs.declared.error.kind.ErrorKind.TheVariants.{OutOfMemory}
-use Rattle.derguard_program.specs.Devices.{Device, IsUntouched}
-use Rattle.derguard_program.specs.Writing.{TellsNoMemory}
+use Rattle.guard_files.specs.Devices.{Device, IsUntouched}
+use Rattle.guard_files.specs.Writing.{TellsNoMemory}
 use Rattle.derguard_program.specs.Meeting.{Shows}
 
 alone : (k said : ErrorKind) → IsAmong k (said ∷ []) → k ≡ said

@@ -7,23 +7,23 @@ use Rattle.guard_frames.specs.declared.link.LinkFault.{LinkFault}
 use Rattle.guard_frames.specs.Added.{Added}
 use Rattle.guard_frames.specs.Gateways.{AbstractGateway, AbstractEvent}
 use Rattle.guard_frames.proofs.Appending.{Appends_is}
-use Rattle.derguard_program.specs.declared.fault.Fault.{Fault}
-use Rattle.derguard_program.specs.declared.fault.Fault.TheVariants.{BadHex, CannotRead, TooLarge, Schema, Policy, Run, NoMemory}
-use Rattle.derguard_program.specs.declared.stop.Stop.{Stop}
-use Rattle.derguard_program.specs.declared.stop.Stop.TheVariants.{BadRecord, ReadFailed, WriteFailed, ErrorFailed}
-use Rattle.derguard_program.specs.AtFault.{IsFaultNote}
-use Rattle.derguard_program.specs.Devices.{Input, Device}
-use Rattle.derguard_program.specs.Faults.{fault_status}
-use Rattle.derguard_program.specs.Files.{Told}
-use Rattle.derguard_program.specs.Muxing.{GuardsLinks, TellsStop}
-use Rattle.derguard_program.specs.Passing.{marked, fault_line}
-use Rattle.derguard_program.specs.Records.{Record}
-use Rattle.derguard_program.specs.Records.Record.{piece, end, reload}
-use Rattle.derguard_program.specs.declared.seen.Seen.{Seen}
-use Rattle.derguard_program.specs.Tallying.{IsSeen}
-use Rattle.derguard_program.specs.Turns.{AbstractMux, Written, Happens, PassesOn, InTurn, all_err, status_of, link_status, renewed_note}
-use Rattle.derguard_program.specs.Writing.{IsFaultLine, TellsOctets, Tells}
-use Rattle.derguard_program.proofs.Turning.{all_err-append, status_of-append}
+use Rattle.guard_files.specs.declared.fault.Fault.{Fault}
+use Rattle.guard_files.specs.declared.fault.Fault.TheVariants.{BadHex, CannotRead, TooLarge, Schema, Policy, Run, NoMemory}
+use Rattle.guard_files.specs.declared.stop.Stop.{Stop}
+use Rattle.guard_files.specs.declared.stop.Stop.TheVariants.{BadRecord, ReadFailed, WriteFailed, ErrorFailed}
+use Rattle.guard_files.specs.Devices.{Input, Device}
+use Rattle.guard_files.specs.Faults.{fault_status}
+use Rattle.guard_files.specs.Files.{Told}
+use Rattle.guard_files.specs.Records.{Record}
+use Rattle.guard_files.specs.Records.Record.{piece, end, reload}
+use Rattle.guard_files.specs.Writing.{IsFaultLine, TellsOctets, Tells}
+use Rattle.guard_streams.specs.AtFault.{IsFaultNote}
+use Rattle.guard_streams.specs.Muxing.{GuardsLinks, TellsStop}
+use Rattle.guard_streams.specs.Passing.{marked, fault_line}
+use Rattle.guard_streams.specs.declared.seen.Seen.{Seen}
+use Rattle.guard_streams.specs.Tallying.{IsSeen}
+use Rattle.guard_streams.specs.Turns.{AbstractMux, Written, Happens, PassesOn, InTurn, all_err, status_of, link_status, renewed_note}
+use Rattle.guard_streams.proofs.Turning.{all_err-append, status_of-append}
 
 fault_most : (f : Fault) → fault_status f ≤ 3
 fault_most BadHex = omega arith

@@ -25,7 +25,7 @@ place_rule id = record (required_rule id) { value_names = 1 }
 abbrev pub option_rule : Text → Rule
 option_rule name = record (required_rule name) { long = Some name }
 
--- the same, where they may be left out
+-- words that may be left out: at a place, or the value of an option
 abbrev pub free_rule : Text → Rule
 free_rule id = record (new_rule id) { action = Some Set }
 
@@ -54,11 +54,12 @@ decide_shape = command_shape (codes "decide")
     ∷ free_option_rule (codes "message") ∷ free_place_rule (codes "hex") ∷ free_option_rule (codes "der")
     ∷ free_option_rule (codes "frame") ∷ free_option_rule (codes "link") ∷ flag_rule (codes "explain") ∷ [])
 
--- show POLICY [--message MESSAGE] [HEX] [--der FILE] [--frame NUMBER] [--link NUMBER]
+-- show POLICY [--message MESSAGE] [HEX] [--der FILE] [--frame NUMBER] [--link NUMBER] [--capture]
 abbrev pub show_shape : Shape
 show_shape = command_shape (codes "show")
     (place_rule (codes "policy") ∷ free_option_rule (codes "message") ∷ free_place_rule (codes "hex")
-    ∷ free_option_rule (codes "der") ∷ free_option_rule (codes "frame") ∷ free_option_rule (codes "link") ∷ [])
+    ∷ free_option_rule (codes "der") ∷ free_option_rule (codes "frame") ∷ free_option_rule (codes "link")
+    ∷ flag_rule (codes "capture") ∷ [])
 
 -- encode POLICY --message MESSAGE [VALUE] [--from FROM] [--to TO] [--der]
 abbrev pub encode_shape : Shape
@@ -66,10 +67,11 @@ encode_shape = command_shape (codes "encode")
     (place_rule (codes "policy") ∷ option_rule (codes "message") ∷ free_place_rule (codes "value")
     ∷ free_option_rule (codes "from") ∷ free_option_rule (codes "to") ∷ flag_rule (codes "der") ∷ [])
 
--- test POLICY [CASES] [--cover]
+-- test POLICY [CASES] [--cover] [--explain]
 abbrev pub test_shape : Shape
 test_shape = command_shape (codes "test")
-    (place_rule (codes "policy") ∷ free_place_rule (codes "cases") ∷ flag_rule (codes "cover") ∷ [])
+    (place_rule (codes "policy") ∷ free_place_rule (codes "cases") ∷ flag_rule (codes "cover")
+    ∷ flag_rule (codes "explain") ∷ [])
 
 -- run POLICY [--verbose]
 abbrev pub run_shape : Shape
@@ -107,20 +109,22 @@ IsCommand name rows (decide q) =
     × (first_of (codes "to") rows ≡ q.to) × (first_of (codes "message") rows ≡ q.message)
     × (first_of (codes "hex") rows ≡ q.hex) × (first_of (codes "der") rows ≡ q.der)
     × (first_of (codes "frame") rows ≡ q.frame) × (first_of (codes "link") rows ≡ q.link)
-    × (q.explain ≡ flag_of (codes "explain") rows)
+    × (q.explain ≡ flag_of (codes "explain") rows) × (q.capture ≡ false)
 IsCommand name rows (show q) =
     (name ≡ codes "show") × (first_of (codes "policy") rows ≡ Some q.policy) × (q.from ≡ None) × (q.to ≡ None)
     × (first_of (codes "message") rows ≡ q.message) × (first_of (codes "hex") rows ≡ q.hex)
     × (first_of (codes "der") rows ≡ q.der) × (first_of (codes "frame") rows ≡ q.frame)
     × (first_of (codes "link") rows ≡ q.link) × (q.explain ≡ false)
+    × (q.capture ≡ flag_of (codes "capture") rows)
 IsCommand name rows (encode asked) =
     (name ≡ codes "encode") × (first_of (codes "policy") rows ≡ Some asked.policy)
     × (first_of (codes "message") rows ≡ Some asked.message) × (first_of (codes "value") rows ≡ asked.value)
     × (first_of (codes "from") rows ≡ asked.from) × (first_of (codes "to") rows ≡ asked.to)
     × (asked.der ≡ flag_of (codes "der") rows)
-IsCommand name rows (test path cases cover) =
-    (name ≡ codes "test") × (first_of (codes "policy") rows ≡ Some path) × (first_of (codes "cases") rows ≡ cases)
-    × (cover ≡ flag_of (codes "cover") rows)
+IsCommand name rows (test asked) =
+    (name ≡ codes "test") × (first_of (codes "policy") rows ≡ Some asked.policy)
+    × (first_of (codes "cases") rows ≡ asked.cases) × (asked.cover ≡ flag_of (codes "cover") rows)
+    × (asked.explain ≡ flag_of (codes "explain") rows)
 IsCommand name rows (run path verbose) =
     (name ≡ codes "run") × (first_of (codes "policy") rows ≡ Some path) × (verbose ≡ flag_of (codes "verbose") rows)
 IsCommand name rows (ask path) = (name ≡ codes "ask") × (first_of (codes "policy") rows ≡ Some path)

@@ -1,33 +1,22 @@
 //! The program over any files, source and sinks.
 ghost use Rattle.std.specs.Prelude.{◌≡◌, ◌≤◌, ◌∷◌, [], length, map, string_bytes, true, false, IfOk, IfErr};
+ghost use Rattle.guard_files.specs.Devices.{source_of, device_of, IsUntouched};
+ghost use Rattle.guard_files.specs.Writing.{TellsNoMemory};
 ghost use Rattle.derguard_program.specs.Requests.{request_view, first, run, mux};
-ghost use Rattle.derguard_program.specs.Devices.{source_of, device_of, IsUntouched};
-ghost use Rattle.derguard_program.specs.Writing.{TellsNoMemory};
 ghost use Rattle.derguard_program.specs.Meeting.{Meets, Programs, Shows, is_help, version_line};
 ghost use Rattle.clap.specs.Words.{kind_of};
 ghost use Rattle.clap.specs.declared.error.kind.ErrorKind.TheVariants.{DisplayVersion, OutOfMemory};
 
-use crate::asking::ask;
-use crate::checking::{check, check_explained};
-use crate::encoding::encode;
-use crate::files::Files;
-use crate::first_run::first_run;
-use crate::giving::{give, give_explained};
-use crate::guarding::run;
 use crate::joining::joined;
-use crate::looking::{decide_asked, show_asked};
-use crate::muxing::mux;
-use crate::outputs::{tell_no_memory, tell_text, write};
 use crate::request::Request;
-use crate::saying::Says;
-use crate::strictness::check_strictly;
-use crate::testing::test;
-use crate::verbose::run_verbosely;
-use crate::watching_links::mux_verbosely;
 use crate::words::{VERSION, request_in};
 use clap::Error;
 use clap::error::ErrorKind;
+use guard_authors::{check, check_explained, check_strictly, encode, test};
+use guard_files::{Files, give, give_explained, tell_no_memory, tell_text, write};
 use guard_frames::{Sink, Source};
+use guard_messages::{decide_asked, first_run, show_asked};
+use guard_streams::{Says, ask, mux, mux_verbosely, run, run_verbosely};
 use std::alloc::{AllocError, Global};
 
 /// Does what the words ask for, the first of which is the program's name, and answers the status: 0 where all passed,
@@ -102,11 +91,7 @@ pub fn meet<F: Files, S: Source, O: Sink, E: Sink, T: Says>(
         Request::Decide(question) => decide_asked(alloc, question, files, input, out, err),
         Request::Show(question) => show_asked(alloc, question, files, input, out, err),
         Request::Encode(asked) => encode(alloc, asked, files, input, out, err),
-        Request::Test {
-            policy,
-            cases,
-            cover,
-        } => test(alloc, policy, *cases, *cover, files, out, err),
+        Request::Test(asked) => test(alloc, asked, files, out, err),
         Request::Run { policy, verbose } => {
             guard_stream(alloc, policy, *verbose, files, input, out, err, system)
         }

@@ -1,6 +1,6 @@
 //! What the words of the command line ask for.
-use crate::encoding::Encoding;
-use crate::question::Question;
+use guard_authors::{Encoding, Trial};
+use guard_messages::Question;
 
 /// The words as they were given. A policy is named by its path.
 #[derive(Clone, Copy, Debug, PartialEq, Eq)]
@@ -19,12 +19,8 @@ pub enum Request<'a> {
     Show(Question<'a>),
     /// The octets of a value that is written.
     Encode(Encoding<'a>),
-    /// Which cases come out as they should. Their file may be given, and the rules that none reaches asked for.
-    Test {
-        policy: &'a str,
-        cases: Option<&'a str>,
-        cover: bool,
-    },
+    /// Which cases come out as they should.
+    Test(Trial<'a>),
     /// What may pass of the frames that come in. Notes may be asked for.
     Run {
         policy: &'a str,

@@ -2,18 +2,19 @@
 ghost use Rattle.std.specs.Prelude.{◌≡◌, ℕ, List, Some, None, codes, false, map, option_map, string_bytes, IfOk, IfErr};
 ghost use Rattle.clap.specs.Words.{HasKind, Row, Text, app_of, fault_of, first_of, found_of};
 ghost use Rattle.clap.specs.Words.{rows_of, rule_of, shape_of, subcommand_rows_of};
-ghost use Rattle.derguard_program.specs.Encodes.{encoding_view};
-ghost use Rattle.derguard_program.specs.Questions.{question_view};
+ghost use Rattle.guard_messages.specs.Questions.{question_view};
+ghost use Rattle.guard_authors.specs.Encodes.{encoding_view};
+ghost use Rattle.guard_authors.specs.Testing.{trial_view};
 ghost use Rattle.derguard_program.specs.Requests.{AbstractRequest, request_view};
 ghost use Rattle.derguard_program.specs.Words.{AreFound, IsCommand, ask_shape, check_shape, decide_shape, encode_shape};
 ghost use Rattle.derguard_program.specs.Words.{flag_of, flag_rule, free_option_rule, free_place_rule, free_rule};
 ghost use Rattle.derguard_program.specs.Words.{mux_shape, option_rule, place_rule, required_rule, run_shape};
 ghost use Rattle.derguard_program.specs.Words.{show_shape, test_shape, the_app};
 
-use crate::encoding::Encoding;
-use crate::question::Question;
 use crate::request::Request;
 use clap::{Arg, ArgAction, ArgMatches, Command, Error};
+use guard_authors::{Encoding, Trial};
+use guard_messages::Question;
 use std::alloc::{AllocError, Global};
 
 /// The program's version. Nothing else of the code says it.
@@ -88,11 +89,7 @@ fn request_of<'a>(matches: &ArgMatches<'a>) -> Request<'a>
         },
         Some(("show", found)) => Request::Show(question_to_show(found)),
         Some(("encode", found)) => Request::Encode(encoding_of(found)),
-        Some(("test", found)) => Request::Test {
-            policy: text(found, "policy"),
-            cases: given(found, "cases"),
-            cover: flag(found, "cover"),
-        },
+        Some(("test", found)) => Request::Test(trial_of(found)),
         Some(("run", found)) => Request::Run {
             policy: text(found, "policy"),
             verbose: flag(found, "verbose"),
@@ -121,6 +118,7 @@ fn question_to_decide<'a>(found: &ArgMatches<'a>) -> Question<'a>
     ensures frame { (question_view result).frame ≡ first_of (codes "frame") (rows_of (found_of found.now)) }
     ensures link { (question_view result).link ≡ first_of (codes "link") (rows_of (found_of found.now)) }
     ensures explain { (question_view result).explain ≡ flag_of (codes "explain") (rows_of (found_of found.now)) }
+    ensures capture { (question_view result).capture ≡ false }
 {
     Question {
         policy: text(found, "policy"),
@@ -132,6 +130,7 @@ fn question_to_decide<'a>(found: &ArgMatches<'a>) -> Question<'a>
         frame: given(found, "frame"),
         link: given(found, "link"),
         explain: flag(found, "explain"),
+        capture: false,
     }
 }
 
@@ -147,6 +146,7 @@ fn question_to_show<'a>(found: &ArgMatches<'a>) -> Question<'a>
     ensures frame { (question_view result).frame ≡ first_of (codes "frame") (rows_of (found_of found.now)) }
     ensures link { (question_view result).link ≡ first_of (codes "link") (rows_of (found_of found.now)) }
     ensures explain { (question_view result).explain ≡ false }
+    ensures capture { (question_view result).capture ≡ flag_of (codes "capture") (rows_of (found_of found.now)) }
 {
     Question {
         policy: text(found, "policy"),
@@ -158,6 +158,7 @@ fn question_to_show<'a>(found: &ArgMatches<'a>) -> Question<'a>
         frame: given(found, "frame"),
         link: given(found, "link"),
         explain: false,
+        capture: flag(found, "capture"),
     }
 }
 
@@ -179,6 +180,22 @@ fn encoding_of<'a>(found: &ArgMatches<'a>) -> Encoding<'a>
         from: given(found, "from"),
         to: given(found, "to"),
         der: flag(found, "der"),
+    }
+}
+
+/// What `test` asks for. The policy is required, so it is there.
+fn trial_of<'a>(found: &ArgMatches<'a>) -> Trial<'a>
+    ensures policy { (path : List ℕ) → first_of (codes "policy") (rows_of (found_of found.now)) ≡ Some path
+        → (trial_view result).policy ≡ path }
+    ensures cases { (trial_view result).cases ≡ first_of (codes "cases") (rows_of (found_of found.now)) }
+    ensures cover { (trial_view result).cover ≡ flag_of (codes "cover") (rows_of (found_of found.now)) }
+    ensures explain { (trial_view result).explain ≡ flag_of (codes "explain") (rows_of (found_of found.now)) }
+{
+    Trial {
+        policy: text(found, "policy"),
+        cases: given(found, "cases"),
+        cover: flag(found, "cover"),
+        explain: flag(found, "explain"),
     }
 }
 
@@ -274,7 +291,12 @@ fn show<'a>(alloc: Global) -> Result<Command<'a>, AllocError>
         .arg(digits(alloc))?
         .arg(free_option(alloc, "der", IN_FILE))?
         .arg(free_option(alloc, "frame", IN_FRAME))?
-        .arg(free_option(alloc, "link", IN_LINK))
+        .arg(free_option(alloc, "link", IN_LINK))?
+        .arg(switch(
+            alloc,
+            "capture",
+            "With --frame: writes the frame itself, which is a capture of one, in place of its value.",
+        ))
 }
 
 fn encode<'a>(alloc: Global) -> Result<Command<'a>, AllocError>
@@ -307,7 +329,12 @@ fn test<'a>(alloc: Global) -> Result<Command<'a>, AllocError>
                 "The file of cases; without it, tests.toml beside the policy.",
             ),
         )?
-        .arg(switch(alloc, "cover", "Lists the rules that no case reaches."))
+        .arg(switch(alloc, "cover", "Lists the rules that no case reaches."))?
+        .arg(switch(
+            alloc,
+            "explain",
+            "Shows where a file of cases is no TOML document, and what to do.",
+        ))
 }
 
 fn run<'a>(alloc: Global) -> Result<Command<'a>, AllocError>

@@ -1,4 +1,4 @@
-use Rattle.derguard_program.proofs.RecordReading.{one_reading}
+use Rattle.guard_files.proofs.RecordReading.{one_reading}
 use Rattle.derguard_program.proofs.RecordsRead.{some_reading}
 use Rattle.derguard_program.proofs.laws.law_one_reading.Goals as goal
 

@@ -1,4 +1,4 @@
-use Rattle.derguard_program.specs.Muxing.{new_mux}
+use Rattle.guard_streams.specs.Muxing.{new_mux}
 use Rattle.derguard_program.proofs.OwnRecords.{are_turns, new_at}
 use Rattle.derguard_program.proofs.laws.law_own_records.Goals as goal
 

@@ -1,5 +1,5 @@
 use Rattle.std.proofs.Common.{Bool, subst, sym}
-use Rattle.derguard_program.specs.Devices.{input_of, device}
+use Rattle.guard_files.specs.Devices.{input_of, device}
 use Rattle.derguard_program.specs.Meeting.{Meets}
 use Rattle.derguard_program.specs.Requests.{mux}
 use Rattle.derguard_program.proofs.meeting.guard_links.Goals as goal

@@ -1,12 +1,12 @@
 use Rattle.std.proofs.Common.{Bool, false, refl, subst, sym}
+use Rattle.guard_files.specs.Devices.{input_of, device}
+use Rattle.guard_files.specs.Reading.{IsNoPolicyAt}
+use Rattle.guard_files.specs.Explaining.{IsExplained}
+use Rattle.guard_messages.specs.FirstRun.{IsFirst, IsNoFirst}
+use Rattle.guard_authors.specs.Checked.{IsChecked, IsCheckedExplained}
 use Rattle.derguard_program.specs.declared.request.Request.{Request}
-use Rattle.derguard_program.specs.Answers.{IsFirst, IsNoFirst, IsChecked, IsCheckedExplained}
-use Rattle.derguard_program.specs.Devices.{input_of, device}
 use Rattle.derguard_program.specs.Meeting.{Meets}
-use Rattle.derguard_program.specs.Reading.{IsNoPolicyAt}
-use Rattle.derguard_program.specs.Requests.{request_view}
-use Rattle.derguard_program.specs.Explaining.{IsExplained}
-use Rattle.derguard_program.specs.Requests.{check}
+use Rattle.derguard_program.specs.Requests.{request_view, check}
 use Rattle.derguard_program.proofs.Meetings.{given, given_explained}
 use Rattle.derguard_program.proofs.meeting.meet.Goals as goal
 

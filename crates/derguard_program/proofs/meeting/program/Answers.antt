@@ -1,6 +1,6 @@
 use Rattle.std.proofs.Common.{◌≡◌, ◌∙◌, List, ap, inl, inr, map, string_bytes, refl, subst}
 use Rattle.clap.specs.Words.{HasKind, Text, fault_of}
-use Rattle.derguard_program.specs.Devices.{device}
+use Rattle.guard_files.specs.Devices.{device}
 use Rattle.derguard_program.specs.Requests.{request_view}
 use Rattle.derguard_program.specs.Words.{AreFound, joined, the_app}
 use Rattle.derguard_program.proofs.Showing.{shown_of}

@@ -12,4 +12,5 @@ returns c =
     let third = with_argument _ _ _ _ _ c.in_ok-arg-3.ensures c.digits.ensures.local second c.digits.ensures.rule in
     let fourth = with_argument _ _ _ _ _ c.in_ok-arg-4.ensures c.free_option-2.ensures.local third c.free_option-2.ensures.rule in
     let fifth = with_argument _ _ _ _ _ c.in_ok-arg-5.ensures c.free_option-3.ensures.local fourth c.free_option-3.ensures.rule in
-    IfOk-weaker c.arg-6.result _ _ (λ r added. ap (λ (a : App). a.top) (with_argument _ r _ _ _ added c.free_option-4.ensures.local fifth c.free_option-4.ensures.rule)) c.arg-6.ensures
+    let sixth = with_argument _ _ _ _ _ c.in_ok-arg-6.ensures c.free_option-4.ensures.local fifth c.free_option-4.ensures.rule in
+    IfOk-weaker c.arg-7.result _ _ (λ r added. ap (λ (a : App). a.top) (with_argument _ r _ _ _ added c.switch.ensures.local sixth c.switch.ensures.rule)) c.arg-7.ensures

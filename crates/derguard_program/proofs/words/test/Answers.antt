@@ -13,4 +13,5 @@ returns c =
     let value_is = ap rule_of c.help.ensures ∙ ap rule_of c.value_name.ensures ∙ ap (λ (r : Rule). record r { value_names = 1 }) c.free.ensures.rule in
     let local = ap (λ (a : Arg). a.global) c.help.ensures ∙ ap (λ (a : Arg). a.global) c.value_name.ensures ∙ c.free.ensures.local in
     let second = with_argument _ _ _ _ _ c.in_ok-arg-2.ensures local first value_is in
-    IfOk-weaker c.arg-3.result _ _ (λ r added. ap (λ (a : App). a.top) (with_argument _ r _ _ _ added c.switch.ensures.local second c.switch.ensures.rule)) c.arg-3.ensures
+    let third = with_argument _ _ _ _ _ c.in_ok-arg-3.ensures c.switch.ensures.local second c.switch.ensures.rule in
+    IfOk-weaker c.arg-4.result _ _ (λ r added. ap (λ (a : App). a.top) (with_argument _ r _ _ _ added c.switch-2.ensures.local third c.switch-2.ensures.rule)) c.arg-4.ensures

@@ -1,7 +1,0 @@
-use Rattle.derguard_program.proofs.CountLaws.{word_before}
-use Rattle.derguard_program.proofs.counts.first_word.Goals as goal
-
-pub returns : goal.returns
-returns c =
-    let e = c.word_end.ensures in
-    word_before c.args.text.now c.word_end.result e.within e.before e.there

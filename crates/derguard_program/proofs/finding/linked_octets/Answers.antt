@@ -1,7 +1,0 @@
-use Rattle.derguard_program.proofs.LinkedFrames.{unlinked_is}
-use Rattle.derguard_program.proofs.finding.linked_octets.Goals as goal
-
-pub returns-clause-unfound : goal.returns-clause-unfound
-returns-clause-unfound g c told =
-    rw c.unfound_of.ensures (unlinked_is c.in-Err.reason told c.args.number.now c.args.word.now _ _ _ c.in-Some.ensures.number
-    c.in-Some-number_in.ensures.number c.in-Err.ensures.none)

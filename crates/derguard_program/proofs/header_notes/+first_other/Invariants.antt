@@ -1,5 +1,0 @@
-use Rattle.std.proofs.Common.{length}
-use Rattle.derguard_program.proofs.header_notes.+first_other.Given as goal
-
-abbrev pub decreases-first_other : goal.decreases-first_other
-decreases-first_other l = length l.octets.now

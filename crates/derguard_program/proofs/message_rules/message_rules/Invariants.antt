@@ -1,9 +1,0 @@
-use Rattle.std.proofs.Common.{◌≡◌, ◌++◌, drop}
-use Rattle.guard_policy.specs.PolicyView.{policy_view}
-use Rattle.derguard_program.specs.Reasons.{message_rules}
-use Rattle.derguard_program.proofs.message_rules.message_rules.Given as goal
-
-abbrev pub invariant-loop-number : goal.invariant-loop-number
-invariant-loop-number l =
-    l.text.items ++ message_rules l.message (drop l.number (policy_view l.policy).rules)
-    ≡ message_rules l.message (policy_view l.policy).rules

@@ -1,0 +1,22 @@
+use Rattle.guard_model.specs.ValueView.{value_view}
+use Rattle.guard_authors.proofs.encoding.answer.Goals as goal
+
+pub returns-in_default-clause-none : goal.returns-in_default-clause-none
+returns-in_default-clause-none c = record {
+  v = value_view c.in_ok-value.value;
+  octets = c.in_ok-value.octets.items;
+  encoding = c.in_ok-value.ensures.encoding;
+  none = c.in_ok-held.ensures.none c.in_default.is;
+}
+
+pub returns-clause-encoded : goal.returns-clause-encoded
+returns-clause-encoded c = record {
+  v = value_view c.in_ok-value.value;
+  octets = c.in_ok-value.octets.items;
+  payload = c.in-Some.payload.items;
+  encoding = c.in_ok-value.ensures.encoding;
+  held = rw c.in-Some.is at c.in_ok-held.ensures.held;
+  out = c.in_ok-out.ensures;
+  remarks = c.in_ok-remarks.ensures.line;
+  status = c.in_ok-remarks.ensures.status;
+}

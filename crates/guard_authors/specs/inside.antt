@@ -1,0 +1,5 @@
+-- What only private contracts and proofs cite.
+pub mod Assigned
+pub mod Caseless
+pub mod Encoded
+pub mod Loading

@@ -1,0 +1,30 @@
+//! The commands for those who write a policy: `check`, `encode` and `test`.
+//!
+//! | question | code | definition |
+//! |---|---|---|
+//! | What is answered to `check`? | `checking.rt` | `specs/Checked.antt` |
+//! | What is listed of a policy that is accepted? | `listing.rt` | `specs/Listing.antt` |
+//! | What is remarked of it where that counts? | `strictness.rt`, `parties.rt` | `specs/Strictness.antt` |
+//! | Which octets has a value that is written? | `encoding.rt`, `framing.rt` | `specs/Encodes.antt`, `specs/Framing.antt` |
+//! | Which value does a text write, and why none? | `written.rt` | `specs/ValueTexts.antt` |
+//! | Which cases does a text say, and which come out as they should? | `cases.rt`, `testing.rt` | `specs/Cases.antt`, `specs/Testing.antt` |
+//! | What is said of a text that writes no value? | `no_value.rt` | `specs/NoValue.antt` |
+//! | Which rules does no case reach? | `reached.rt` | `specs/Reached.antt` |
+#![tactic(auto)]
+
+mod cases;
+mod checking;
+mod encoding;
+mod framing;
+mod listing;
+mod no_value;
+mod parties;
+mod reached;
+mod strictness;
+mod testing;
+mod written;
+
+pub use checking::{check, check_explained};
+pub use encoding::{Encoding, encode};
+pub use strictness::check_strictly;
+pub use testing::{Trial, test};

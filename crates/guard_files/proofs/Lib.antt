@@ -1,0 +1,13 @@
+pub mod ReadingTexts
+pub mod WholeTexts
+pub mod Refusals
+pub mod FoundValues
+pub mod ExplainedFaults
+pub mod Adding
+pub mod AllowingLaws
+pub mod LoadedTexts
+pub mod RecordLaws
+pub mod RecordReading
+pub mod FramesRead
+pub mod GivenAnswers
+pub mod WordLaws

@@ -1,0 +1,54 @@
+-- The records of a stream of many links: one octet of kind, two of link, four of length, high octets first, and as many
+-- octets.
+use Rattle.std.specs.Prelude.{◌≡◌, ◌≤◌, ℕ, List, ◌∷◌, ◌++◌, length, map, ◌<◌, ◌^◌, ◌⊎◌, true}
+use Rattle.std.specs.Int.{w16, w32, to_be_bytes}
+use Rattle.std.specs.List.{concat, All}
+use Rattle.std.specs.Io.KnownBytes.{IsAtEnd}
+use Rattle.guard_frames.specs.Totals.{WentUpBy}
+use Rattle.guard_files.specs.Devices.{Input}
+
+pub data Record : Type 0 where
+  -- octets of this link's stream
+  piece : ℕ → List ℕ → Record
+  -- the end of this link's stream
+  end : ℕ → Record
+  -- the policy is to be read again
+  reload : Record
+
+abbrev pub header : ℕ → ℕ → ℕ → List ℕ
+header kind link size = kind ∷ (to_be_bytes w16 link ++ to_be_bytes w32 size)
+
+-- a record, written
+abbrev pub record_octets : Record → List ℕ
+record_octets (piece link octets) = header 0 link (length octets) ++ octets
+record_octets (end link) = header 1 link 0
+record_octets reload = header 2 0 0
+
+-- There are links 0 to 15, and a record has 1,048,576 octets at most after its header.
+abbrev pub IsAllowed : Record → Type 0
+IsAllowed (piece link octets) = (link ≤ 15) × (length octets ≤ 1048576)
+IsAllowed (end link) = link ≤ 15
+IsAllowed reload = Unit {0}
+
+-- the octets begin with no record, since they are cut short or aren't written so
+abbrev pub HasNoRecord : List ℕ → Type 0
+HasNoRecord s = (r : Record) (more : List ℕ) → IsAllowed r → s ≡ record_octets r ++ more → ⊥
+
+-- whatever comes after these octets, no record begins with them
+abbrev pub IsBadHeader : List ℕ → Type 0
+IsBadHeader s = (more : List ℕ) → HasNoRecord (s ++ more)
+
+-- the stream is these records and then this rest
+pub record AreRecords (stream : List ℕ) (records : List Record) (rest : List ℕ) : Type 0 where
+  pub whole : stream ≡ concat (map record_octets records) ++ rest
+  pub allowed : All IsAllowed records
+
+-- Seven octets with which no record begins; or octets that the end of the source cuts short.
+abbrev pub IsBadRecord : Input → List ℕ → Type 0
+IsBadRecord input rest =
+    ((length rest ≡ 7) × IsBadHeader rest) ⊎ ((0 < length rest) × HasNoRecord rest × IsAtEnd input.after)
+
+-- Less than a record was read of the next one, and the source failed or was asked 2^40 times.
+abbrev pub IsLost : Input → List ℕ → Type 0
+IsLost input rest =
+    HasNoRecord rest × ((input.failed ≡ true) ⊎ WentUpBy input.asked_before (2 ^ 40) input.asked_after)

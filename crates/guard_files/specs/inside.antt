@@ -1,0 +1,2 @@
+-- What only private contracts and proofs cite.
+pub mod Texts

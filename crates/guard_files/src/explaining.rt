@@ -1,0 +1,125 @@
+//! What comes after the line of a fault where it is to be explained.
+ghost use Rattle.std.specs.Prelude.{◌≡◌, ◌⊎◌, [], map, string_bytes, IfOk};
+ghost use Rattle.guard_notes.specs.Sources.{sources, sources_view};
+ghost use Rattle.guard_files.specs.Explaining.{IsExplanation, obstacle_line, unread_note};
+ghost use Rattle.guard_files.specs.declared.fault.Fault.TheVariants.{NoMemory};
+
+use crate::fault::Fault;
+use crate::files::Obstacle;
+use crate::texts::Texts;
+use guard_model::OutOfMemory;
+use guard_notes::{Sources, explain_policy, explain_schema};
+use std::alloc::Global;
+
+/// Where nothing but the path is known.
+pub fn sources_of_path<'a>(path: &'a str) -> Sources<'a>
+    ensures { sources_view result ≡ sources path.now [] [] }
+{
+    Sources {
+        path,
+        files: &[],
+        modules: &[],
+    }
+}
+
+/// Where a fault may be: in the policy at this path, or in the modules whose files and texts these are.
+pub fn sources_of<'a>(path: &'a str, texts: &'a Texts) -> Sources<'a>
+    ensures { sources_view result ≡ sources path.now (map string_bytes texts.now.files.items)
+        (map (λ text. text.items) texts.now.modules.items) }
+{
+    Sources {
+        path,
+        files: texts.files.as_slice(),
+        modules: texts.modules.as_slice(),
+    }
+}
+
+/// A fault with what comes after its line.
+#[derive(Drop)]
+pub struct Refusal {
+    pub fault: Fault,
+    pub note: String,
+}
+
+impl Refusal {
+    /// The fault, explained over these texts and that of the policy; or NoMemory without a word, where there is no
+    /// memory for that.
+    pub fn new(alloc: Global, sources: &Sources, policy: &[u8], fault: Fault) -> Refusal
+        ensures { ((result.fault ≡ fault)
+            × IsExplanation (sources_view sources.now) policy.now fault (string_bytes result.note))
+            ⊎ ((result.fault ≡ NoMemory) × (string_bytes result.note ≡ [])) }
+    {
+        match explanation(alloc, sources, policy, &fault) {
+            Ok(note) => Refusal { fault, note },
+            Err(_) => Refusal::no_memory(alloc),
+        }
+    }
+
+    /// That memory ran out, of which nothing more is said.
+    pub fn no_memory(alloc: Global) -> Refusal
+        ensures fault { result.fault ≡ NoMemory }
+        ensures silent { string_bytes result.note ≡ [] }
+    {
+        Refusal {
+            fault: Fault::NoMemory,
+            note: String::new(alloc),
+        }
+    }
+}
+
+/// What comes after the line of the fault.
+fn explanation(
+    alloc: Global,
+    sources: &Sources,
+    policy: &[u8],
+    fault: &Fault,
+) -> Result<String, OutOfMemory>
+    ensures { IfOk result (λ note. IsExplanation (sources_view sources.now) policy.now fault.now (string_bytes note)) }
+{
+    match fault {
+        Fault::Schema(fault) => explain_schema(alloc, sources, fault),
+        Fault::Policy(fault) => {
+            explain_policy(alloc, sources.path, sources.modules, policy, fault)
+        },
+        Fault::BadHex => sentence(
+            alloc,
+            "  A message is written by pairs of hexadecimal digits, 0 to 9 and a to f. Mend the digits.\n",
+        ),
+        Fault::CannotRead(_, obstacle) => unread_note(alloc, *obstacle),
+        Fault::TooLarge(_) => sentence(
+            alloc,
+            "  A policy has 67,108,864 octets at most. Look whether this path leads to one.\n",
+        ),
+        Fault::Run(_) | Fault::NoMemory => Ok(String::new(alloc)),
+    }
+}
+
+fn unread_note(alloc: Global, obstacle: Obstacle) -> Result<String, OutOfMemory>
+    ensures { IfOk result (λ note. string_bytes note ≡ unread_note obstacle) }
+{
+    let mut note = String::from_str(alloc, obstacle_line(obstacle))?;
+    note.push_str(
+        "  Nothing can be read at this path. Module files are looked for in the folder of the policy.\n",
+    )?;
+    Ok(note)
+}
+
+fn obstacle_line(obstacle: Obstacle) -> &'static str
+    ensures { result.now ≡ obstacle_line obstacle }
+{
+    match obstacle {
+        Obstacle::Untold => "",
+        Obstacle::NoFile => "  There is no file.\n",
+        Obstacle::LostLink => "  There is a link, and nothing where it leads.\n",
+        Obstacle::Folder => "  There is a folder in place of a file.\n",
+        Obstacle::NotAllowed => {
+            "  This user may not read the file, or not go through a folder on the way to it.\n"
+        }
+    }
+}
+
+fn sentence(alloc: Global, text: &str) -> Result<String, OutOfMemory>
+    ensures { IfOk result (λ note. string_bytes note ≡ text.now) }
+{
+    Ok(String::from_str(alloc, text)?)
+}

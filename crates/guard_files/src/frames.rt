@@ -1,0 +1,132 @@
+//! Reads the frames of a stream, one after another.
+ghost use Rattle.std.specs.Prelude.{◌≡◌, ◌≤◌, ◌<◌, ◌-◌, ◌+◌, List, ℕ, [], None, length, take};
+ghost use Rattle.std.specs.Prelude.{drop, IfOk, IfErr, IfSome, OnErr, true, ◌⊎◌};
+ghost use Rattle.std.specs.Io.KnownBytes.{Consumes, IsAtEnd};
+ghost use Rattle.guard_frames.specs.Frames.{IsFrame};
+ghost use Rattle.guard_frames.specs.Totals.{WentUpBy};
+ghost use Rattle.guard_files.specs.NextFrame.{IsNoFrame, IsLeft};
+ghost use Rattle.guard_files.specs.declared.stop.Stop.TheVariants as stop;
+
+use crate::records::fill_front;
+use crate::stop::Stop;
+use guard_frames::{LENGTH_OCTETS, LONGEST_BODY, LONGEST_FRAME, RunFault, Source, body_length};
+use guard_model::OutOfMemory;
+use std::alloc::Global;
+
+/// Room for a frame. (A caller that sees so many zeros as a list runs the checker out of memory.)
+pub fn new_frame_room(alloc: Global) -> Result<Vec<u8>, OutOfMemory>
+    ensures { IfOk result (λ room. length room.items ≡ 1048580) }
+{
+    let size = LONGEST_FRAME;
+    Ok(vec![in alloc; 0u8; size]?)
+}
+
+/// Why there is no next frame, and how much of one there is: the length that is too long, or how many octets came of a
+/// frame that is torn.
+#[derive(Clone, Copy, Debug, PartialEq, Eq)]
+pub struct NoFrame {
+    pub fault: RunFault,
+    pub left: usize,
+}
+
+/// The source failed, or was asked too often.
+const UNREAD: NoFrame = NoFrame {
+    fault: RunFault::ReadFailed,
+    left: 0,
+};
+
+/// The size of the next frame, whose octets are the first ones in the room then; none where the source has ended.
+/// Nothing is read of what follows the frame, and of one that is too long nothing but its length. It fails with F1, F4
+/// or F5. Condition: the room has 1,048,580 octets.
+pub fn next_frame<S: Source>(
+    source: &mut S,
+    room: &mut [u8],
+    reads: &mut u64,
+) -> Result<Option<usize>, RunFault>
+    requires { length room.old ≡ 1048580 }
+    ensures frame { IfOk result (λ found. IfSome found (λ n. (n ≤ 1048580) × IsFrame (take n room.new)
+        × (reads.new < reads.old) × Consumes (S.tells source.old) (S.tells source.new) (take n room.new))) }
+    ensures end { IfOk result (λ found. found ≡ None →
+        Consumes (S.tells source.old) (S.tells source.new) [] × IsAtEnd (S.tells source.new)) }
+    ensures none { IfErr result (λ f. (rest : List ℕ) × Consumes (S.tells source.old) (S.tells source.new) rest
+        × IsNoFrame f rest (IsAtEnd (S.tells source.new)) (S.has_failed source.new) reads.new) }
+    ensures counted { WentUpBy (S.takes source.old) (reads.old - reads.new) (S.takes source.new) }
+    ensures fewer { reads.new ≤ reads.old }
+{
+    match frame_or_rest(source, room, reads) {
+        Ok(found) => Ok(found),
+        Err(none) => Err(none.fault),
+    }
+}
+
+/// The next frame of the source; or how much of a frame there is where there is none. Condition: the room has 1,048,580
+/// octets.
+pub fn frame_or_rest<S: Source>(
+    source: &mut S,
+    room: &mut [u8],
+    reads: &mut u64,
+) -> Result<Option<usize>, NoFrame>
+    requires { length room.old ≡ 1048580 }
+    ensures frame { IfOk result (λ found. IfSome found (λ n. (n ≤ 1048580) × IsFrame (take n room.new)
+        × (reads.new < reads.old) × Consumes (S.tells source.old) (S.tells source.new) (take n room.new))) }
+    ensures end { IfOk result (λ found. found ≡ None →
+        Consumes (S.tells source.old) (S.tells source.new) [] × IsAtEnd (S.tells source.new)) }
+    ensures none { IfErr result (λ f. (rest : List ℕ) × Consumes (S.tells source.old) (S.tells source.new) rest
+        × IsNoFrame f.fault rest (IsAtEnd (S.tells source.new)) (S.has_failed source.new) reads.new
+        × IsLeft f.fault rest f.left) }
+    ensures counted { WentUpBy (S.takes source.old) (reads.old - reads.new) (S.takes source.new) }
+    ensures fewer { reads.new ≤ reads.old }
+{
+    let count = match fill_front(source, room, LENGTH_OCTETS, reads) {
+        Ok(count) => count,
+        Err(_) => return Err(UNREAD),
+    };
+    if count == 0 {
+        return Ok(None);
+    }
+    if count < LENGTH_OCTETS {
+        return Err(NoFrame {
+            fault: RunFault::TornFrame,
+            left: count,
+        });
+    }
+    let body = body_length(&room[..LENGTH_OCTETS]);
+    if body > LONGEST_BODY {
+        return Err(NoFrame {
+            fault: RunFault::FrameTooLong,
+            left: body,
+        });
+    }
+    let behind = match fill_body(source, room, body, reads) {
+        Ok(behind) => behind,
+        Err(_) => return Err(UNREAD),
+    };
+    if behind < body {
+        return Err(NoFrame {
+            fault: RunFault::TornFrame,
+            left: behind + LENGTH_OCTETS,
+        });
+    }
+    Ok(Some(body + LENGTH_OCTETS))
+}
+
+/// Fills so many octets behind the first four of the room, or as many of them as the source has, and answers how many.
+fn fill_body<S: Source>(
+    source: &mut S,
+    room: &mut [u8],
+    size: usize,
+    reads: &mut u64,
+) -> Result<usize, Stop>
+    requires { size + 4 ≤ length room.old }
+    ensures within { IfOk result (λ n. n ≤ size) }
+    ensures kept { take 4 room.new ≡ take 4 room.old }
+    ensures given { IfOk result (λ n. Consumes (S.tells source.old) (S.tells source.new) (take n (drop 4 room.new))) }
+    ensures end { IfOk result (λ n. n < size → IsAtEnd (S.tells source.new)) }
+    ensures lost { OnErr result ((part : List ℕ) × (length part < size)
+        × Consumes (S.tells source.old) (S.tells source.new) part) }
+    ensures failed { IfErr result (λ f. (f ≡ stop.ReadFailed) × ((S.has_failed source.new ≡ true) ⊎ (reads.new ≡ 0))) }
+    ensures counted { WentUpBy (S.takes source.old) (reads.old - reads.new) (S.takes source.new) }
+    ensures fewer { reads.new ≤ reads.old }
+{
+    fill_front(source, &mut room[LENGTH_OCTETS..], size, reads)
+}

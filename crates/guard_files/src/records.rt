@@ -1,0 +1,161 @@
+//! The records of many links, in one stream.
+ghost use Rattle.std.specs.Prelude.{◌≡◌, ◌<◌, ◌≤◌, ◌⊎◌, ◌-◌, ℕ, List, [], true, length};
+ghost use Rattle.std.specs.Prelude.{take, drop, IfOk, IfErr, IfSome, OnErr, None};
+ghost use Rattle.std.specs.Io.KnownBytes.{Consumes, IsAtEnd};
+ghost use Rattle.guard_frames.specs.Totals.{WentUpBy};
+ghost use Rattle.guard_files.specs.Records.{record_octets, IsBadHeader};
+ghost use Rattle.guard_files.specs.Headers.{record_of, header_octets, IsGood, IsNone};
+ghost use Rattle.guard_files.specs.declared.stop.Stop.TheVariants as stop;
+
+use crate::stop::Stop;
+use guard_frames::{Failed, Source};
+use guard_model::OutOfMemory;
+use std::alloc::Global;
+
+/// How many links there are.
+pub const LINKS: u16 = 16;
+
+/// The most octets after a header.
+pub const LONGEST_PIECE: usize = 1_048_576;
+
+/// One octet of kind, two of link, four of length.
+const HEADER: usize = 7;
+
+/// What the header of a record says.
+#[derive(Clone, Copy, Debug, PartialEq, Eq)]
+pub enum Header {
+    /// Octets of this link come after it, so many.
+    Piece(u16, usize),
+    /// The stream of this link ends.
+    End(u16),
+    /// The policy is to be read again.
+    Reload,
+}
+
+/// What these octets say as a header; none where no record begins so.
+fn header_in(octets: &[u8]) -> Option<Header>
+    ensures there { IfSome result (λ h. IsGood h × (octets.now ≡ header_octets h)) }
+    ensures bad { result ≡ None → length octets.now ≡ 7 → IsBadHeader octets.now }
+{
+    let [kind, above, link, n0, n1, n2, n3] = octets else {
+        return None;
+    };
+    let link = u16::from_be_bytes([*above, *link]);
+    let size = u32::from_be_bytes([*n0, *n1, *n2, *n3]) as usize;
+    match (*kind, link, size) {
+        (0, 0..=15, 0..=LONGEST_PIECE) => Some(Header::Piece(link, size)),
+        (1, 0..=15, 0) => Some(Header::End(link)),
+        (2, 0, 0) => Some(Header::Reload),
+        _ => None,
+    }
+}
+
+/// Room for the octets of one record. (A caller that sees so many zeros as a list runs the checker out of memory.)
+pub fn new_room(alloc: Global) -> Result<Vec<u8>, OutOfMemory>
+    ensures { IfOk result (λ room. length room.items ≡ 1048576) }
+{
+    let size = LONGEST_PIECE;
+    Ok(vec![in alloc; 0u8; size]?)
+}
+
+/// The header of the next record, whose octets are the first ones in the room then; none where the source has ended.
+/// Nothing is read of what follows the record. It fails with what `Stop` names. Condition: the room has 1,048,576
+/// octets.
+pub fn next_record<S: Source>(
+    source: &mut S,
+    room: &mut [u8],
+    reads: &mut u64,
+) -> Result<Option<Header>, Stop>
+    requires { length room.old ≡ 1048576 }
+    ensures record { IfOk result (λ found. IfSome found (λ h. IsGood h × (reads.new < reads.old)
+        × Consumes (S.tells source.old) (S.tells source.new) (record_octets (record_of h room.new)))) }
+    ensures end { IfOk result (λ found. found ≡ None →
+        Consumes (S.tells source.old) (S.tells source.new) [] × IsAtEnd (S.tells source.new)) }
+    ensures none { IfErr result (λ s. (rest : List ℕ) × Consumes (S.tells source.old) (S.tells source.new) rest
+        × IsNone s rest (IsAtEnd (S.tells source.new)) (S.has_failed source.new) reads.new) }
+    ensures counted { WentUpBy (S.takes source.old) (reads.old - reads.new) (S.takes source.new) }
+    ensures fewer { reads.new ≤ reads.old }
+{
+    let count = fill_front(source, room, HEADER, reads)?;
+    if count == 0 {
+        return Ok(None);
+    }
+    if count < HEADER {
+        return Err(Stop::BadRecord);
+    }
+    let Some(header) = header_in(&room[..HEADER]) else {
+        return Err(Stop::BadRecord);
+    };
+    if let Header::Piece(_, size) = header {
+        let count = fill_front(source, room, size, reads)?;
+        if count < size {
+            return Err(Stop::BadRecord);
+        }
+    }
+    Ok(Some(header))
+}
+
+/// Fills so many octets at the front of the room, or as many of them as the source has, and answers how many.
+pub fn fill_front<S: Source>(
+    source: &mut S,
+    room: &mut [u8],
+    size: usize,
+    reads: &mut u64,
+) -> Result<usize, Stop>
+    requires { size ≤ length room.old }
+    ensures within { IfOk result (λ n. n ≤ size) }
+    ensures given { IfOk result (λ n. Consumes (S.tells source.old) (S.tells source.new) (take n room.new)) }
+    ensures end { IfOk result (λ n. n < size → IsAtEnd (S.tells source.new)) }
+    ensures lost { OnErr result ((part : List ℕ) × (length part < size)
+        × Consumes (S.tells source.old) (S.tells source.new) part) }
+    ensures failed { IfErr result (λ f. (f ≡ stop.ReadFailed) × ((S.has_failed source.new ≡ true) ⊎ (reads.new ≡ 0))) }
+    ensures counted { WentUpBy (S.takes source.old) (reads.old - reads.new) (S.takes source.new) }
+    ensures fewer { reads.new ≤ reads.old }
+    ensures some { IfOk result (λ n. 0 < n → reads.new < reads.old) }
+{
+    fill(source, &mut room[..size], reads)
+}
+
+/// Fills the buffer, or as much of it as the source has, and answers how many octets that are.
+pub fn fill<S: Source>(source: &mut S, buffer: &mut [u8], reads: &mut u64) -> Result<usize, Stop>
+    ensures within { IfOk result (λ n. n ≤ length buffer.new) }
+    ensures given { IfOk result (λ n. Consumes (S.tells source.old) (S.tells source.new) (take n buffer.new)) }
+    ensures end { IfOk result (λ n. n < length buffer.new → IsAtEnd (S.tells source.new)) }
+    ensures lost { OnErr result ((part : List ℕ) × (length part < length buffer.old)
+        × Consumes (S.tells source.old) (S.tells source.new) part) }
+    ensures failed { IfErr result (λ f. (f ≡ stop.ReadFailed) × ((S.has_failed source.new ≡ true) ⊎ (reads.new ≡ 0))) }
+    ensures counted { WentUpBy (S.takes source.old) (reads.old - reads.new) (S.takes source.new) }
+    ensures fewer { reads.new ≤ reads.old }
+    ensures some { IfOk result (λ n. 0 < n → reads.new < reads.old) }
+{
+    let mut filled = 0;
+    while filled < buffer.len() {
+        if *reads == 0 {
+            return Err(Stop::ReadFailed);
+        }
+        *reads -= 1;
+        let Ok(count) = take_more(source, buffer, filled) else {
+            return Err(Stop::ReadFailed);
+        };
+        if count == 0 {
+            return Ok(filled);
+        }
+        filled += count;
+    }
+    Ok(filled)
+}
+
+/// Takes octets into the buffer from this place on, and answers how many.
+fn take_more<S: Source>(source: &mut S, buffer: &mut [u8], filled: usize) -> Result<usize, Failed>
+    requires { filled < length buffer.old }
+    ensures within { IfOk result (λ n. n ≤ length buffer.old - filled) }
+    ensures kept { take filled buffer.new ≡ take filled buffer.old }
+    ensures given { IfOk result (λ n. Consumes (S.tells source.old) (S.tells source.new)
+        (take n (drop filled buffer.new))) }
+    ensures end { IfOk result (λ n. n ≡ 0 → IsAtEnd (S.tells source.new)) }
+    ensures none { OnErr result (Consumes (S.tells source.old) (S.tells source.new) []) }
+    ensures failed { OnErr result (S.has_failed source.new ≡ true) }
+    ensures counted { WentUpBy (S.takes source.old) 1 (S.takes source.new) }
+{
+    source.take(&mut buffer[filled..])
+}

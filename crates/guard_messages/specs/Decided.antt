@@ -1,0 +1,112 @@
+-- What is answered to `decide`: the verdict on a message, what explains it, or why nothing is decided.
+use Rattle.std.specs.Prelude.{◌≡◌, ◌⊎◌, ℕ, List, ◌++◌, codes, Option, Some, None, Ok, Err, []}
+use Rattle.hex.specs.Hex.{decode_of}
+use Rattle.hex.specs.declared.error.FromHexError.{FromHexError}
+use Rattle.toml.specs.Data.{Members}
+use Rattle.guard_syntax.specs.Trees.{WrittenModule}
+use Rattle.guard_schema.specs.Accepts.{ReadsModules}
+use Rattle.guard_policy.specs.Policies.{AbstractPolicy, AbstractRoute}
+use Rattle.guard_policy.specs.Verdicts.{AbstractVerdict, pass, unknown_message, undecodable, outside_type, denied_by, not_allowed, no_rule}
+use Rattle.guard_policy.specs.Decisions.{IsReason}
+use Rattle.guard_policy.specs.Documents.{IsDocument}
+use Rattle.guard_report.specs.Text.{verdict_octets}
+use Rattle.guard_notes.specs.Sources.{AbstractSources, sources}
+use Rattle.guard_frames.specs.Bodies.{AbstractBody}
+use Rattle.guard_frames.specs.Texts.{SayPolicy}
+use Rattle.guard_files.specs.declared.fault.Fault.{Fault}
+use Rattle.guard_files.specs.declared.fault.Fault.TheVariants.{BadHex, NoMemory}
+use Rattle.guard_files.specs.Explaining.{AreTextsOf, IsExplained, hex_note}
+use Rattle.guard_files.specs.Files.{Told}
+use Rattle.guard_files.specs.Bodies.{route_body}
+use Rattle.guard_files.specs.Reading.{IsPolicyAt, IsNoPolicyAt}
+use Rattle.guard_files.specs.Answers.{AbstractAnswer}
+use Rattle.guard_messages.specs.HeaderNotes.{header_note}
+use Rattle.guard_messages.specs.Reasons.{ExplainsVerdict}
+use Rattle.guard_messages.specs.RuleTypes.{AbstractGrounds}
+
+-- 0 where the message passes
+abbrev pub verdict_status : AbstractVerdict → ℕ
+verdict_status pass = 0
+verdict_status unknown_message = 1
+verdict_status (undecodable breach) = 1
+verdict_status (outside_type violation) = 1
+verdict_status (denied_by rule) = 1
+verdict_status (not_allowed rules) = 1
+verdict_status no_rule = 1
+
+-- the text of the reason and a line feed
+abbrev pub IsVerdict : AbstractPolicy → AbstractRoute → List ℕ → AbstractAnswer → Type 0
+IsVerdict p route octets a =
+    (w : AbstractVerdict) × IsReason p route octets w × (a.out ≡ verdict_octets p route w ++ codes "\n")
+    × (a.status ≡ verdict_status w)
+
+-- of the octets that the digits write, under the policy at the path
+abbrev pub IsDecided : Told → List ℕ → AbstractRoute → List ℕ → AbstractAnswer → Type 0
+IsDecided told path route digits a =
+    (octets : List ℕ) × (p : AbstractPolicy) × (decode_of digits ≡ Ok octets) × IsPolicyAt told path p
+    × IsVerdict p route octets a
+
+abbrev pub body_route : AbstractBody → AbstractRoute
+body_route b = record { from = b.sender; to = b.receiver; message = b.name }
+
+-- What is answered to it, by its route and its octets. A frame that isn't three names and a message is said to be none,
+-- as a report says it.
+abbrev pub OfHeld : (AbstractRoute → List ℕ → AbstractAnswer → Type 0) → Option AbstractBody → AbstractAnswer → Type 0
+OfHeld IsAnswer (Some b) a = IsAnswer (body_route b) b.message_octets a
+OfHeld IsAnswer None a = (a.out ≡ codes "bad-header\n") × (a.status ≡ 1)
+
+-- the verdict on it, under the policy at the path
+abbrev pub IsHeldDecided : Told → List ℕ → Option AbstractBody → AbstractAnswer → Type 0
+IsHeldDecided told path held a = (p : AbstractPolicy) × IsPolicyAt told path p × OfHeld (IsVerdict p) held a
+
+-- the text of the reason and a line feed, and what explains it below
+abbrev pub IsExplainedVerdict : AbstractGrounds → AbstractPolicy → AbstractRoute → List ℕ → AbstractAnswer → Type 0
+IsExplainedVerdict g p route octets a =
+    (w : AbstractVerdict) × (note : List ℕ) × IsReason p route octets w × ExplainsVerdict g p route octets w note
+    × (a.out ≡ verdict_octets p route w ++ codes "\n" ++ note) × (a.status ≡ verdict_status w)
+
+-- under this policy, over what its text has at its keys and these trees of the modules
+abbrev pub IsExplainedBy : AbstractSources → List ℕ → List WrittenModule → AbstractPolicy → Option AbstractBody
+    → AbstractAnswer → Type 0
+IsExplainedBy s text ms p held a =
+    (top : Members) × IsDocument text top
+    × OfHeld (IsExplainedVerdict (record { sources = s; top = top; modules = ms }) p) held a
+
+-- under the policy that these texts say, over the trees that those of the modules are
+abbrev pub IsExplainedOver : AbstractSources → List ℕ → Option AbstractBody → AbstractAnswer → Type 0
+IsExplainedOver s text held a =
+    (p : AbstractPolicy) × (ms : List WrittenModule) × SayPolicy s.modules text p × ReadsModules s.modules (Ok ms)
+    × IsExplainedBy s text ms p held a
+
+-- under the policy at the path, over the texts that say it
+abbrev pub IsHeldExplained : Told → List ℕ → Option AbstractBody → AbstractAnswer → Type 0
+IsHeldExplained told path held a =
+    (text : List ℕ) × (files : List (List ℕ)) × (modules : List (List ℕ)) × AreTextsOf told path text files modules
+    × IsExplainedOver (sources path files modules) text held a
+
+-- and where the octets of a frame aren't three names and a message, why below that
+abbrev pub IsFoundExplained : Told → List ℕ → Option AbstractBody → List ℕ → AbstractAnswer → Type 0
+IsFoundExplained told path (Some b) octets a = IsHeldExplained told path (Some b) a
+IsFoundExplained told path None octets a =
+    (shown : AbstractAnswer) × IsHeldExplained told path None shown × (a.out ≡ shown.out ++ header_note octets)
+    × (a.status ≡ shown.status)
+
+-- of the octets that the digits write
+abbrev pub IsDecidedExplained : Told → List ℕ → AbstractRoute → List ℕ → AbstractAnswer → Type 0
+IsDecidedExplained told path route digits a =
+    (octets : List ℕ) × (decode_of digits ≡ Ok octets) × IsHeldExplained told path (Some (route_body route octets)) a
+
+-- Digits that write no octets come before what is wrong with the policy.
+abbrev pub IsUndecided : Told → List ℕ → List ℕ → Fault → Type 0
+IsUndecided told path digits f =
+    ((f ≡ BadHex) × ((e : FromHexError) × (decode_of digits ≡ Err e)))
+    ⊎ ((octets : List ℕ) × (decode_of digits ≡ Ok octets) × IsNoPolicyAt told path f)
+    ⊎ (f ≡ NoMemory)
+
+-- What is said with an explanation of a message that isn't decided: digits that write no octets come before what is
+-- wrong with the policy.
+abbrev pub IsUndecidedExplained : Told → List ℕ → List ℕ → Fault → List ℕ → Type 0
+IsUndecidedExplained told path digits f note =
+    ((f ≡ BadHex) × ((e : FromHexError) × (decode_of digits ≡ Err e)) × (note ≡ hex_note))
+    ⊎ ((octets : List ℕ) × (decode_of digits ≡ Ok octets) × IsExplained told path f note)
+    ⊎ ((f ≡ NoMemory) × (note ≡ []))

@@ -1,0 +1,89 @@
+-- What comes of `decide` and `show`: which message is asked of, and what is answered to it.
+use Rattle.std.specs.Prelude.{ℕ, Bool, true, false, List, codes, Option, Some}
+use Rattle.guard_policy.specs.Policies.{AbstractPolicy, AbstractRoute}
+use Rattle.guard_frames.specs.Bodies.{AbstractBody, body_in}
+use Rattle.guard_files.specs.Answers.{AbstractAnswer, Gives, GivesExplained}
+use Rattle.guard_files.specs.Devices.{Input, Device, IsUnread, IsUntouched}
+use Rattle.guard_files.specs.Explaining.{IsExplained}
+use Rattle.guard_files.specs.Files.{Told}
+use Rattle.guard_files.specs.Bodies.{route_body}
+use Rattle.guard_files.specs.Reading.{IsPolicyAt, IsNoPolicyAt}
+use Rattle.guard_files.specs.Writing.{TellsText}
+use Rattle.guard_messages.specs.Decided.{IsDecided, IsDecidedExplained, IsUndecided, IsHeldDecided, IsFoundExplained, OfHeld, IsUndecidedExplained}
+use Rattle.guard_messages.specs.Finding.{AnswersFound, CapturesFrame}
+use Rattle.guard_messages.specs.Questions.{AbstractQuestion, AbstractSpot, AbstractPlace, kept, framed, linked, written, elsewhere, nowhere, asked_route, decide_place, show_place}
+use Rattle.guard_messages.specs.Shown.{IsShownAt, ShowsMessage}
+
+-- the message that the octets at a spot are on this route, or that they hold as the body of a frame
+abbrev pub held_in : AbstractRoute → AbstractSpot → List ℕ → Option AbstractBody
+held_in route (kept path) octets = Some (route_body route octets)
+held_in route (framed number) octets = body_in octets
+held_in route (linked link number) octets = body_in octets
+
+-- what is reported where the words don't say where a message is
+abbrev pub unasked : List ℕ
+unasked =
+    codes "error: the following required arguments were not provided:\n  <HEX> or --der <FILE>, with each name that the command takes; or --frame <N> without any, alone or with --link <K>\n\nFor more information, try '--help'."
+
+-- nothing is read
+abbrev pub TellsUnasked : Input → Device → Device → ℕ → Type 0
+TellsUnasked input out err status = IsUnread input × IsUntouched out × TellsText unasked 2 err status
+
+-- ---- decide
+
+-- by whether a fault is to be explained
+abbrev pub GivesWritten : Bool → Told → List ℕ → AbstractRoute → List ℕ → Device → Device → ℕ → Type 0
+GivesWritten false told path route digits = Gives (IsDecided told path route digits) (IsUndecided told path digits)
+GivesWritten true told path route digits =
+    GivesExplained (IsDecidedExplained told path route digits) (IsUndecidedExplained told path digits)
+
+-- which these octets hold
+abbrev pub GivesHeld : Bool → Told → List ℕ → Option AbstractBody → List ℕ → Device → Device → ℕ → Type 0
+GivesHeld false told path held octets = Gives (IsHeldDecided told path held) (IsNoPolicyAt told path)
+GivesHeld true told path held octets = GivesExplained (IsFoundExplained told path held octets) (IsExplained told path)
+
+abbrev pub DecidesAt : AbstractPlace → Told → AbstractQuestion → Input → Device → Device → ℕ → Type 0
+DecidesAt (written digits) told q input out err status =
+    IsUnread input × GivesWritten q.explain told q.policy (asked_route q) digits out err status
+DecidesAt (elsewhere spot) told q input out err status =
+    AnswersFound (λ later octets. GivesHeld q.explain later q.policy (held_in (asked_route q) spot octets) octets)
+    told spot input out err status
+DecidesAt nowhere told q input out err status = TellsUnasked input out err status
+
+abbrev pub Decides : Told → AbstractQuestion → Input → Device → Device → ℕ → Type 0
+Decides told q input out err status = DecidesAt (decide_place q) told q input out err status
+
+-- ---- show
+
+-- under the policy at the path
+abbrev pub IsHeldShown : Told → List ℕ → Option AbstractBody → AbstractAnswer → Type 0
+IsHeldShown told path held a =
+    (p : AbstractPolicy) × IsPolicyAt told path p × OfHeld (λ route octets. ShowsMessage p route.message octets) held a
+
+abbrev pub ShowsAt : AbstractPlace → Told → AbstractQuestion → Input → Device → Device → ℕ → Type 0
+ShowsAt (written digits) told q input out err status =
+    IsUnread input
+    × Gives (IsShownAt told q.policy (asked_route q).message digits) (IsUndecided told q.policy digits) out err status
+ShowsAt (elsewhere spot) told q input out err status =
+    AnswersFound
+    (λ later octets. Gives (IsHeldShown later q.policy (held_in (asked_route q) spot octets)) (IsNoPolicyAt later q.policy))
+    told spot input out err status
+ShowsAt nowhere told q input out err status = TellsUnasked input out err status
+
+-- ---- the frame itself, which no policy and no file is asked for
+
+abbrev pub CapturesAt : AbstractPlace → Told → Input → Device → Device → ℕ → Type 0
+CapturesAt (written digits) told input out err status = TellsUnasked input out err status
+CapturesAt (elsewhere (kept path)) told input out err status = TellsUnasked input out err status
+CapturesAt (elsewhere (framed word)) told input out err status = CapturesFrame told (framed word) input out err status
+CapturesAt (elsewhere (linked number word)) told input out err status =
+    CapturesFrame told (linked number word) input out err status
+CapturesAt nowhere told input out err status = TellsUnasked input out err status
+
+-- by whether the frame itself is asked for
+abbrev pub ShowsBy : Bool → Told → AbstractQuestion → Input → Device → Device → ℕ → Type 0
+ShowsBy true told q = CapturesAt (show_place q) told
+ShowsBy false told q = ShowsAt (show_place q) told q
+
+abbrev pub ShowsAsked : Told → AbstractQuestion → Input → Device → Device → ℕ → Type 0
+ShowsAsked told q input out err status = ShowsBy q.capture told q input out err status

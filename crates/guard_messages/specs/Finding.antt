@@ -1,0 +1,120 @@
+-- The octets of a message that is in a file or comes in, and why they can't be had.
+use Rattle.std.specs.Prelude.{◌≡◌, ◌<◌, ◌≤◌, ◌⊎◌, ℕ, Bool, true, false, List, [], codes, bytes_eq, drop, length, string_bytes}
+use Rattle.guard_frames.specs.declared.running.RunFault.{RunFault}
+use Rattle.guard_frames.specs.declared.running.RunFault.TheVariants.{FrameTooLong, WriteFailed, TornFrame, ReadFailed, OutOfMemory}
+use Rattle.guard_files.specs.declared.fault.Fault.{Fault}
+use Rattle.guard_files.specs.declared.fault.Fault.TheVariants.{CannotRead, Run, NoMemory}
+use Rattle.guard_files.specs.Devices.{Input, Device, IsUnread, IsUntouched}
+use Rattle.guard_files.specs.Files.{Told, HasFront, HasNone, after_read}
+use Rattle.guard_files.specs.Intake.{IsRead, IsLost}
+use Rattle.guard_files.specs.Writing.{TellsLine, TellsText, Tells, Writes}
+use Rattle.guard_messages.specs.declared.finding.Unfound.{Unfound}
+use Rattle.guard_messages.specs.declared.finding.Unfound.TheVariants.{Faulty, TooLong, NoSuchFrame, BadRecord}
+use Rattle.guard_messages.specs.Linked.{IsNthOfLink, EndsBefore, IsTornBefore, IsTooLongBefore, IsBadBefore, IsLostBefore}
+use Rattle.guard_messages.specs.Numbered.{IsNatural, IsNumber, IsNth, HasFewer, StopsBefore}
+use Rattle.guard_messages.specs.Questions.{AbstractSpot, kept, framed, linked}
+
+-- ---- all that is at a path
+
+-- `-` is standard input
+abbrev pub is_input : List ℕ → Bool
+is_input path = bytes_eq path (codes "-")
+
+-- These octets, by whether the path is standard input; and what reads of files to come find. One octet more is read
+-- than a message may have.
+abbrev pub IsKeptBy : Bool → Told → List ℕ → Input → List ℕ → Told → Type 0
+IsKeptBy true told path input octets later = IsRead input octets × (later ≡ told)
+IsKeptBy false told path input octets later = IsUnread input × HasFront told path octets × (later ≡ after_read told)
+
+-- why there are none
+abbrev pub IsNotKeptBy : Bool → Told → List ℕ → Input → Fault → Type 0
+IsNotKeptBy true told path input f = (f ≡ Run ReadFailed) × IsLost input
+IsNotKeptBy false told path input (CannotRead file obstacle) = IsUnread input × HasNone told path × (string_bytes file ≡ path)
+IsNotKeptBy false told path input _ = ⊥
+
+-- ---- at a spot
+
+-- the frame of what comes in, its length octets included
+abbrev pub IsFrameAt : AbstractSpot → Input → List ℕ → Type 0
+IsFrameAt (kept path) input frame = ⊥
+IsFrameAt (framed word) input frame = (n : ℕ) × IsNumber word n × IsNth n input frame
+IsFrameAt (linked number word) input frame =
+    (link : ℕ) × (n : ℕ) × IsNatural number link × IsNumber word n × IsNthOfLink link n input frame
+
+-- what follows the length of the frame
+abbrev pub IsBodyAt : AbstractSpot → Input → List ℕ → Type 0
+IsBodyAt spot input octets = (frame : List ℕ) × IsFrameAt spot input frame × (octets ≡ drop 4 frame)
+
+-- A message has 1,048,576 octets at most. Of a frame they are those behind its length.
+abbrev pub IsFound : Told → AbstractSpot → Input → List ℕ → Told → Type 0
+IsFound told (kept path) input octets later =
+    IsKeptBy (is_input path) told path input octets later × (length octets ≤ 1048576)
+IsFound told (framed word) input octets later = IsBodyAt (framed word) input octets × (later ≡ told)
+IsFound told (linked number word) input octets later = IsBodyAt (linked number word) input octets × (later ≡ told)
+
+abbrev pub IsTooLongAt : Told → AbstractSpot → Input → Type 0
+IsTooLongAt told (kept path) input =
+    (octets : List ℕ) × (later : Told) × IsKeptBy (is_input path) told path input octets later × (1048576 < length octets)
+IsTooLongAt told (framed word) input = ⊥
+IsTooLongAt told (linked number word) input = ⊥
+
+-- the word is no number of a frame, or there are fewer frames
+abbrev pub HasNoSuchFrame : AbstractSpot → Input → Type 0
+HasNoSuchFrame (kept path) input = ⊥
+HasNoSuchFrame (framed word) input =
+    (((n : ℕ) → IsNumber word n → ⊥) × IsUnread input) ⊎ ((n : ℕ) × IsNumber word n × HasFewer n input)
+HasNoSuchFrame (linked number word) input =
+    (((link n : ℕ) → IsNatural number link → IsNumber word n → ⊥) × IsUnread input)
+    ⊎ ((link : ℕ) × (n : ℕ) × IsNatural number link × IsNumber word n × EndsBefore link n input [])
+
+-- why that of a link can't be reached
+abbrev pub StopsLink : RunFault → ℕ → ℕ → Input → Type 0
+StopsLink FrameTooLong link n input = IsTooLongBefore link n input
+StopsLink TornFrame link n input = IsTornBefore link n input
+StopsLink ReadFailed link n input = IsLostBefore link n input
+StopsLink WriteFailed link n input = ⊥
+StopsLink OutOfMemory link n input = ⊥
+
+abbrev pub IsFaultyAt : Told → AbstractSpot → Input → Fault → Type 0
+IsFaultyAt told (kept path) input f = IsNotKeptBy (is_input path) told path input f
+IsFaultyAt told (framed word) input (Run f) = (n : ℕ) × IsNumber word n × StopsBefore f n input
+IsFaultyAt told (framed word) input _ = ⊥
+IsFaultyAt told (linked number word) input (Run f) =
+    (link : ℕ) × (n : ℕ) × IsNatural number link × IsNumber word n × StopsLink f link n input
+IsFaultyAt told (linked number word) input _ = ⊥
+
+-- what comes in is no record, or is cut short
+abbrev pub IsBadAt : AbstractSpot → Input → Type 0
+IsBadAt (kept path) input = ⊥
+IsBadAt (framed word) input = ⊥
+IsBadAt (linked number word) input =
+    (link : ℕ) × (n : ℕ) × IsNatural number link × IsNumber word n × IsBadBefore link n input
+
+-- why they can't be had; that memory ran out may come in place of any answer
+abbrev pub IsUnfound : Told → AbstractSpot → Input → Unfound → Type 0
+IsUnfound told spot input (Faulty f) = IsFaultyAt told spot input f ⊎ (f ≡ NoMemory)
+IsUnfound told spot input TooLong = IsTooLongAt told spot input
+IsUnfound told spot input NoSuchFrame = HasNoSuchFrame spot input
+IsUnfound told spot input BadRecord = IsBadAt spot input
+
+-- ---- what comes of it
+
+-- what is reported, and the status
+abbrev pub TellsUnfound : Unfound → Device → ℕ → Type 0
+TellsUnfound (Faulty f) err status = Tells f err status
+TellsUnfound TooLong err status = TellsText (codes "message too long") 2 err status
+TellsUnfound NoSuchFrame err status = TellsText (codes "no such frame") 2 err status
+TellsUnfound BadRecord err status = TellsLine (codes "bad record") 3 err status
+
+-- The frame goes out as it came; or why not is reported.
+abbrev pub CapturesFrame : Told → AbstractSpot → Input → Device → Device → ℕ → Type 0
+CapturesFrame told spot input out err status =
+    ((frame : List ℕ) × IsFrameAt spot input frame × Writes frame 0 out err status)
+    ⊎ ((u : Unfound) × IsUnfound told spot input u × IsUntouched out × TellsUnfound u err status)
+
+-- The octets are had, and answered by what reads of files to come find; or why not is reported.
+abbrev pub AnswersFound : (Told → List ℕ → Device → Device → ℕ → Type 0) → Told → AbstractSpot → Input → Device → Device
+    → ℕ → Type 0
+AnswersFound IsAnswered told spot input out err status =
+    ((octets : List ℕ) × (later : Told) × IsFound told spot input octets later × IsAnswered later octets out err status)
+    ⊎ ((u : Unfound) × IsUnfound told spot input u × IsUntouched out × TellsUnfound u err status)

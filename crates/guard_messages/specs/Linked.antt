@@ -1,0 +1,62 @@
+-- The frame of a number, from 1, of one link in a stream of records.
+use Rattle.std.specs.Prelude.{◌≡◌, ◌<◌, ◌+◌, ◌⊎◌, ℕ, nat_eq, List, [], ◌∷◌, ◌++◌, length, map, if◌then◌else◌}
+use Rattle.std.specs.List.{concat, All}
+use Rattle.std.specs.Io.KnownBytes.{Consumes, IsAtEnd}
+use Rattle.guard_frames.specs.Frames.{IsFrame, IsTooLong, IsUnfinished}
+use Rattle.guard_files.specs.Devices.{Input}
+use Rattle.guard_files.specs.Records.{IsBadRecord, IsLost, Record, record_octets, IsAllowed}
+use Rattle.guard_files.specs.Records.Record.{piece, end, reload}
+
+-- the octets of the link's pieces, in order
+abbrev pub link_octets : ℕ → List Record → List ℕ
+link_octets link [] = []
+link_octets link (piece other octets ∷ records) =
+    if nat_eq other link then octets ++ link_octets link records else link_octets link records
+link_octets link (end other ∷ records) = link_octets link records
+link_octets link (reload ∷ records) = link_octets link records
+
+-- the record isn't the end of this link
+abbrev pub LeavesOpen : ℕ → Record → Type 0
+LeavesOpen link (piece other octets) = Unit {0}
+LeavesOpen link (end other) = other ≡ link → ⊥
+LeavesOpen link reload = Unit {0}
+
+-- Records and a rest were read. The link's octets in the records are these frames, fewer than the number, and what is
+-- held of the next ones.
+pub record ReadsLink (link n : ℕ) (input : Input) (held rest : List ℕ) : Type 0 where
+  pub records : List Record
+  pub allowed : All IsAllowed records
+  pub going : All (LeavesOpen link) records
+  pub given : Consumes input.before input.after (concat (map record_octets records) ++ rest)
+  pub frames : List (List ℕ)
+  pub each : All IsFrame frames
+  pub fewer : length frames < n
+  pub octets : link_octets link records ≡ concat frames ++ held
+
+-- Of what the records that were read carry for the link, this frame has the number.
+pub record IsNthOfLink (link n : ℕ) (input : Input) (frame : List ℕ) : Type 0 where
+  pub more : List ℕ
+  pub all : ReadsLink link n input (frame ++ more) []
+  pub number : length all.frames + 1 ≡ n
+  pub is : IsFrame frame
+
+-- Before it the link has its end, or the records end.
+abbrev pub EndsBefore : ℕ → ℕ → Input → List ℕ → Type 0
+EndsBefore link n input held =
+    ReadsLink link n input held (record_octets (end link)) ⊎ (ReadsLink link n input held [] × IsAtEnd input.after)
+
+-- inside a frame
+abbrev pub IsTornBefore : ℕ → ℕ → Input → Type 0
+IsTornBefore link n input = (held : List ℕ) × EndsBefore link n input held × (0 < length held) × IsUnfinished held
+
+-- with a length that no frame may have
+abbrev pub IsTooLongBefore : ℕ → ℕ → Input → Type 0
+IsTooLongBefore link n input = (held : List ℕ) × ReadsLink link n input held [] × IsTooLong held
+
+-- What comes in is no record, or is cut short.
+abbrev pub IsBadBefore : ℕ → ℕ → Input → Type 0
+IsBadBefore link n input = (held : List ℕ) × (rest : List ℕ) × ReadsLink link n input held rest × IsBadRecord input rest
+
+-- It failed, or was asked too often.
+abbrev pub IsLostBefore : ℕ → ℕ → Input → Type 0
+IsLostBefore link n input = (held : List ℕ) × (rest : List ℕ) × ReadsLink link n input held rest × IsLost input rest

@@ -1,0 +1,94 @@
+-- What is made of the octets of a link, piece by piece.
+use Rattle.std.specs.Prelude.{◌≡◌, ◌<◌, ◌≤◌, ◌+◌, ℕ, List, [], ◌∷◌, ◌++◌, drop, length, take}
+use Rattle.std.specs.List.{concat, All}
+use Rattle.guard_frames.specs.Frames.{IsFrame, IsTooLong, IsUnfinished}
+use Rattle.guard_frames.specs.declared.running.RunFault.TheVariants.{FrameTooLong, TornFrame}
+use Rattle.guard_frames.specs.declared.running.RunFault.TheVariants as run
+use Rattle.guard_files.specs.declared.fault.Fault.TheVariants.{Run, NoMemory}
+use Rattle.guard_files.specs.Devices.{Input}
+use Rattle.guard_files.specs.Records.{Record}
+use Rattle.guard_files.specs.Records.Record.{end}
+use Rattle.guard_files.specs.declared.stop.Stop.{Stop}
+use Rattle.guard_files.specs.declared.stop.Stop.TheVariants.{BadRecord, ReadFailed, WriteFailed, ErrorFailed}
+use Rattle.guard_messages.specs.declared.finding.Unfound.{Unfound}
+use Rattle.guard_messages.specs.declared.finding.Unfound.TheVariants as unfound
+use Rattle.guard_messages.specs.declared.linked.Passed.{Passed}
+use Rattle.guard_messages.specs.declared.linked.Passed.TheVariants.{Frame, Held, TooLong}
+use Rattle.guard_messages.specs.declared.linked.Unlinked.{Unlinked}
+use Rattle.guard_messages.specs.declared.linked.Unlinked.TheVariants as unlinked
+use Rattle.guard_messages.specs.Linked.{EndsBefore, IsBadBefore, IsLostBefore, IsTooLongBefore, IsTornBefore, LeavesOpen, link_octets}
+
+-- The octets are as many frames, and then this rest.
+pub record AreFrames (octets : List ℕ) (count : ℕ) (rest : List ℕ) : Type 0 where
+  pub frames : List (List ℕ)
+  pub each : All IsFrame frames
+  pub many : length frames ≡ count
+  pub joined : octets ≡ concat frames ++ rest
+
+-- how many frames are passed over, of so many, and what follows them
+abbrev pub IsPassed : List ℕ → ℕ → ℕ → Passed → Type 0
+IsPassed octets old new (Frame at size) =
+    AreFrames octets old (drop at octets) × IsFrame (take size (drop at octets)) × (at + size ≤ length octets)
+IsPassed octets old new (Held at) =
+    ((count : ℕ) × (new + count ≡ old) × AreFrames octets count (drop at octets)) × IsUnfinished (drop at octets)
+    × (at ≤ length octets)
+IsPassed octets old new TooLong =
+    (rest : List ℕ) × (count : ℕ) × (count ≤ old) × AreFrames octets count rest × IsTooLong rest
+
+-- ---- one record, with the octets that are held of the link before it and after it, and how many frames come before
+-- the one that is looked for
+
+abbrev pub joins : ℕ → List ℕ → Record → List ℕ
+joins link held r = held ++ link_octets link (r ∷ [])
+
+-- The frame is there.
+pub record Completes (link : ℕ) (r : Record) (held : List ℕ) (before : ℕ) (frame : List ℕ) : Type 0 where
+  pub going : LeavesOpen link r
+  pub more : List ℕ
+  pub passed : AreFrames (joins link held r) before (frame ++ more)
+  pub is : IsFrame frame
+
+-- It is yet to come.
+pub record Holds (link : ℕ) (r : Record) (held later : List ℕ) (before left : ℕ) : Type 0 where
+  pub going : LeavesOpen link r
+  pub count : ℕ
+  pub counted : left + count ≡ before
+  pub passed : AreFrames (joins link held r) count later
+  pub unfinished : IsUnfinished later
+
+-- it can't come
+abbrev pub Refuses : Unlinked → ℕ → Record → List ℕ → ℕ → Type 0
+Refuses unlinked.Fewer link r held before = (r ≡ end link) × (held ≡ [])
+Refuses unlinked.Torn link r held before = (r ≡ end link) × (0 < length held)
+Refuses unlinked.TooLong link r held before =
+    LeavesOpen link r
+    × ((rest : List ℕ) × (count : ℕ) × (count ≤ before) × AreFrames (joins link held r) count rest × IsTooLong rest)
+Refuses unlinked.BadRecord link r held before = ⊥
+Refuses unlinked.Lost link r held before = ⊥
+Refuses unlinked.NoMemory link r held before = Unit {0}
+
+-- ---- all of them
+
+abbrev pub IsUnlinked : ℕ → ℕ → Input → Unlinked → Type 0
+IsUnlinked link n input unlinked.Fewer = EndsBefore link n input []
+IsUnlinked link n input unlinked.Torn = IsTornBefore link n input
+IsUnlinked link n input unlinked.TooLong = IsTooLongBefore link n input
+IsUnlinked link n input unlinked.BadRecord = IsBadBefore link n input
+IsUnlinked link n input unlinked.Lost = IsLostBefore link n input
+IsUnlinked link n input unlinked.NoMemory = Unit {0}
+
+-- what is answered for it
+abbrev pub unfound_of : Unlinked → Unfound
+unfound_of unlinked.Fewer = unfound.NoSuchFrame
+unfound_of unlinked.Torn = unfound.Faulty (Run TornFrame)
+unfound_of unlinked.TooLong = unfound.Faulty (Run FrameTooLong)
+unfound_of unlinked.BadRecord = unfound.BadRecord
+unfound_of unlinked.Lost = unfound.Faulty (Run run.ReadFailed)
+unfound_of unlinked.NoMemory = unfound.Faulty NoMemory
+
+-- why no record could be read
+abbrev pub of_stop : Stop → Unlinked
+of_stop BadRecord = unlinked.BadRecord
+of_stop ReadFailed = unlinked.Lost
+of_stop WriteFailed = unlinked.Lost
+of_stop ErrorFailed = unlinked.Lost

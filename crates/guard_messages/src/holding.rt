@@ -1,0 +1,130 @@
+//! The message that octets are, or that a frame holds, and what is answered to it.
+ghost use Rattle.std.specs.Prelude.{◌≡◌, codes, option_map, IfOk, IfErr};
+ghost use Rattle.guard_policy.specs.PolicyView.{policy_view, route_view};
+ghost use Rattle.guard_frames.specs.Bodies.{body_view};
+ghost use Rattle.guard_files.specs.Answers.{answer_view};
+ghost use Rattle.guard_files.specs.Bodies.{route_body};
+ghost use Rattle.guard_files.specs.Reading.{IsNoPolicyAt};
+ghost use Rattle.guard_messages.specs.Decided.{body_route, IsHeldDecided, IsVerdict, OfHeld};
+ghost use Rattle.guard_messages.specs.Deciding.{held_in, IsHeldShown};
+ghost use Rattle.guard_messages.specs.Questions.{question_view, asked_route, spot_view};
+ghost use Rattle.guard_messages.specs.Shown.{ShowsMessage};
+
+use crate::deciding::verdict_on;
+use crate::question::{Question, Spot};
+use crate::values::show_octets;
+use guard_files::{Answer, Fault, Files, load};
+use guard_frames::{Body, read_body};
+use guard_model::OutOfMemory;
+use guard_policy::{Policy, Route};
+use std::alloc::Global;
+
+/// The message that the octets at the spot are, on the route of these names, or that they hold as the body of a frame;
+/// none where they aren't three names and a message.
+pub fn held_in<'a>(
+    from: &'a [u8],
+    to: &'a [u8],
+    message: &'a [u8],
+    spot: &Spot,
+    octets: &'a [u8],
+) -> Option<Body<'a>>
+    ensures { option_map body_view result ≡ held_in (record { from = from.now; to = to.now; message = message.now })
+        (spot_view spot.now) octets.now }
+{
+    match spot {
+        Spot::Kept(_) => Some(body_of(from, to, message, octets)),
+        Spot::Framed(_) | Spot::Linked(_, _) => read_body(octets),
+    }
+}
+
+/// The route that the words give.
+pub fn route_asked<'a>(question: &Question<'a>) -> Route<'a>
+    ensures { route_view result ≡ asked_route (question_view question.now) }
+{
+    Route {
+        from: question.from.unwrap_or("").as_bytes(),
+        to: question.to.unwrap_or("").as_bytes(),
+        message: question.message.unwrap_or("").as_bytes(),
+    }
+}
+
+/// The octets as a message on the route of these names.
+pub fn body_of<'a>(from: &'a [u8], to: &'a [u8], message: &'a [u8], octets: &'a [u8]) -> Body<'a>
+    ensures { body_view result ≡ route_body (record { from = from.now; to = to.now; message = message.now })
+        octets.now }
+{
+    Body {
+        sender: from,
+        receiver: to,
+        name: message,
+        message_octets: octets,
+    }
+}
+
+pub fn route_in<'a>(body: &Body<'a>) -> Route<'a>
+    ensures { route_view result ≡ body_route (body_view body.now) }
+{
+    Route {
+        from: body.sender,
+        to: body.receiver,
+        message: body.name,
+    }
+}
+
+/// What is answered where a frame isn't three names and a message.
+pub fn bad_header(alloc: Global) -> Result<Answer, OutOfMemory>
+    ensures { IfOk result (λ a. (a.out.items ≡ codes "bad-header\n") × (a.status ≡ 1)) }
+{
+    let out = Vec::from_slice(alloc, b"bad-header\n")?;
+    Ok(Answer { out, status: 1 })
+}
+
+/// The verdict on a message that is held, under the policy at the path.
+pub fn decide_held<F: Files>(
+    alloc: Global,
+    path: &str,
+    held: Option<Body>,
+    files: &mut F,
+) -> Result<Answer, Fault>
+    ensures decided { IfOk result (λ a. IsHeldDecided (F.told files.old) path.now (option_map body_view held.entry)
+        (answer_view a)) }
+    ensures none { IfErr result (IsNoPolicyAt (F.told files.old) path.now) }
+{
+    let policy = load(alloc, path, files)?;
+    Ok(verdict_answer(alloc, &policy, held)?)
+}
+
+fn verdict_answer(alloc: Global, policy: &Policy, held: Option<Body>) -> Result<Answer, OutOfMemory>
+    ensures { IfOk result (λ a. OfHeld (IsVerdict (policy_view policy.now)) (option_map body_view held.entry)
+        (answer_view a)) }
+{
+    match held {
+        Some(body) => verdict_on(alloc, policy, &route_in(&body), body.message_octets),
+        None => bad_header(alloc),
+    }
+}
+
+/// The value of a message that is held, under the policy at the path.
+pub fn show_held<F: Files>(
+    alloc: Global,
+    path: &str,
+    held: Option<Body>,
+    files: &mut F,
+) -> Result<Answer, Fault>
+    ensures shown { IfOk result (λ a. IsHeldShown (F.told files.old) path.now (option_map body_view held.entry)
+        (answer_view a)) }
+    ensures none { IfErr result (IsNoPolicyAt (F.told files.old) path.now) }
+{
+    let policy = load(alloc, path, files)?;
+    Ok(shown_answer(alloc, &policy, held)?)
+}
+
+fn shown_answer(alloc: Global, policy: &Policy, held: Option<Body>) -> Result<Answer, OutOfMemory>
+    ensures { IfOk result (λ a. OfHeld (λ route octets. ShowsMessage (policy_view policy.now) route.message octets)
+        (option_map body_view held.entry) (answer_view a)) }
+{
+    match held {
+        Some(body) => show_octets(alloc, policy, body.name, body.message_octets),
+        None => bad_header(alloc),
+    }
+}

@@ -1,0 +1,205 @@
+//! The frame of a number, of those of one link in a stream of records.
+ghost use Rattle.std.specs.Prelude.{◌≡◌, ◌<◌, ◌≤◌, ◌+◌, ◌⊎◌, ◌++◌, ℕ, List, [], None};
+ghost use Rattle.std.specs.Prelude.{drop, length, take, IfOk, IfErr, IfSome, OnOk};
+ghost use Rattle.guard_frames.specs.Frames.{IsFrame, IsTooLong, IsUnfinished};
+ghost use Rattle.guard_files.specs.Devices.{source_of};
+ghost use Rattle.guard_files.specs.Headers.{record_of, IsGood};
+ghost use Rattle.guard_messages.specs.Linked.{IsNthOfLink};
+ghost use Rattle.guard_messages.specs.inside.Passed.{AreFrames, Completes, Holds, IsPassed};
+ghost use Rattle.guard_messages.specs.inside.Passed.{IsUnlinked, Refuses, of_stop};
+ghost use Rattle.guard_messages.specs.declared.linked.Unlinked.TheVariants as unlinked;
+
+use guard_files::{Header, Stop, add, next_record};
+use guard_frames::{Cut, MOST_READS, Rest, Source, first_cut};
+use guard_model::OutOfMemory;
+use std::alloc::Global;
+
+/// Why a link's frame can't be had.
+#[derive(Clone, Copy, Debug, PartialEq, Eq)]
+pub enum Unlinked {
+    /// The link has fewer frames.
+    Fewer,
+    /// Its stream ends inside a frame.
+    Torn,
+    /// A length is above that of a frame.
+    TooLong,
+    /// What comes in is no record, or is cut short by the end.
+    BadRecord,
+    /// Standard input failed, or was asked too often.
+    Lost,
+    NoMemory,
+}
+
+impl From<OutOfMemory> for Unlinked {
+    ghost from_gives = { λ _ e. e ≡ unlinked.NoMemory };
+
+    fn from(_e: OutOfMemory) -> Unlinked {
+        Unlinked::NoMemory
+    }
+}
+
+impl From<Stop> for Unlinked {
+    ghost from_gives = { λ s e. e ≡ of_stop s };
+
+    fn from(stop: Stop) -> Unlinked {
+        match stop {
+            Stop::BadRecord => Unlinked::BadRecord,
+            Stop::ReadFailed | Stop::WriteFailed | Stop::ErrorFailed => Unlinked::Lost,
+        }
+    }
+}
+
+/// What follows the frames that are passed over.
+#[derive(Clone, Copy)]
+enum Passed {
+    /// At this place the frame that is looked for, of this size.
+    Frame(usize, usize),
+    /// At this place less than a frame.
+    Held(usize),
+    /// A length that no frame may have.
+    TooLong,
+}
+
+/// The frame of this number of the link. Of its stream no more is held than a frame and a piece, and nothing is read
+/// behind the record that completes the frame.
+pub fn linked_frame<S: Source>(
+    alloc: Global,
+    source: &mut S,
+    room: &mut [u8],
+    link: u64,
+    number: u64,
+) -> Result<Vec<u8>, Unlinked>
+    requires room { length room.old ≡ 1048576 }
+    requires some { 0 < number }
+    ensures frame { IfOk result (λ frame. IsNthOfLink link number
+        (source_of S.tells S.takes S.has_failed source.old source.new) frame.items) }
+    ensures none { IfErr result (IsUnlinked link number
+        (source_of S.tells S.takes S.has_failed source.old source.new)) }
+{
+    let mut held = Vec::new(alloc);
+    let mut before = number - 1;
+    let mut reads = MOST_READS;
+    for _ in 0..MOST_READS {
+        let Some(header) = next_record(source, room, &mut reads)? else {
+            return Err(ended(&held));
+        };
+        let found = take_record(alloc, header, room, link, &mut held, &mut before)?;
+        if let Some(frame) = found {
+            return Ok(frame);
+        }
+    }
+    Err(Unlinked::Lost)
+}
+
+/// Why there is no further frame where a link's stream has ended.
+fn ended(held: &[u8]) -> Unlinked
+    ensures { ((result ≡ unlinked.Fewer) × (held.now ≡ [])) ⊎ ((result ≡ unlinked.Torn) × (0 < length held.now)) }
+{
+    if held.is_empty() {
+        Unlinked::Fewer
+    } else {
+        Unlinked::Torn
+    }
+}
+
+/// Takes one record, whose octets are the first ones in the room, and answers the frame if that is there.
+fn take_record(
+    alloc: Global,
+    header: Header,
+    room: &[u8],
+    link: u64,
+    held: &mut Vec<u8>,
+    before: &mut u64,
+) -> Result<Option<Vec<u8>>, Unlinked>
+    requires good { IsGood header }
+    requires room { length room.now ≡ 1048576 }
+    requires unfinished { IsUnfinished held.old.items }
+    ensures frame { IfOk result (λ found. IfSome found (λ frame.
+        Completes link (record_of header room.now) held.old.items before.old frame.items)) }
+    ensures none { IfOk result (λ found. found ≡ None →
+        Holds link (record_of header room.now) held.old.items held.new.items before.old before.new) }
+    ensures refused { IfErr result (λ u. Refuses u link (record_of header room.now) held.old.items before.old) }
+{
+    match header {
+        Header::Piece(other, size) => {
+            if u64::from(other) == link {
+                take_piece(alloc, &room[..size], held, before)
+            } else {
+                Ok(None)
+            }
+        }
+        Header::End(other) => {
+            if u64::from(other) == link {
+                Err(ended(held.as_slice()))
+            } else {
+                Ok(None)
+            }
+        }
+        Header::Reload => Ok(None),
+    }
+}
+
+/// Takes a piece of the link's stream, and answers the frame if that is there.
+fn take_piece(
+    alloc: Global,
+    piece: &[u8],
+    held: &mut Vec<u8>,
+    before: &mut u64,
+) -> Result<Option<Vec<u8>>, Unlinked>
+    ensures frame { IfOk result (λ found. IfSome found (λ frame. (more : List ℕ)
+        × AreFrames (held.old.items ++ piece.now) before.old (frame.items ++ more) × IsFrame frame.items)) }
+    ensures none { IfOk result (λ found. found ≡ None → (count : ℕ) × (before.new + count ≡ before.old)
+        × AreFrames (held.old.items ++ piece.now) count held.new.items × IsUnfinished held.new.items) }
+    ensures refused { IfErr result (λ u. ((u ≡ unlinked.TooLong) × ((rest : List ℕ) × (count : ℕ)
+        × (count ≤ before.old) × AreFrames (held.old.items ++ piece.now) count rest × IsTooLong rest))
+        ⊎ (u ≡ unlinked.NoMemory)) }
+{
+    add(held, piece)?;
+    match pass(held.as_slice(), before) {
+        Passed::Frame(at, size) => Ok(Some(copied(alloc, held.as_slice(), at, size)?)),
+        Passed::Held(at) => {
+            drop_front(alloc, held, at)?;
+            Ok(None)
+        }
+        Passed::TooLong => Err(Unlinked::TooLong),
+    }
+}
+
+/// Passes over as many frames as there are and as should be, and answers what follows them.
+fn pass(octets: &[u8], before: &mut u64) -> Passed
+    ensures { IsPassed octets.now before.old before.new result }
+{
+    let mut at = 0;
+    loop {
+        let frame = match first_cut(&octets[at..]) {
+            Cut::Frame(frame) => frame,
+            Cut::Rest(Rest::Unfinished) => return Passed::Held(at),
+            Cut::Rest(Rest::TooLong) => return Passed::TooLong,
+        };
+        let size = frame.octets.len();
+        if *before == 0 {
+            return Passed::Frame(at, size);
+        }
+        *before -= 1;
+        at += size;
+    }
+}
+
+/// So many octets from this place on.
+fn copied(alloc: Global, octets: &[u8], at: usize, size: usize) -> Result<Vec<u8>, OutOfMemory>
+    requires { at + size ≤ length octets.now }
+    ensures { IfOk result (λ part. part.items ≡ take size (drop at octets.now)) }
+{
+    Ok(Vec::from_slice(alloc, &octets[at..at + size])?)
+}
+
+/// Drops so many octets at the front.
+fn drop_front(alloc: Global, octets: &mut Vec<u8>, count: usize) -> Result<(), OutOfMemory>
+    requires { count ≤ length octets.old.items }
+    ensures { OnOk result (octets.new.items ≡ drop count octets.old.items) }
+{
+    if count > 0 {
+        *octets = Vec::from_slice(alloc, &octets[count..])?;
+    }
+    Ok(())
+}

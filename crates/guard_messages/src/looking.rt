@@ -1,0 +1,263 @@
+//! What becomes of one message, and its value, wherever its octets are.
+ghost use Rattle.std.specs.Prelude.{◌≡◌, option_map, IfOk, IfErr};
+ghost use Rattle.guard_frames.specs.Bodies.{body_view};
+ghost use Rattle.guard_files.specs.Answers.{Gives};
+ghost use Rattle.guard_files.specs.Devices.{source_of, device_of, IsUntouched};
+ghost use Rattle.guard_files.specs.Files.{Told};
+ghost use Rattle.guard_files.specs.Reading.{IsNoPolicyAt};
+ghost use Rattle.guard_messages.specs.Deciding.{CapturesAt, Decides, ShowsAsked, ShowsAt, GivesWritten, GivesHeld};
+ghost use Rattle.guard_messages.specs.Deciding.{held_in, IsHeldShown};
+ghost use Rattle.guard_files.specs.Writing.{Writes};
+ghost use Rattle.guard_messages.specs.Finding.{AnswersFound, TellsUnfound};
+ghost use Rattle.guard_messages.specs.Questions.{question_view, asked_route, show_place, spot_view};
+
+use crate::deciding::{decide, decide_explained, explain_found};
+use crate::finding::{Unfound, find, frame_of_link, frame_of_number, tell_unfound};
+use crate::holding::{decide_held, held_in, route_asked, show_held};
+use crate::question::{Place, Question, Spot};
+use crate::values::show_message;
+use guard_files::{Files, give, give_explained, tell_text, write};
+use guard_frames::{Body, Sink, Source};
+use std::alloc::Global;
+
+/// What is said where the words don't say where a message is.
+const UNASKED: &str =
+    "error: the following required arguments were not provided:\n  <HEX> or --der <FILE>, with each name that the \
+        command takes; or --frame <N> without any, alone or with --link <K>\n\nFor more information, try '--help'.";
+
+/// The status where the words are bad.
+const BAD_WORDS: u8 = 2;
+
+/// Says what becomes of the message that is asked of, and answers the status: 0 where it passes; 1 where it doesn't, or
+/// the frame isn't three names and a message; 2 for bad words or digits, a bad policy, a file that can't be read, too
+/// many octets, or a frame that isn't there; 3 where standard input failed or isn't frames, an output failed, or memory
+/// ran out.
+pub fn decide_asked<F: Files, S: Source, O: Sink, E: Sink>(
+    alloc: Global,
+    question: &Question,
+    files: &mut F,
+    input: &mut S,
+    out: &mut O,
+    err: &mut E,
+) -> u8
+    ensures { Decides (F.told files.old) (question_view question.now)
+        (source_of S.tells S.takes S.has_failed input.old input.new)
+        (device_of O.taken O.has_failed out.old out.new)
+        (device_of E.taken E.has_failed err.old err.new) result }
+{
+    match question.decide_place() {
+        Place::Written(digits) => decide_written(alloc, question, digits, files, out, err),
+        Place::Elsewhere(spot) => decide_found(alloc, question, &spot, files, input, out, err),
+        Place::Nowhere => tell_text(alloc, UNASKED, BAD_WORDS, err),
+    }
+}
+
+/// Shows the value of the message that is asked of, or writes its frame, and answers the status: 0 where there is one,
+/// and else as for what becomes of it.
+pub fn show_asked<F: Files, S: Source, O: Sink, E: Sink>(
+    alloc: Global,
+    question: &Question,
+    files: &mut F,
+    input: &mut S,
+    out: &mut O,
+    err: &mut E,
+) -> u8
+    ensures { ShowsAsked (F.told files.old) (question_view question.now)
+        (source_of S.tells S.takes S.has_failed input.old input.new)
+        (device_of O.taken O.has_failed out.old out.new)
+        (device_of E.taken E.has_failed err.old err.new) result }
+{
+    if question.capture {
+        write_frame(alloc, question, input, out, err)
+    } else {
+        show_value(alloc, question, files, input, out, err)
+    }
+}
+
+/// Shows the value of the message.
+fn show_value<F: Files, S: Source, O: Sink, E: Sink>(
+    alloc: Global,
+    question: &Question,
+    files: &mut F,
+    input: &mut S,
+    out: &mut O,
+    err: &mut E,
+) -> u8
+    ensures { ShowsAt (show_place (question_view question.now)) (F.told files.old) (question_view question.now)
+        (source_of S.tells S.takes S.has_failed input.old input.new)
+        (device_of O.taken O.has_failed out.old out.new)
+        (device_of E.taken E.has_failed err.old err.new) result }
+{
+    match question.show_place() {
+        Place::Written(digits) => {
+            let message = route_asked(question).message;
+            let shown = show_message(alloc, question.policy, message, digits, files);
+            give(alloc, shown, out, err)
+        }
+        Place::Elsewhere(spot) => show_found(alloc, question, &spot, files, input, out, err),
+        Place::Nowhere => tell_text(alloc, UNASKED, BAD_WORDS, err),
+    }
+}
+
+/// Writes the frame that holds the message, octet by octet as it came: a capture of one frame.
+fn write_frame<S: Source, O: Sink, E: Sink>(
+    alloc: Global,
+    question: &Question,
+    input: &mut S,
+    out: &mut O,
+    err: &mut E,
+) -> u8
+    ensures { (told : Told) → CapturesAt (show_place (question_view question.now)) told
+        (source_of S.tells S.takes S.has_failed input.old input.new)
+        (device_of O.taken O.has_failed out.old out.new)
+        (device_of E.taken E.has_failed err.old err.new) result }
+{
+    match question.show_place() {
+        Place::Elsewhere(Spot::Framed(number)) => {
+            let found = frame_of_number(alloc, number, input);
+            give_frame(alloc, found, out, err)
+        }
+        Place::Elsewhere(Spot::Linked(link, number)) => {
+            let found = frame_of_link(alloc, link, number, input);
+            give_frame(alloc, found, out, err)
+        }
+        Place::Elsewhere(Spot::Kept(_)) | Place::Written(_) | Place::Nowhere => {
+            tell_text(alloc, UNASKED, BAD_WORDS, err)
+        }
+    }
+}
+
+/// Writes the frame, or reports why there is none.
+fn give_frame<O: Sink, E: Sink>(
+    alloc: Global,
+    found: Result<Vec<u8>, Unfound>,
+    out: &mut O,
+    err: &mut E,
+) -> u8
+    ensures written { IfOk found (λ frame. Writes frame.items 0 (device_of O.taken O.has_failed out.old out.new)
+        (device_of E.taken E.has_failed err.old err.new) result) }
+    ensures told { IfErr found (λ u. IsUntouched (device_of O.taken O.has_failed out.old out.new)
+        × TellsUnfound u (device_of E.taken E.has_failed err.old err.new) result) }
+{
+    match found {
+        Ok(frame) => write(&frame, 0, out, err),
+        Err(reason) => tell_unfound(alloc, &reason, err),
+    }
+}
+
+/// Says what becomes of a message whose octets the digits write.
+fn decide_written<F: Files, O: Sink, E: Sink>(
+    alloc: Global,
+    question: &Question,
+    digits: &str,
+    files: &mut F,
+    out: &mut O,
+    err: &mut E,
+) -> u8
+    ensures { GivesWritten (question_view question.now).explain (F.told files.old) (question_view question.now).policy
+        (asked_route (question_view question.now)) digits.now
+        (device_of O.taken O.has_failed out.old out.new)
+        (device_of E.taken E.has_failed err.old err.new) result }
+{
+    let (path, route) = (question.policy, route_asked(question));
+    if question.explain {
+        let decided = decide_explained(alloc, path, &route, digits, files);
+        give_explained(alloc, decided, out, err)
+    } else {
+        let decided = decide(alloc, path, &route, digits, files);
+        give(alloc, decided, out, err)
+    }
+}
+
+/// Says what becomes of a message whose octets are at a spot.
+fn decide_found<F: Files, S: Source, O: Sink, E: Sink>(
+    alloc: Global,
+    question: &Question,
+    spot: &Spot,
+    files: &mut F,
+    input: &mut S,
+    out: &mut O,
+    err: &mut E,
+) -> u8
+    ensures { AnswersFound (λ later octets. GivesHeld (question_view question.now).explain later
+        (question_view question.now).policy
+        (held_in (asked_route (question_view question.now)) (spot_view spot.now) octets) octets)
+        (F.told files.old) (spot_view spot.now)
+        (source_of S.tells S.takes S.has_failed input.old input.new)
+        (device_of O.taken O.has_failed out.old out.new)
+        (device_of E.taken E.has_failed err.old err.new) result }
+{
+    match find(alloc, spot, files, input) {
+        Ok(octets) => {
+            let route = route_asked(question);
+            let held = held_in(route.from, route.to, route.message, spot, &octets);
+            give_held(alloc, question, held, &octets, files, out, err)
+        }
+        Err(reason) => tell_unfound(alloc, &reason, err),
+    }
+}
+
+/// Says what becomes of a message that is held by these octets.
+fn give_held<F: Files, O: Sink, E: Sink>(
+    alloc: Global,
+    question: &Question,
+    held: Option<Body>,
+    octets: &[u8],
+    files: &mut F,
+    out: &mut O,
+    err: &mut E,
+) -> u8
+    ensures { GivesHeld (question_view question.now).explain (F.told files.old) (question_view question.now).policy
+        (option_map body_view held.entry) octets.now (device_of O.taken O.has_failed out.old out.new)
+        (device_of E.taken E.has_failed err.old err.new) result }
+{
+    if question.explain {
+        give_explained(
+            alloc,
+            explain_found(alloc, question.policy, held, octets, files),
+            out,
+            err,
+        )
+    } else {
+        give(
+            alloc,
+            decide_held(alloc, question.policy, held, files),
+            out,
+            err,
+        )
+    }
+}
+
+/// Shows the value of a message whose octets are at a spot.
+fn show_found<F: Files, S: Source, O: Sink, E: Sink>(
+    alloc: Global,
+    question: &Question,
+    spot: &Spot,
+    files: &mut F,
+    input: &mut S,
+    out: &mut O,
+    err: &mut E,
+) -> u8
+    ensures { AnswersFound (λ later octets.
+        Gives (IsHeldShown later (question_view question.now).policy
+        (held_in (asked_route (question_view question.now)) (spot_view spot.now) octets))
+        (IsNoPolicyAt later (question_view question.now).policy))
+        (F.told files.old) (spot_view spot.now)
+        (source_of S.tells S.takes S.has_failed input.old input.new)
+        (device_of O.taken O.has_failed out.old out.new)
+        (device_of E.taken E.has_failed err.old err.new) result }
+{
+    match find(alloc, spot, files, input) {
+        Ok(octets) => {
+            let route = route_asked(question);
+            let held = held_in(route.from, route.to, route.message, spot, &octets);
+            give(
+                alloc,
+                show_held(alloc, question.policy, held, files),
+                out,
+                err,
+            )
+        }
+        Err(reason) => tell_unfound(alloc, &reason, err),
+    }
+}

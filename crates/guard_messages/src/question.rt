@@ -1,0 +1,100 @@
+//! What is asked of one message.
+ghost use Rattle.std.specs.Prelude.{◌≡◌, option_map};
+ghost use Rattle.guard_messages.specs.Questions.{question_view, frame_spot, octets_place, place_by, decide_place};
+ghost use Rattle.guard_messages.specs.Questions.{show_place, place_view, spot_view};
+
+/// What the words give of one message: by which policy it is asked of, and where its octets are.
+#[derive(Clone, Copy, Debug, PartialEq, Eq)]
+pub struct Question<'a> {
+    pub policy: &'a str,
+    pub from: Option<&'a str>,
+    pub to: Option<&'a str>,
+    pub message: Option<&'a str>,
+    /// Its octets, in hexadecimal digits.
+    pub hex: Option<&'a str>,
+    /// The path of a file that has its octets; `-` is standard input.
+    pub der: Option<&'a str>,
+    /// The number of the frame that holds it, of those that come in.
+    pub frame: Option<&'a str>,
+    /// That of its link, where records come in.
+    pub link: Option<&'a str>,
+    /// Whether a fault is to be explained.
+    pub explain: bool,
+    /// Whether the frame itself is to be written in place of its value.
+    pub capture: bool,
+}
+
+/// Where octets are that the words don't write.
+#[derive(Clone, Copy)]
+pub enum Spot<'a> {
+    /// All that is at this path.
+    Kept(&'a str),
+    /// In the frame of this number.
+    Framed(&'a str),
+    /// In that of the link of this number, the link first.
+    Linked(&'a str, &'a str),
+}
+
+/// Where the octets of a message are.
+#[derive(Clone, Copy)]
+pub enum Place<'a> {
+    /// In these digits.
+    Written(&'a str),
+    Elsewhere(Spot<'a>),
+    /// The words don't say where, or say more than one place.
+    Nowhere,
+}
+
+impl<'a> Question<'a> {
+    /// Where `decide` looks for the octets. It takes all three names, or those of the frame.
+    pub fn decide_place(&self) -> Place<'a>
+        ensures { place_view result ≡ decide_place (question_view self.now) }
+    {
+        let all = self.from.is_some() && self.to.is_some() && self.message.is_some();
+        let some = self.from.is_some() || self.to.is_some() || self.message.is_some();
+        self.place(all, some)
+    }
+
+    /// Where `show` looks for them. It takes the name of the message, or that of the frame.
+    pub fn show_place(&self) -> Place<'a>
+        ensures { place_view result ≡ show_place (question_view self.now) }
+    {
+        let named = self.message.is_some();
+        self.place(named, named)
+    }
+
+    /// Where the octets are, by whether all names are given, and whether some are.
+    fn place(&self, all: bool, some: bool) -> Place<'a>
+        ensures { place_view result ≡ place_by all some (question_view self.now).frame (question_view self.now).link
+            (question_view self.now).hex (question_view self.now).der }
+    {
+        match self.frame {
+            Some(_) if some || self.hex.is_some() || self.der.is_some() => Place::Nowhere,
+            Some(number) => Place::Elsewhere(frame_spot(number, self.link)),
+            None if all && self.link.is_none() => octets_place(self.hex, self.der),
+            None => Place::Nowhere,
+        }
+    }
+}
+
+/// The frame of this number, of a link if that is given.
+fn frame_spot<'a>(number: &'a str, link: Option<&'a str>) -> Spot<'a>
+    ensures { spot_view result ≡ frame_spot number.now (option_map (λ number. number.now) link.entry) }
+{
+    match link {
+        None => Spot::Framed(number),
+        Some(link) => Spot::Linked(link, number),
+    }
+}
+
+/// The one place of the two that is given.
+fn octets_place<'a>(hex: Option<&'a str>, der: Option<&'a str>) -> Place<'a>
+    ensures { place_view result ≡ octets_place (option_map (λ digits. digits.now) hex.entry)
+        (option_map (λ path. path.now) der.entry) }
+{
+    match (hex, der) {
+        (Some(digits), None) => Place::Written(digits),
+        (None, Some(path)) => Place::Elsewhere(Spot::Kept(path)),
+        (Some(_), Some(_)) | (None, None) => Place::Nowhere,
+    }
+}

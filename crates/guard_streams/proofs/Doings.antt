@@ -1,0 +1,558 @@
+-- What the code does of one record, part by part.
+use Rattle.std.proofs.Common.{◌≡◌, ◌∙◌, ◌<◌, ◌≤◌, ◌⊎◌, inl, inr, max, ℕ, zero, suc, Bool, true, false, not, cond, nat_eq, List, [], ◌∷◌, ◌++◌, ap, refl, sym, subst, length, arith, get_or, slice_get, slice_set}
+use mir.Val.{bool_byte}
+use Rattle.std.specs.Prelude.{Option, Some, None, Result, Ok, Err, OnSome, OnOk, IfErr}
+use Rattle.std.specs.List.{All}
+use Rattle.std.specs.Io.KnownBytes.{Appends}
+use Rattle.std.proofs.lemmas.List.{length-map, length-set}
+use Rattle.std.proofs.lemmas.List.Elements.{All-cons}
+use Rattle.std.proofs.lemmas.Option.{same_Some, none-some, slice_get-get_or}
+use Rattle.guard_frames.specs.declared.gateway.Gateway.{Gateway}
+use Rattle.guard_frames.specs.declared.gateway.StepFault.{StepFault}
+use Rattle.guard_frames.specs.declared.gateway.StepFault.TheVariants.{NoSuchLink}
+use Rattle.guard_frames.specs.declared.kept.Kept.{Kept}
+use Rattle.guard_frames.specs.declared.link.LinkFault.{LinkFault}
+use Rattle.guard_frames.specs.declared.seats.Ends.{Ends}
+use Rattle.guard_frames.specs.Added.{Added, Octets, nothing}
+use Rattle.guard_frames.specs.Gateways.{AbstractGateway, AbstractEvent as event, step_answer}
+use Rattle.guard_frames.specs.GatewaySteps.{Step}
+use Rattle.guard_frames.specs.GatewayView.{gateway_view, gateway_ends, Took}
+use Rattle.guard_frames.specs.KeptView.{kept_octets, kept_failed}
+use Rattle.guard_frames.specs.LinkView.{AbstractLink, link_view}
+use Rattle.guard_frames.specs.LinkSteps.{Ended}
+use Rattle.guard_frames.specs.Prefix.{IsProperPrefix}
+use Rattle.guard_frames.proofs.Appending.{Appends_none, Appends_trans, Prefix_first, Prefix_second}
+use Rattle.guard_frames.proofs.Elements.{All_first, All_rest}
+use Rattle.guard_policy.specs.Policies.{AbstractPolicy}
+use Rattle.guard_frames.specs.Lending.{HasEnds}
+use Rattle.guard_files.specs.declared.fault.Fault.{Fault}
+use Rattle.guard_files.specs.declared.stop.Stop.{Stop}
+use Rattle.guard_files.specs.declared.stop.Stop.TheVariants.{BadRecord, ReadFailed, WriteFailed, ErrorFailed}
+use Rattle.guard_files.specs.Devices.{Device, device}
+use Rattle.guard_files.specs.Files.{Told, IsLater}
+use Rattle.guard_files.specs.Reading.{IsPolicyAt, IsNoPolicyAt}
+use Rattle.guard_files.specs.Writing.{IsFaultLine}
+use Rattle.guard_files.specs.Records.{Record}
+use Rattle.guard_files.specs.Records.Record.{piece, end, reload}
+use Rattle.guard_streams.specs.declared.links.Links.{Links}
+use Rattle.guard_streams.specs.declared.seen.Seen.{Seen}
+use Rattle.guard_streams.specs.AtFault.{IsFaultNote}
+use Rattle.guard_streams.specs.Saying.{IsUnreadNote}
+use Rattle.guard_streams.specs.Muxing.{WritesPart, BreaksErr}
+use Rattle.guard_streams.specs.Passing.{InRecords, marked, fault_line}
+use Rattle.guard_streams.specs.Tallying.{IsSeen}
+use Rattle.guard_streams.specs.Turns.{AbstractMux, Written, PassesOn, link_status, renewed_note}
+use Rattle.guard_streams.proofs.PassingLaws.{all_records}
+use Rattle.guard_streams.proofs.SaidLaws.{none_of_fault}
+use Rattle.guard_streams.proofs.TallyLaws.{some_seen}
+use Rattle.guard_streams.specs.inside.Doing.{AreEmpty, added_to, IsReady, IsFed, ArePassed, AreCut, mux_of, IsTaken, IsCut, is_closed, Is, HadEnded}
+
+-- ---- one place of a list
+
+pub set_here : {X : Type 0} (xs : List X) (i : ℕ) (old new : X) → slice_get xs i ≡ Some old
+    → slice_get (slice_set xs i new) i ≡ Some new
+set_here [] i old new h = absurd (none-some old h)
+set_here (x ∷ xs) zero old new h = refl
+set_here (x ∷ xs) (suc i) old new h = set_here xs i old new h
+
+pub all_set_twice : {X : Type 0} (P : X → Type 0) (xs : List X) (i : ℕ) (a b : X) → All P xs → P b
+    → All P (slice_set (slice_set xs i a) i b)
+all_set_twice P [] i a b h pb = h
+all_set_twice P (x ∷ xs) zero a b h pb = All-cons P b xs pb (All_rest P x xs h)
+all_set_twice P (x ∷ xs) (suc i) a b h pb =
+    All-cons P x (slice_set (slice_set xs i a) i b) (All_first P x xs h)
+    (all_set_twice P xs i a b (All_rest P x xs h) pb)
+
+pub all_at : {X : Type 0} (P : X → Type 0) (xs : List X) (i : ℕ) (x : X) → All P xs → slice_get xs i ≡ Some x → P x
+all_at P [] i x h there = absurd (none-some x there)
+all_at P (y ∷ xs) zero x h there = subst P (same_Some y x there) (All_first P y xs h)
+all_at P (y ∷ xs) (suc i) x h there = all_at P xs i x (All_rest P y xs h) there
+
+pub is_there : {X : Type 0} (xs : List X) (i : ℕ) → i ≤ 15 → length xs ≡ 16 → slice_get xs i ≡ None → ⊥
+is_there [] i few many none = omega (arith, many)
+is_there (x ∷ xs) i few many none =
+    none-some (get_or (x ∷ xs) i x) (sym none ∙ slice_get-get_or (x ∷ xs) i x (omega (arith, few, many)))
+
+-- ---- the answers of links that are there
+
+pub not_answered : (answer : Result (Unit {0}) LinkFault) → step_answer answer ≡ Err NoSuchLink → ⊥
+not_answered (Ok done) e = absurd cc
+not_answered (Err f) e = absurd cc
+
+pub fed_there : (old new : AbstractGateway) (i : ℕ) (octets : List ℕ) (told : Result (Unit {0}) StepFault)
+    (added : Added) → i ≤ 15 → length old.links ≡ 16
+    → Step old (event.piece i octets) told added new → told ≡ Err NoSuchLink → ⊥
+fed_there old new i octets told added few many (inl h) e = is_there old.links i few many h.none
+fed_there old new i octets told added few many (inr h) e = not_answered h.link_answer (sym h.answered ∙ e)
+
+pub ended_there : (old new : AbstractGateway) (i : ℕ) (told : Result (Unit {0}) StepFault) (added : Added) → i ≤ 15
+    → length old.links ≡ 16
+    → Step old (event.end i) told added new → told ≡ Err NoSuchLink → ⊥
+ended_there old new i told added few many (inl h) e = is_there old.links i few many h.none
+ended_there old new i told added few many (inr h) e = not_answered h.0.link_answer (sym h.0.answered ∙ e)
+
+-- ---- a piece is fed
+
+pub same_length : (g : Gateway Kept) → length (gateway_ends g) ≡ length (gateway_view g).links
+same_length g = length-map g.seats.items (λ x. x.ends) ∙ sym (length-map g.seats.items (λ x. link_view x.link))
+
+pub fed_of : (old new : Gateway Kept) (link : ℕ) (octets : List ℕ) (told : Result (Unit {0}) StepFault)
+    (answer : Result (Unit {0}) LinkFault) (added : Added)
+    → All AreEmpty (gateway_ends old) → length (gateway_ends old) ≡ 16 → link ≤ 15 → told ≡ step_answer answer
+    → Step (gateway_view old) (event.piece link octets) told added (gateway_view new)
+    → Took (λ (s : Kept). Some (kept_octets s)) kept_failed (gateway_ends old) (event.piece link octets) told added
+    (gateway_ends new)
+    → IsFed link old octets answer new
+fed_of old new link octets told answer added empty many few is step (inl t) =
+    let was = all_at AreEmpty (gateway_ends old) link t.old_ends empty t.there in
+    record {
+      added = added;
+      step = subst (λ (x : Result (Unit {0}) StepFault). Step (gateway_view old) (event.piece link octets) x added
+          (gateway_view new)) is step;
+      ends = t.new_ends;
+      there = ap (λ (es : List (Ends Kept)). slice_get es link) t.others
+          ∙ set_here (gateway_ends old) link t.old_ends t.new_ends t.there;
+      out = t.took.sent ∙ ap (λ (s : List ℕ). s ++ added.out) was.out;
+      reports = t.took.reported ∙ ap (λ (s : List ℕ). s ++ added.reports) was.reports;
+      others = t.others;
+    }
+fed_of old new link octets told answer added empty many few is step (inr none) =
+    absurd (is_there (gateway_ends old) link few many none.0)
+
+-- ---- a piece is taken
+
+link_status_is : (reports : List ℕ) (answer : Result (Unit {0}) LinkFault)
+    → max (cond (not (nat_eq (length reports) 0)) 1 0) (link_status [] answer) ≡ link_status reports answer
+link_status_is [] (Ok done) = omega arith
+link_status_is [] (Err f) = omega arith
+link_status_is (o ∷ reports) (Ok done) = grind arith
+link_status_is (o ∷ reports) (Err f) = grind arith
+
+byte_is : (b : Bool) → bool_byte b ≡ cond b 1 0
+byte_is true = refl
+byte_is false = refl
+
+pub status_after : (any : Bool) (was one now last : ℕ) (reports : List ℕ) (answer : Result (Unit {0}) LinkFault)
+    → any ≡ not (nat_eq (length reports) 0)
+    → one ≡ bool_byte any → now ≡ max was one → last ≡ max now (link_status [] answer)
+    → last ≡ max was (link_status reports answer)
+status_after any was one now last reports answer is one_is now_is last_is =
+    let num : Bool → ℕ = λ b. cond b 1 0 in
+    let all = link_status_is reports answer in
+    let same : one ≡ num (not (nat_eq (length reports) 0)) = one_is ∙ byte_is any ∙ ap num is in
+    omega (arith, all, same, now_is, last_is)
+
+-- what the sinks of a link took is passed on, and they are lent for that
+pub passed_of : (old : Gateway Kept) (link : ℕ) (lent ends : Ends Kept) (lender : Gateway Kept)
+    (emptied : Ends Kept) (o o₁ e e₁ : Option (List ℕ)) → lent ≡ ends
+    → (written : List ℕ) × InRecords link (kept_octets lent.out) written × Appends o o₁ written
+    × Appends e e₁ (marked link (kept_octets lent.reports))
+    → HasEnds old link emptied lender → AreEmpty emptied → ArePassed link ends old lender (o, o₁) (e, e₁)
+passed_of old link lent ends lender emptied o o₁ e e₁ same h has empty = record {
+  written = h.0;
+  records = subst (λ (x : Ends Kept). InRecords link (kept_octets x.out) h.0) same h.1;
+  sent = h.2;
+  told = subst (λ (x : Ends Kept). Appends e e₁ (marked link (kept_octets x.reports))) same h.3;
+  view = has.view;
+  emptied = emptied;
+  empty = empty;
+  others = has.ends;
+}
+
+pub passed_there : (link : ℕ) (ends : Ends Kept) (old new same : Gateway Kept) (out err : Octets) → same ≡ new
+    → ArePassed link ends old new out err → ArePassed link ends old same out err
+passed_there link ends old new same out err is h =
+    subst (λ (x : Gateway Kept). ArePassed link ends old x out err) (sym is) h
+
+pub some_of : {A P : Type 0} (r : Option A) (x : A) → r ≡ Some x → OnSome r P → P
+some_of None x e p = absurd (none-some x e)
+some_of (Some y) x e p = p
+
+module _ (path : List ℕ) (told : Told) (old : Links) (link : ℕ) (octets : List ℕ)
+    (answer : Result (Unit {0}) LinkFault) (g : Gateway Kept)
+    (fed : IsFed link old.gateway octets answer g) (note : List ℕ)
+    (noted : IsFaultNote old.seen (gateway_view old.gateway) link (event.piece link octets) answer note) where
+  abbrev pub answered : List ℕ
+  answered = fault_line link answer ++ note
+
+  abbrev written_of : List ℕ → Written
+  written_of out = record {
+    out = out;
+    err = marked link fed.added.reports ++ answered;
+    status =
+        link_status fed.added.reports answer;
+  }
+
+  passes : (out : List ℕ) (new : Gateway Kept) → InRecords link (kept_octets fed.ends.out) out
+      → gateway_view new ≡ gateway_view g
+      → PassesOn link old.seen (gateway_view old.gateway) (event.piece link octets) (written_of out) (gateway_view new)
+  passes out new records view = record {
+    answer = answer;
+    added = fed.added;
+    step = subst (λ (x : AbstractGateway). Step (gateway_view old.gateway) (event.piece link octets)
+        (step_answer answer) fed.added x) (sym view) fed.step;
+    out = subst (λ (s : List ℕ). InRecords link s out) fed.out records;
+    note = note;
+    noted = noted;
+    err = refl;
+    status = refl;
+  }
+
+  -- what the sinks of the link took is what was added
+  same_added : added_to fed.ends ≡ fed.added
+  same_added = λ i. record { out = fed.out i; reports = fed.reports i }
+
+  pub piece_taken : (new : Links) (out : Octets) (e e₁ e₂ : Option (List ℕ)) → IsReady old.gateway
+      → (p : ArePassed link fed.ends g new.gateway out (e, e₁))
+      → Appends e₁ e₂ answered → new.status ≡ max old.status (link_status fed.added.reports answer)
+      → IsSeen old.seen (added_to fed.ends) new.seen
+      → IsTaken path told old (piece link octets) told new out (e, e₂)
+  unfolding passes
+  piece_taken new out e e₁ e₂ ready p said status seen =
+      let after : gateway_ends new.gateway ≡ slice_set (slice_set (gateway_ends old.gateway) link fed.ends) link
+      p.emptied =
+      p.others ∙ ap (λ (es : List (Ends Kept)). slice_set es link p.emptied) fed.others in
+      record {
+        w = written_of p.written;
+        happens = (
+          passes p.written new.gateway p.records p.view,
+          refl,
+          subst (λ (a : Added). IsSeen old.seen a new.seen) same_added seen,
+        );
+        sent = p.sent;
+        told = Appends_trans e e₁ e₂ (marked link fed.added.reports) answered
+            (subst (λ (s : List ℕ). Appends e e₁ (marked link s)) fed.reports p.told) said;
+        status = status;
+        ready = record {
+          many = sym (same_length new.gateway) ∙ ap length after
+              ∙ length-set (slice_set (gateway_ends old.gateway) link fed.ends) link p.emptied
+              ∙ length-set (gateway_ends old.gateway) link fed.ends ∙ same_length old.gateway ∙ ready.many;
+          empty = subst (All AreEmpty) (sym after) (all_set_twice AreEmpty
+              (gateway_ends old.gateway) link fed.ends p.emptied ready.empty p.empty);
+        };
+      }
+
+  pub piece_cut_passing : (s : Stop) (o o₁ e e₁ : Option (List ℕ)) (f k : Bool)
+      → AreCut s link fed.ends (device o o₁ f) (device e e₁ k)
+      → IsCut s path (mux_of told old) (piece link octets) (device o o₁ f) (device e e₁ k)
+  unfolding passes
+  piece_cut_passing BadRecord o o₁ e e₁ f k h = h
+  piece_cut_passing ReadFailed o o₁ e e₁ f k h = h
+  piece_cut_passing WriteFailed o o₁ e e₁ f k h = record {
+    w = written_of h.written;
+    new = record { told = told; gateway = gateway_view g; seen = (some_seen old.seen fed.added).0 };
+    happens = (passes h.written g h.records refl, refl, (some_seen old.seen fed.added).1);
+    out_part = h.part;
+    err_part = [];
+    breaks = (h.failed, h.prefix, refl);
+    sent = h.sent;
+    told = subst (λ (x : Option (List ℕ)). Appends e x []) (sym h.told) (Appends_none e);
+  }
+  piece_cut_passing ErrorFailed o o₁ e e₁ f k h = record {
+    w = written_of h.written;
+    new = record { told = told; gateway = gateway_view g; seen = (some_seen old.seen fed.added).0 };
+    happens = (passes h.written g h.records refl, refl, (some_seen old.seen fed.added).1);
+    out_part = h.written;
+    err_part = h.part;
+    breaks = (
+      h.failed,
+      refl,
+      Prefix_first h.part (marked link fed.added.reports) answered
+          (subst (λ (s : List ℕ). IsProperPrefix h.part (marked link s)) fed.reports h.prefix),
+    );
+    sent = h.sent;
+    told = h.told;
+  }
+
+  pub piece_cut_telling : (s : Stop) (new : Gateway Kept) (o o₁ e e₁ e₂ : Option (List ℕ)) (f k : Bool)
+      → ArePassed link fed.ends g new (o, o₁) (e, e₁)
+      → (s ≡ ErrorFailed) × (k ≡ true) × ((part : List ℕ) × IsProperPrefix part answered
+      × Appends e₁ e₂ part)
+      → IsCut s path (mux_of told old) (piece link octets) (device o o₁ f) (device e e₂ k)
+  unfolding passes
+  piece_cut_telling s new o o₁ e e₁ e₂ f k p h =
+      let cut : WritesPart path (mux_of told old) (piece link octets) [] (device o o₁ f) (device e e₂ k) BreaksErr =
+      record {
+        w = written_of p.written;
+        new = record { told = told; gateway = gateway_view new; seen = (some_seen old.seen fed.added).0 };
+        happens = (passes p.written new p.records p.view, refl, (some_seen old.seen fed.added).1);
+        out_part = p.written;
+        err_part = marked link fed.added.reports ++ h.2.0;
+        breaks = (h.1, refl, Prefix_second h.2.0 (marked link fed.added.reports) answered h.2.1);
+        sent = p.sent;
+        told = Appends_trans e e₁ e₂ (marked link fed.added.reports) h.2.0
+            (subst (λ (s : List ℕ). Appends e e₁ (marked link s)) fed.reports p.told) h.2.2;
+      } in
+      subst (λ (x : Stop). IsCut x path (mux_of told old) (piece link octets) (device o o₁ f) (device e e₂ k))
+      (sym h.0) cut
+
+-- ---- a link is ended
+
+pub same_answer : (a b : Result (Unit {0}) LinkFault) → step_answer a ≡ step_answer b → a ≡ b
+same_answer (Ok done) (Ok other) e = refl
+same_answer (Ok done) (Err f) e = absurd cc
+same_answer (Err f) (Ok done) e = absurd cc
+same_answer (Err f) (Err g) e = cc
+
+set_same : {X : Type 0} (xs : List X) (i : ℕ) (x : X) → slice_get xs i ≡ Some x → slice_set xs i x ≡ xs
+set_same [] i x h = absurd (none-some x h)
+set_same (y ∷ ys) zero x h = ap (λ z. z ∷ ys) (sym (same_Some y x h))
+set_same (y ∷ ys) (suc i) x h = ap (λ zs. y ∷ zs) (set_same ys i x h)
+
+pub not_both : (b : Bool) → b ≡ true → b ≡ false → ⊥
+not_both b p q = cc
+
+-- it is open before, where it answers anything but that it takes no more
+closes_open : (l l₁ : AbstractLink) (answer : Result (Unit {0}) LinkFault) → is_closed answer ≡ false
+    → Ended l answer l₁ → l.closed ≡ false
+closes_open l l₁ answer is (inl h) = absurd (not_both (is_closed answer) (ap is_closed h.answered) is)
+closes_open l l₁ answer is (inr h) = h.open_before
+
+pub held_some : (held : List ℕ) → (held ≡ []) ⊎ (0 < length held)
+held_some [] = inl refl
+held_some (o ∷ held) = inr (omega arith)
+
+closed_stays : (l l₁ : AbstractLink) (answer : Result (Unit {0}) LinkFault) → is_closed answer ≡ true
+    → Ended l answer l₁ → (l.closed ≡ true) × (l₁ ≡ l)
+closed_stays l l₁ answer is (inl h) = (h.closed, h.same)
+closed_stays l l₁ answer is (inr h) = elim (held_some l.held) [
+  | inl none ↦ absurd (not_both (is_closed answer) is (ap is_closed (h.whole none)))
+  | inr some ↦ absurd (not_both (is_closed answer) is (ap is_closed (h.torn some)))
+]
+
+module _ (old : Links) (link : ℕ) (answer : Result (Unit {0}) LinkFault) (g : Gateway Kept)
+    (step : Step (gateway_view old.gateway) (event.end link) (step_answer answer) nothing (gateway_view g))
+    (note : List ℕ) (noted : IsFaultNote old.seen (gateway_view old.gateway) link (event.end link) answer note) where
+  abbrev ended_written : Written
+  ended_written = record { out = []; err = fault_line link answer ++ note; status = link_status [] answer }
+
+  end_passes : (new : Gateway Kept) → new ≡ g → PassesOn link old.seen (gateway_view old.gateway)
+      (event.end link) ended_written (gateway_view new)
+  end_passes new same = record {
+    answer = answer;
+    added = nothing;
+    step = subst (λ (x : Gateway Kept). Step (gateway_view old.gateway) (event.end link)
+        (step_answer answer) nothing (gateway_view x)) (sym same) step;
+    out = all_records link [] refl;
+    note = note;
+    noted = noted;
+    err = refl;
+    status = refl;
+  }
+
+  pub end_taken : (path : List ℕ) (told : Told) (new : Links) (o e e₁ : Option (List ℕ)) → new.gateway ≡ g
+      → IsReady g → Appends e e₁ (fault_line link answer ++ note)
+      → new.status ≡ max old.status (link_status [] answer) → new.seen ≡ old.seen
+      → IsTaken path told old (end link) told new (o, o) (e, e₁)
+  end_taken path told new o e e₁ same ready said status seen = record {
+    w = ended_written;
+    happens = (end_passes new.gateway same, refl, seen);
+    sent = Appends_none o;
+    told = said;
+    status = status;
+    ready = subst IsReady (sym same) ready;
+  }
+
+  pub end_cut : (path : List ℕ) (told : Told) (o e e₁ : Option (List ℕ)) (f k : Bool) → k ≡ true → (part : List ℕ)
+      → IsProperPrefix part (fault_line link answer ++ note)
+      → Appends e e₁ part → WritesPart path (mux_of told old) (end link) [] (device o o f) (device e e₁ k) BreaksErr
+  end_cut path told o e e₁ f k failed part prefix said = record {
+    w = ended_written;
+    new = record { told = told; gateway = gateway_view g; seen = old.seen };
+    happens = (end_passes g refl, refl, refl);
+    out_part = [];
+    err_part = part;
+    breaks = (failed, refl, prefix);
+    sent = Appends_none o;
+    told = said;
+  }
+
+module _ (old : Links) (link : ℕ) (answer : Result (Unit {0}) LinkFault) (g : Gateway Kept)
+    (step : Step (gateway_view old.gateway) (event.end link) (step_answer answer) nothing (gateway_view g)) where
+  pub was_open : is_closed answer ≡ false → Is false link old
+  was_open is = elim step [
+    | inl h ↦ absurd (not_answered answer h.answered)
+    | inr h ↦
+        let same : answer ≡ h.0.link_answer = same_answer answer h.0.link_answer h.0.answered in
+        record {
+          one = h.0.old_link;
+          there = h.0.there;
+          is =
+              closes_open h.0.old_link h.0.new_link h.0.link_answer (ap is_closed (sym same) ∙ is) h.0.does;
+        }
+  ]
+
+  pub had_ended : is_closed answer ≡ true → (e : Option (List ℕ)) → IsReady g
+      → HadEnded link old (record { gateway = g; status = old.status; seen = old.seen; begun = old.begun }) (e, e)
+  had_ended is e ready = elim step [
+    | inl h ↦ absurd (not_answered answer h.answered)
+    | inr h ↦
+        let same : answer ≡ h.0.link_answer = same_answer answer h.0.link_answer h.0.answered in
+        let stays = closed_stays h.0.old_link h.0.new_link h.0.link_answer (ap is_closed (sym same) ∙ is) h.0.does in
+        let links : slice_set (gateway_view old.gateway).links link h.0.new_link ≡ (gateway_view old.gateway).links =
+        ap (λ (l : AbstractLink). slice_set (gateway_view old.gateway).links link l) stays.1
+        ∙ set_same (gateway_view old.gateway).links link h.0.old_link h.0.there in
+        record {
+          before = record { one = h.0.old_link; there = h.0.there; is = stays.0 };
+          same = h.0.others ∙ ap (λ (ls : List AbstractLink). record (gateway_view old.gateway) { links = ls }) links;
+          told = refl;
+          status = refl;
+          seen = refl;
+          ready = ready;
+        }
+  ]
+
+-- ---- what a call answered
+
+pub told_ok : {A E P Q : Type 0} (r : Result A E) → OnOk r P → (P → Q) → OnOk r Q
+told_ok (Ok x) p f = f p
+told_ok (Err e) p f = tt
+
+pub told_err : {A E : Type 0} {P Q : E → Type 0} (r : Result A E) → IfErr r P → ((e : E) → P e → Q e) → IfErr r Q
+told_err (Ok x) p f = tt
+told_err (Err e) p f = f e p
+
+-- standard error failed, and not standard output
+write_error : WriteFailed ≡ ErrorFailed → ⊥
+write_error e = absurd cc
+
+pub is_error : {P : Stop → Type 0} (r : Result (Unit {0}) Stop) → IfErr r P → ((s : Stop) → P s → s ≡ ErrorFailed)
+    → r ≡ Err WriteFailed → ⊥
+is_error (Ok done) h is e = absurd cc
+is_error (Err BadRecord) h is e = absurd cc
+is_error (Err ReadFailed) h is e = absurd cc
+is_error (Err WriteFailed) h is e = write_error (is WriteFailed h)
+is_error (Err ErrorFailed) h is e = absurd cc
+
+pub cut_as_error : (s : Stop) (path : List ℕ) (old : AbstractMux) (r : Record) (out err : Device) → s ≡ ErrorFailed
+    → WritesPart path old r [] out err BreaksErr → IsCut s path old r out err
+cut_as_error s path old r out err is h = subst (λ (x : Stop). IsCut x path old r out err) (sym is) h
+
+-- ---- a new policy
+
+abbrev renewed_written : Links → AbstractPolicy → Written
+renewed_written old p =
+    record { out = []; err = renewed_note old.seen (length p.messages) (length p.rules); status = 0 }
+
+-- standard error fails in the note
+pub renewed_cut : (path : List ℕ) (told later : Told) (old : Links) (g : Gateway Kept) (p : AbstractPolicy)
+    (answer : Result (Unit {0}) StepFault) (added : Added) (part : List ℕ) (o e e₁ : Option (List ℕ)) (b k : Bool)
+    → IsPolicyAt told path p → IsLater told later
+    → Step (gateway_view old.gateway) (event.reload p) answer added (gateway_view g) → k ≡ true
+    → IsProperPrefix part (renewed_note old.seen (length p.messages) (length p.rules)) → Appends e e₁ part
+    → WritesPart path (mux_of told old) reload [] (device o o b) (device e e₁ k) BreaksErr
+renewed_cut path told later old g p answer added part o e e₁ b k read later_is step failed prefix said = record {
+  w = renewed_written old p;
+  new = record { told = later; gateway = gateway_view g; seen = old.seen };
+  happens = (
+    inl (record {
+      policy = p;
+      read = read;
+      step = record { answered = refl; same = step.same; adds = refl };
+      noted = refl;
+    }),
+    later_is,
+    refl,
+  );
+  out_part = [];
+  err_part = part;
+  breaks = (failed, refl, prefix);
+  sent = Appends_none o;
+  told = said;
+}
+
+pub renewed : (path : List ℕ) (told later : Told) (old new : Links) (p : AbstractPolicy)
+    (answer : Result (Unit {0}) StepFault) (added : Added) (o e e₁ : Option (List ℕ))
+    → IsReady old.gateway → IsPolicyAt told path p → IsLater told later
+    → Step (gateway_view old.gateway) (event.reload p) answer added (gateway_view new.gateway)
+    → gateway_ends new.gateway ≡ gateway_ends old.gateway → new.status ≡ old.status → new.seen ≡ old.seen
+    → Appends e e₁ (renewed_note old.seen (length p.messages) (length p.rules))
+    → IsTaken path told old reload later new (o, o) (e, e₁)
+renewed path told later old new p answer added o e e₁ ready read later_is step ends status seen said = record {
+  w = renewed_written old p;
+  happens = (
+    inl (record {
+      policy = p;
+      read = read;
+      step =
+          record { answered = refl; same = step.same; adds = refl };
+      noted = refl;
+    }),
+    later_is,
+    seen,
+  );
+  sent = Appends_none o;
+  told = said;
+  status = omega (arith, status);
+  ready = record {
+    many = ap (λ (x : AbstractGateway). length x.links) step.same ∙ ready.many;
+    empty = subst (All AreEmpty) (sym ends) ready.empty;
+  };
+}
+
+abbrev kept_written : List ℕ → ℕ → Written
+kept_written line status = record { out = []; err = line; status = status }
+
+pub kept_old : (path : List ℕ) (told later : Told) (old new : Links) (f : Fault) (line note : List ℕ) (status : ℕ)
+    (o e e₁ e₂ : Option (List ℕ))
+    → IsReady old.gateway → IsNoPolicyAt told path f → IsLater told later → IsFaultLine f line status
+    → IsUnreadNote old.seen f note → Appends e e₁ line → Appends e₁ e₂ note
+    → new.gateway ≡ old.gateway → new.status ≡ max old.status status → new.seen ≡ old.seen
+    → IsTaken path told old reload later new (o, o) (e, e₂)
+kept_old path told later old new f line note status o e e₁ e₂ ready none later_is is noted said more same greatest seen = record {
+  w = kept_written (line ++ note) status;
+  happens = (
+    inr (record {
+      fault = f;
+      none = none;
+      same = ap gateway_view same;
+      out = refl;
+      line = line;
+      told = is;
+      note = note;
+      noted = noted;
+      err = refl;
+    }),
+    later_is,
+    seen,
+  );
+  sent = Appends_none o;
+  told = Appends_trans e e₁ e₂ line note said more;
+  status = greatest;
+  ready = subst IsReady (sym same) ready;
+}
+
+pub kept_cut : (path : List ℕ) (told later : Told) (old : Links) (f : Fault) (line note part : List ℕ) (status : ℕ)
+    (o e e₁ : Option (List ℕ)) (b k : Bool)
+    → IsNoPolicyAt told path f → IsLater told later → IsFaultLine f line status → IsUnreadNote old.seen f note
+    → k ≡ true → IsProperPrefix part (line ++ note) → Appends e e₁ part
+    → WritesPart path (mux_of told old) reload [] (device o o b) (device e e₁ k) BreaksErr
+kept_cut path told later old f line note part status o e e₁ b k none later_is is noted failed prefix said = record {
+  w = kept_written (line ++ note) status;
+  new = record { told = later; gateway = gateway_view old.gateway; seen = old.seen };
+  happens = (
+    inr (record {
+      fault = f;
+      none = none;
+      same = refl;
+      out = refl;
+      line = line;
+      told = is;
+      note = note;
+      noted = noted;
+      err = refl;
+    }),
+    later_is,
+    refl,
+  );
+  out_part = [];
+  err_part = part;
+  breaks = (failed, refl, prefix);
+  sent = Appends_none o;
+  told = said;
+}
+
+-- nothing need be noted of a policy that can't be read again
+pub unread_none : (seen : Option Seen) (f : Fault) → IsUnreadNote seen f []
+unread_none None f = refl
+unread_none (Some s) f = none_of_fault f

@@ -1,0 +1,15 @@
+pub mod Streams
+pub mod Chains
+pub mod SaidLaws
+pub mod PassingLaws
+pub mod FramesAnswered
+pub mod CountLaws
+pub mod LinesJudged
+pub mod FramesWatched
+pub mod TallyLaws
+pub mod Turning
+pub mod Doings
+pub mod BegunLaws
+pub mod Keeping
+pub mod EndsTaken
+pub mod Taking

@@ -1,0 +1,52 @@
+use Rattle.std.proofs.Common.{[], Some, None, arith, inl, inr}
+use Rattle.std.proofs.lemmas.Result.{err_from_is_err_and}
+use Rattle.guard_streams.proofs.EndsTaken.{none_ended, closed_more, open_more, end_cut_at, all_ended}
+use Rattle.guard_streams.proofs.links.Links.end_all.Goals as goal
+
+pub loop-link-init : goal.loop-link-init
+loop-link-init g c = record {
+  ready = c.requires.ready;
+  kept = c.requires.kept;
+  ended =
+      λ path told. none_ended path told c.args.self.now (g.E.Sink.taken c.args.err.now);
+}
+
+pub loop-link-preserved : goal.loop-link-preserved
+loop-link-preserved g c =
+    let i = c.loop-link.invariant in
+    let n = c.end_unless_ended.new in
+    elim c.in_ok-end_unless_ended.ensures.done [
+      | inl h ↦ record {
+        ready = h.ready;
+        kept = c.in_ok-end_unless_ended.ensures.kept;
+        ended = λ path told. closed_more path told c.args.self.now c.loop-link.self n.self
+            (g.E.Sink.taken c.args.err.now) (g.E.Sink.taken c.loop-link.err) (g.E.Sink.taken n.err)
+            c.loop-link.link h (i.ended path told);
+      }
+      | inr h ↦ record {
+        ready = (h.1 [] (λ k p. None) (Some [])).ready;
+        kept = c.in_ok-end_unless_ended.ensures.kept;
+        ended = λ path told. open_more path told c.args.self.now c.loop-link.self n.self
+            (g.E.Sink.taken c.args.err.now) (g.E.Sink.taken c.loop-link.err) (g.E.Sink.taken n.err)
+            c.loop-link.link h.0 (h.1 path told (Some [])) (i.ended path told);
+      }
+    ]
+
+pub returns-in_err-end_unless_ended-clause-cut : goal.returns-in_err-end_unless_ended-clause-cut
+returns-in_err-end_unless_ended-clause-cut g c =
+    let e = err_from_is_err_and c.from_residual.result c.from_residual.ensures.1 in
+    let i = c.loop-link.invariant in
+    let n = c.end_unless_ended.new in
+    let cut = c.in_err-end_unless_ended.ensures.cut in
+    rw (e.1, e.2) (
+      cut.0,
+      λ path told out failed. end_cut_at path told c.args.self.now c.loop-link.self out
+          (g.E.Sink.taken c.args.err.now) (g.E.Sink.taken c.loop-link.err) (g.E.Sink.taken n.err)
+          failed (g.E.Sink.has_failed n.err) c.loop-link.link cut.1 (i.ended path told) (cut.2 path told out failed),
+    )
+
+pub returns-clause-done : goal.returns-clause-done
+returns-clause-done g c = λ path told.
+    all_ended path told c.args.self.now c.loop-link.self (g.E.Sink.taken c.args.err.now)
+    (g.E.Sink.taken c.loop-link.err) c.loop-link.link
+    (omega (arith, c.loop-link.invariant.ready.many, c.loop-link-test.false)) (c.loop-link.invariant.ended path told)

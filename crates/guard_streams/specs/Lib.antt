@@ -1,0 +1,18 @@
+-- ---- frames that ask
+pub mod Stream
+pub mod Answered
+pub mod Asking
+-- ---- many links
+pub mod Passing
+pub mod Counted
+pub mod Tallying
+pub mod AtFault
+pub mod Turns
+pub mod Muxing
+pub mod OwnRecords
+-- ---- a stream that is guarded with notes
+pub mod Saying
+pub mod Verbose
+pub mod Watching
+-- ---- what only private contracts and proofs cite
+pub mod inside

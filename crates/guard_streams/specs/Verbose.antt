@@ -1,0 +1,57 @@
+-- The notes that end a run where it is asked to be verbose, each a line after `derguard: `.
+use Rattle.std.specs.Prelude.{ℕ, nat_eq, List, [], ◌++◌, codes, decimal, if◌then◌else◌}
+use Rattle.guard_frames.specs.declared.running.RunFault.{RunFault}
+use Rattle.guard_frames.specs.declared.running.RunFault.TheVariants.{FrameTooLong, WriteFailed, TornFrame, ReadFailed, OutOfMemory}
+use Rattle.guard_frames.specs.declared.totals.Totals.{Totals}
+use Rattle.guard_frames.specs.Totals.{no_frames, next_number}
+use Rattle.guard_streams.specs.declared.counts.Counts.{Counts}
+use Rattle.guard_streams.specs.declared.seen.Seen.{Seen}
+use Rattle.guard_streams.specs.Counted.{no_counts}
+
+-- `derguard: frames F, passed P, denied D`
+abbrev pub totals_line : Totals → List ℕ
+totals_line t =
+    codes "derguard: frames " ++ decimal t.frames ++ codes ", passed " ++ decimal t.passed ++ codes ", denied "
+    ++ decimal t.denied ++ codes "\n"
+
+-- `derguard: REASON N`, where the reason was reported
+abbrev pub count_line : List ℕ → ℕ → List ℕ
+count_line reason n =
+    if nat_eq n 0 then [] else codes "derguard: " ++ reason ++ codes " " ++ decimal n ++ codes "\n"
+
+abbrev pub count_lines : Counts → List ℕ
+count_lines c =
+    count_line (codes "bad-header") c.bad_header
+    ++ count_line (codes "unknown-message") c.unknown_message
+    ++ count_line (codes "undecodable") c.undecodable
+    ++ count_line (codes "outside-type") c.outside_type
+    ++ count_line (codes "denied-by") c.denied_by
+    ++ count_line (codes "not-allowed") c.not_allowed
+    ++ count_line (codes "no-rule") c.no_rule
+    ++ count_line (codes "no-memory") c.no_memory
+
+-- the last notes: the totals, and how often each reason was reported
+abbrev pub last_lines : Seen → List ℕ
+last_lines s = totals_line s.totals ++ count_lines s.counts
+
+-- `derguard: frame N, length L` or `derguard: frame N, octets O`
+abbrev pub frame_line : ℕ → List ℕ → ℕ → List ℕ
+frame_line number word n =
+    codes "derguard: frame " ++ decimal number ++ codes ", " ++ word ++ codes " " ++ decimal n ++ codes "\n"
+
+-- What is said behind the line of a fault: of which frame its length is too long, or how many octets of it there are.
+-- An output that fails and of which that can be said is standard output.
+abbrev pub fault_line : RunFault → Seen → List ℕ
+fault_line FrameTooLong s = frame_line (next_number s.totals) (codes "length") s.left
+fault_line TornFrame s = frame_line (next_number s.totals) (codes "octets") s.left
+fault_line WriteFailed s = codes "derguard: standard output failed\n"
+fault_line ReadFailed s = []
+fault_line OutOfMemory s = []
+
+-- with what the system says in between
+abbrev pub fault_lines : RunFault → List ℕ → Seen → List ℕ
+fault_lines f said s = fault_line f s ++ said ++ last_lines s
+
+-- before the first frame
+abbrev pub nothing_seen : Seen
+nothing_seen = record { totals = no_frames; counts = no_counts; left = 0 }

@@ -1,0 +1,172 @@
+-- What the code does of one record, with what it wrote.
+use Rattle.std.specs.Prelude.{◌≡◌, ℕ, Bool, max, true, false, List, [], ◌∷◌, ◌++◌, length, Option, Some, slice_get, slice_set, Result, Ok, Err}
+use Rattle.std.specs.List.{All}
+use Rattle.std.specs.Io.KnownBytes.{Appends}
+use Rattle.guard_frames.specs.declared.gateway.Gateway.{Gateway}
+use Rattle.guard_frames.specs.declared.kept.Kept.{Kept}
+use Rattle.guard_frames.specs.declared.seats.Ends.{Ends}
+use Rattle.guard_frames.specs.Added.{Added, Octets}
+use Rattle.guard_frames.specs.Gateways.{AbstractEvent as event, step_answer}
+use Rattle.guard_frames.specs.GatewaySteps.{Step}
+use Rattle.guard_frames.specs.declared.link.LinkFault.{LinkFault}
+use Rattle.guard_frames.specs.declared.link.LinkFault.TheVariants as link_fault
+use Rattle.guard_frames.specs.declared.link.LinkFault.TheVariants.{FrameTooLong, Closed, TornFrame}
+use Rattle.guard_frames.specs.GatewayView.{gateway_view, gateway_ends}
+use Rattle.guard_frames.specs.KeptView.{kept_octets}
+use Rattle.guard_frames.specs.LinkView.{AbstractLink}
+use Rattle.guard_frames.specs.Prefix.{IsProperPrefix}
+use Rattle.guard_files.specs.declared.stop.Stop.{Stop}
+use Rattle.guard_files.specs.declared.stop.Stop.TheVariants.{BadRecord, ReadFailed, WriteFailed, ErrorFailed}
+use Rattle.guard_files.specs.Devices.{Input, Device}
+use Rattle.guard_files.specs.Files.{Told}
+use Rattle.guard_files.specs.Records.{Record}
+use Rattle.guard_streams.specs.declared.links.Links.{Links}
+use Rattle.guard_streams.specs.declared.seen.Seen.{Seen}
+use Rattle.guard_streams.specs.Muxing.{WritesPart, BreaksOut, BreaksErr, Stops}
+use Rattle.guard_streams.specs.Passing.{InRecords, marked}
+use Rattle.guard_streams.specs.inside.Begun.{AreKept}
+use Rattle.guard_streams.specs.Turns.{AbstractMux, Written, Happens, InTurn, all_out, all_err, status_of, ends_left}
+
+-- ---- the sinks of a link
+
+-- both have taken nothing since they were emptied
+pub record AreEmpty (ends : Ends Kept) : Type 0 where
+  pub out : kept_octets ends.out ≡ []
+  pub reports : kept_octets ends.reports ≡ []
+
+-- what they took since then
+abbrev pub added_to : Ends Kept → Added
+added_to ends = record { out = kept_octets ends.out; reports = kept_octets ends.reports }
+
+-- There are sixteen links, and nothing lies in their sinks.
+pub record IsReady (g : Gateway Kept) : Type 0 where
+  pub many : length (gateway_view g).links ≡ 16
+  pub empty : All AreEmpty (gateway_ends g)
+
+-- A piece was fed to this link, whose sinks took what it added.
+pub record IsFed (link : ℕ) (old : Gateway Kept) (octets : List ℕ) (answer : Result (Unit {0}) LinkFault)
+    (new : Gateway Kept) : Type 0 where
+  pub added : Added
+  pub step : Step (gateway_view old) (event.piece link octets) (step_answer answer) added (gateway_view new)
+  pub ends : Ends Kept
+  pub there : slice_get (gateway_ends new) link ≡ Some ends
+  pub out : kept_octets ends.out ≡ added.out
+  pub reports : kept_octets ends.reports ≡ added.reports
+  pub others : gateway_ends new ≡ slice_set (gateway_ends old) link ends
+
+-- What the sinks of this link took is written, and they are emptied; all else stays.
+pub record ArePassed (link : ℕ) (ends : Ends Kept) (old new : Gateway Kept) (out err : Octets) : Type 0 where
+  pub written : List ℕ
+  pub records : InRecords link (kept_octets ends.out) written
+  pub sent : Appends out.0 out.1 written
+  pub told : Appends err.0 err.1 (marked link (kept_octets ends.reports))
+  pub view : gateway_view new ≡ gateway_view old
+  pub emptied : Ends Kept
+  pub empty : AreEmpty emptied
+  pub others : gateway_ends new ≡ slice_set (gateway_ends old) link emptied
+
+-- Standard output failed in the records, and nothing is reported.
+pub record IsOutCut (link : ℕ) (ends : Ends Kept) (out err : Device) : Type 0 where
+  pub failed : out.failed ≡ true
+  pub written : List ℕ
+  pub records : InRecords link (kept_octets ends.out) written
+  pub part : List ℕ
+  pub prefix : IsProperPrefix part written
+  pub sent : Appends out.before out.after part
+  pub told : err.after ≡ err.before
+
+-- Standard error failed in the lines, after the records.
+pub record IsErrCut (link : ℕ) (ends : Ends Kept) (out err : Device) : Type 0 where
+  pub failed : err.failed ≡ true
+  pub written : List ℕ
+  pub records : InRecords link (kept_octets ends.out) written
+  pub sent : Appends out.before out.after written
+  pub part : List ℕ
+  pub prefix : IsProperPrefix part (marked link (kept_octets ends.reports))
+  pub told : Appends err.before err.after part
+
+abbrev pub AreCut : Stop → ℕ → Ends Kept → Device → Device → Type 0
+AreCut BadRecord link ends out err = ⊥
+AreCut ReadFailed link ends out err = ⊥
+AreCut WriteFailed link ends out err = IsOutCut link ends out err
+AreCut ErrorFailed link ends out err = IsErrCut link ends out err
+
+-- ---- one record
+
+-- the links, what reads of files to come find, and what is seen
+abbrev pub mux_of : Told → Links → AbstractMux
+mux_of told l = record { told = told; gateway = gateway_view l.gateway; seen = l.seen }
+
+-- What is known of the frames that the links have begun is so.
+abbrev pub IsKept : Links → Type 0
+IsKept l = AreKept l.seen l.begun.items (gateway_view l.gateway).links
+
+-- The record was taken, and all that is written of it is out.
+pub record IsTaken (path : List ℕ) (told_old : Told) (old : Links) (r : Record) (told_new : Told) (new : Links)
+    (out err : Octets) : Type 0 where
+  pub w : Written
+  pub happens : Happens path (mux_of told_old old) r w (mux_of told_new new)
+  pub sent : Appends out.0 out.1 w.out
+  pub told : Appends err.0 err.1 w.err
+  pub status : new.status ≡ max old.status w.status
+  pub ready : IsReady new.gateway
+
+-- An output failed in what is written of it.
+abbrev pub IsCut : Stop → List ℕ → AbstractMux → Record → Device → Device → Type 0
+IsCut BadRecord path old r out err = ⊥
+IsCut ReadFailed path old r out err = ⊥
+IsCut WriteFailed path old r out err = WritesPart path old r [] out err BreaksOut
+IsCut ErrorFailed path old r out err = WritesPart path old r [] out err BreaksErr
+
+-- What is seen of the records before the one at which standard output failed, or before what is at fault. Where standard
+-- error failed nothing is said of it.
+abbrev pub IsSeenBefore : (s : Stop) (path : List ℕ) (first : AbstractMux) (input : Input) (out err : Device)
+    → Stops s path first input out err → Option Seen → Type 0
+IsSeenBefore BadRecord path first input out err h seen = h.all.last.seen ≡ seen
+IsSeenBefore ReadFailed path first input out err h seen = h.all.last.seen ≡ seen
+IsSeenBefore WriteFailed path first input out err h seen = h.all.last.seen ≡ seen
+IsSeenBefore ErrorFailed path first input out err h seen = Unit {0}
+
+-- the answer of a link that takes no more
+abbrev pub is_closed : Result (Unit {0}) LinkFault → Bool
+is_closed (Ok done) = false
+is_closed (Err FrameTooLong) = false
+is_closed (Err link_fault.WriteFailed) = false
+is_closed (Err Closed) = true
+is_closed (Err TornFrame) = false
+
+-- This link takes no more; or it does.
+pub record Is (closed : Bool) (link : ℕ) (l : Links) : Type 0 where
+  pub one : AbstractLink
+  pub there : slice_get (gateway_view l.gateway).links link ≡ Some one
+  pub is : one.closed ≡ closed
+
+-- The link had ended before, and nothing changes.
+pub record HadEnded (link : ℕ) (old new : Links) (err : Octets) : Type 0 where
+  pub before : Is true link old
+  pub same : gateway_view new.gateway ≡ gateway_view old.gateway
+  pub told : err.1 ≡ err.0
+  pub status : new.status ≡ old.status
+  pub seen : new.seen ≡ old.seen
+  pub ready : IsReady new.gateway
+
+-- ---- the ends of the links that are open
+
+-- Each of them was taken, in order.
+pub record AreEnded (path : List ℕ) (told : Told) (old new : Links) (err : Octets) : Type 0 where
+  pub ws : List Written
+  pub ends : InTurn path (mux_of told old) (ends_left 0 (gateway_view old.gateway).links) ws (mux_of told new)
+  pub silent : all_out ws ≡ []
+  pub reported : Appends err.0 err.1 (all_err ws)
+  pub status : new.status ≡ max old.status (status_of ws)
+
+-- Standard error failed in what is said of one of them.
+pub record IsEndCut (path : List ℕ) (told : Told) (old : Links) (out err : Device) : Type 0 where
+  pub before : List Record
+  pub next : Record
+  pub more : List Record
+  pub ends : ends_left 0 (gateway_view old.gateway).links ≡ before ++ next ∷ more
+  pub closed : List Written
+  pub last : AbstractMux
+  pub in_turn : InTurn path (mux_of told old) before closed last
+  pub part : WritesPart path last next closed out err BreaksErr

@@ -1,0 +1,287 @@
+//! The links of one stream of records, in one gateway.
+ghost use Rattle.std.specs.Prelude.{◌≡◌};
+ghost use Rattle.guard_streams.specs.inside.Doing.{is_closed};
+
+use crate::begun::{Begun, advance_link, first_frames};
+use crate::passing::{put_fault, put_renewed};
+use crate::saying::{Says, said_of_fault};
+use crate::seen::Seen;
+use crate::sinks::{end_link, feed_link, new_sinks, pass_on};
+use guard_files::{FAILED, Fault, Files, LINKS, Stop, load, report};
+use guard_frames::{Event, Gateway, Kept, LinkFault, Sink, put_all};
+use guard_model::OutOfMemory;
+use guard_policy::Policy;
+use std::alloc::Global;
+
+/// The links, whose sinks are empty between two events, and the status that comes of what happened to them.
+#[derive(Drop)]
+pub struct Links {
+    gateway: Gateway<Kept>,
+    /// 0 where all frames passed, 1 where a line was reported, 2 where a policy couldn't be read again, 3 where a link
+    /// has a fault or memory ran out; the greatest of these.
+    status: u8,
+    /// What is seen of their frames, where notes are asked for.
+    seen: Option<Seen>,
+    /// The frame that each of them has begun, where notes are asked for, and else its first one.
+    begun: Vec<Begun>,
+}
+
+impl Links {
+    ghost use Rattle.std.specs.Prelude.{◌≡◌, ◌≤◌, ◌⊎◌, Option, List, [], ℕ, Bool, true};
+    ghost use Rattle.std.specs.Prelude.{false, max, Err, IfOk, IfSome, OnOk, IfErr};
+    ghost use Rattle.std.specs.Io.KnownBytes.{Appends};
+    ghost use Rattle.guard_frames.specs.Prefix.{IsProperPrefix};
+    ghost use Rattle.guard_files.specs.declared.stop.Stop.TheVariants.{WriteFailed, ErrorFailed};
+    ghost use Rattle.guard_policy.specs.PolicyView.{policy_view};
+    ghost use Rattle.guard_files.specs.Devices.{device, device_of};
+    ghost use Rattle.guard_files.specs.Files.{Told};
+    ghost use Rattle.guard_files.specs.Records.Record.{piece, end, reload};
+    ghost use Rattle.guard_streams.specs.Muxing.{new_mux, WritesPart, BreaksErr};
+    ghost use Rattle.guard_streams.specs.Saying.{IsUnreadNote};
+    ghost use Rattle.guard_streams.specs.Turns.{link_status, renewed_note};
+    ghost use Rattle.guard_streams.specs.inside.Begun.{IsSound, answer_lines};
+    ghost use Rattle.guard_streams.specs.inside.Doing.{IsReady, IsKept, mux_of, IsTaken, IsCut};
+    ghost use Rattle.guard_streams.specs.inside.Doing.{Is, HadEnded, AreEnded, IsEndCut};
+
+    /// Sixteen open links under this policy. Notes are asked for where something is seen.
+    pub fn new(alloc: Global, policy: Policy, seen: Option<Seen>) -> Result<Links, OutOfMemory>
+        ensures open { IfOk result (λ links. (told : Told)
+            → mux_of told links ≡ new_mux (policy_view policy) told seen) }
+        ensures ready { IfOk result (λ links. IsReady links.gateway) }
+        ensures status { IfOk result (λ links. links.status ≡ 0) }
+        ensures kept { IfOk result IsKept }
+    {
+        let ends = new_sinks(alloc, LINKS)?;
+        let begun = first_frames(alloc, LINKS)?;
+        match Gateway::new(alloc, policy, ends) {
+            Ok(gateway) => Ok(Links {
+                gateway,
+                status: 0,
+                seen,
+                begun,
+            }),
+            Err(_) => Err(OutOfMemory),
+        }
+    }
+
+    /// The status that comes of what happened so far.
+    pub fn status(&self) -> u8
+        ensures { result ≡ self.now.status }
+    {
+        self.status
+    }
+
+    /// What is seen so far.
+    pub fn seen(&self) -> Option<Seen>
+        ensures { result ≡ self.now.seen }
+    {
+        self.seen
+    }
+
+    /// A piece of a link's stream. What it lets out is written, then what is reported, and then the link's fault.
+    pub fn piece<O: Sink, E: Sink>(
+        &mut self,
+        alloc: Global,
+        link: u16,
+        octets: &[u8],
+        out: &mut O,
+        err: &mut E,
+    ) -> Result<(), Stop>
+        requires link { link ≤ 15 }
+        requires ready { IsReady self.old.gateway }
+        requires kept { IsKept self.old }
+        ensures done { OnOk result ((path : List ℕ) (told : Told)
+            → IsTaken path told self.old (piece link octets.now) told self.new
+            (O.taken out.old, O.taken out.new) (E.taken err.old, E.taken err.new)) }
+        ensures cut { IfErr result (λ s. (path : List ℕ) (told : Told)
+            → IsCut s path (mux_of told self.old) (piece link octets.now)
+            (device_of O.taken O.has_failed out.old out.new)
+            (device_of E.taken E.has_failed err.old err.new)) }
+        ensures unseen { result ≡ Err WriteFailed → self.new.seen ≡ self.old.seen }
+        ensures kept { OnOk result (IsKept self.new) }
+    {
+        let answer = feed_link(alloc, &mut self.gateway, link, octets);
+        let begun = advance_link(&mut self.begun, self.seen, link, octets);
+        let is_reported = pass_on(&mut self.gateway, link, &mut self.seen, out, err)?;
+        self.status = self.status.max(u8::from(is_reported));
+        self.tell_answer(link, answer, begun, err)
+    }
+
+    /// The end of a link's stream.
+    pub fn end<E: Sink>(&mut self, alloc: Global, link: u16, err: &mut E) -> Result<(), Stop>
+        requires link { link ≤ 15 }
+        requires ready { IsReady self.old.gateway }
+        requires kept { IsKept self.old }
+        ensures done { OnOk result ((path : List ℕ) (told : Told) (out : Option (List ℕ)) →
+            IsTaken path told self.old (end link) told self.new (out, out) (E.taken err.old, E.taken err.new)) }
+        ensures cut { IfErr result (λ s. (path : List ℕ) (told : Told) (out : Option (List ℕ)) (failed : Bool) →
+            IsCut s path (mux_of told self.old) (end link) (device out out failed)
+            (device_of E.taken E.has_failed err.old err.new)) }
+        ensures seen { self.new.seen ≡ self.old.seen }
+        ensures kept { OnOk result (IsKept self.new) }
+    {
+        let answer = end_link(alloc, &mut self.gateway, link);
+        let begun = advance_link(&mut self.begun, self.seen, link, &[]);
+        self.tell_answer(link, answer, begun, err)
+    }
+
+    /// The end of each link's stream that hasn't ended, in order.
+    pub fn end_all<E: Sink>(&mut self, alloc: Global, err: &mut E) -> Result<(), Stop>
+        requires ready { IsReady self.old.gateway }
+        requires kept { IsKept self.old }
+        ensures done { OnOk result ((path : List ℕ) (told : Told) →
+            AreEnded path told self.old self.new (E.taken err.old, E.taken err.new)) }
+        ensures cut { IfErr result (λ s. (s ≡ ErrorFailed)
+            × ((path : List ℕ) (told : Told) (out : Option (List ℕ)) (failed : Bool) →
+            IsEndCut path told self.old (device out out failed)
+            (device_of E.taken E.has_failed err.old err.new))) }
+    {
+        for link in 0..LINKS {
+            self.end_unless_ended(alloc, link, err)?;
+        }
+        Ok(())
+    }
+
+    /// The end of a link's stream, unless it has ended.
+    fn end_unless_ended<E: Sink>(
+        &mut self,
+        alloc: Global,
+        link: u16,
+        err: &mut E,
+    ) -> Result<(), Stop>
+        requires link { link ≤ 15 }
+        requires ready { IsReady self.old.gateway }
+        requires kept { IsKept self.old }
+        ensures done { OnOk result (HadEnded link self.old self.new (E.taken err.old, E.taken err.new)
+            ⊎ (Is false link self.old × ((path : List ℕ) (told : Told) (out : Option (List ℕ)) →
+            IsTaken path told self.old (end link) told self.new (out, out) (E.taken err.old, E.taken err.new)))) }
+        ensures cut { IfErr result (λ s. (s ≡ ErrorFailed) × Is false link self.old
+            × ((path : List ℕ) (told : Told) (out : Option (List ℕ)) (failed : Bool)
+            → WritesPart path (mux_of told self.old) (end link) []
+            (device out out failed) (device_of E.taken E.has_failed err.old err.new) BreaksErr)) }
+        ensures kept { OnOk result (IsKept self.new) }
+    {
+        let answer = end_link(alloc, &mut self.gateway, link);
+        if is_closed(answer) {
+            return Ok(());
+        }
+        let begun = advance_link(&mut self.begun, self.seen, link, &[]);
+        self.tell_answer(link, answer, begun, err)
+    }
+
+    /// Reads the policy at the path again, and notes that where notes are asked for. Where there is none, that is
+    /// reported, with what the system says of it where notes are asked for, and the policy in force stays.
+    pub fn reload<F: Files, E: Sink, T: Says>(
+        &mut self,
+        alloc: Global,
+        path: &str,
+        files: &mut F,
+        err: &mut E,
+        system: &T,
+    ) -> Result<(), Stop>
+        requires ready { IsReady self.old.gateway }
+        requires kept { IsKept self.old }
+        ensures done { OnOk result ((out : Option (List ℕ))
+            → IsTaken path.now (F.told files.old) self.old reload (F.told files.new) self.new
+            (out, out) (E.taken err.old, E.taken err.new)) }
+        ensures cut { IfErr result (λ s. (out : Option (List ℕ)) (failed : Bool)
+            → IsCut s path.now (mux_of (F.told files.old) self.old) reload
+            (device out out failed) (device_of E.taken E.has_failed err.old err.new)) }
+        ensures seen { self.new.seen ≡ self.old.seen }
+        ensures kept { OnOk result (IsKept self.new) }
+    {
+        match load(alloc, path, files) {
+            Ok(policy) => {
+                let (messages, rules) = (policy.messages(), policy.rules());
+                let _ = self.gateway.step(alloc, Event::Reload(policy));
+                self.note_policy(messages, rules, err)
+            }
+            Err(fault) => match report(alloc, &fault, err) {
+                Ok(status) => {
+                    self.status = self.status.max(status);
+                    self.note_unread(alloc, &fault, err, system)
+                }
+                Err(_) => Err(Stop::ErrorFailed),
+            },
+        }
+    }
+
+    /// Notes a new policy of so many messages and rules, where notes are asked for.
+    fn note_policy<E: Sink>(&self, messages: usize, rules: usize, err: &mut E) -> Result<(), Stop>
+        ensures all { OnOk result (Appends (E.taken err.old) (E.taken err.new)
+            (renewed_note self.now.seen messages rules)) }
+        ensures part { IfErr result (λ s. (s ≡ ErrorFailed) × (E.has_failed err.new ≡ true) × ((part : List ℕ)
+            × IsProperPrefix part (renewed_note self.now.seen messages rules)
+            × Appends (E.taken err.old) (E.taken err.new) part)) }
+    {
+        if self.seen.is_none() {
+            return Ok(());
+        }
+        match put_renewed(err, messages, rules) {
+            Ok(()) => Ok(()),
+            Err(_) => Err(Stop::ErrorFailed),
+        }
+    }
+
+    /// Notes what the system says of a policy that can't be read again, where notes are asked for and there is memory
+    /// for that.
+    fn note_unread<E: Sink, T: Says>(
+        &self,
+        alloc: Global,
+        fault: &Fault,
+        err: &mut E,
+        system: &T,
+    ) -> Result<(), Stop>
+        ensures all { OnOk result ((note : List ℕ) × IsUnreadNote self.now.seen fault.now note
+            × Appends (E.taken err.old) (E.taken err.new) note) }
+        ensures part { IfErr result (λ s. (s ≡ ErrorFailed) × (E.has_failed err.new ≡ true) × ((note : List ℕ)
+            × (part : List ℕ) × IsUnreadNote self.now.seen fault.now note × IsProperPrefix part note
+            × Appends (E.taken err.old) (E.taken err.new) part)) }
+    {
+        if self.seen.is_none() {
+            return Ok(());
+        }
+        let Ok(note) = said_of_fault(alloc, fault, system) else {
+            return Ok(());
+        };
+        match put_all(err, note.as_slice()) {
+            Ok(()) => Ok(()),
+            Err(_) => Err(Stop::ErrorFailed),
+        }
+    }
+
+    /// Tells the fault of a link, where it answered with one, and notes at which frame it is, where that has begun.
+    fn tell_answer<E: Sink>(
+        &mut self,
+        link: u16,
+        answer: Result<(), LinkFault>,
+        begun: Option<Begun>,
+        err: &mut E,
+    ) -> Result<(), Stop>
+        requires { IfSome begun IsSound }
+        ensures all { OnOk result (Appends (E.taken err.old) (E.taken err.new) (answer_lines begun link answer)) }
+        ensures part { IfErr result (λ s. (s ≡ ErrorFailed) × (E.has_failed err.new ≡ true) × ((part : List ℕ)
+            × IsProperPrefix part (answer_lines begun link answer)
+            × Appends (E.taken err.old) (E.taken err.new) part)) }
+        ensures status { self.new.status ≡ max self.old.status (link_status [] answer) }
+        ensures gateway { self.new.gateway ≡ self.old.gateway }
+        ensures seen { self.new.seen ≡ self.old.seen }
+        ensures begun { self.new.begun ≡ self.old.begun }
+    {
+        let Err(fault) = answer else {
+            return Ok(());
+        };
+        self.status = self.status.max(FAILED);
+        match put_fault(err, link, fault, begun) {
+            Ok(()) => Ok(()),
+            Err(_) => Err(Stop::ErrorFailed),
+        }
+    }
+}
+
+/// Whether a link that takes no more has answered.
+fn is_closed(answer: Result<(), LinkFault>) -> bool
+    ensures { result ≡ is_closed answer }
+{
+    matches!(answer, Err(LinkFault::Closed))
+}

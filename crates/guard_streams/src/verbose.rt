@@ -1,0 +1,103 @@
+//! Guards the stream that comes in, with notes at its end.
+ghost use Rattle.std.specs.Prelude.{◌⊎◌, ℕ, List};
+ghost use Rattle.guard_files.specs.Devices.{source_of, device_of};
+ghost use Rattle.guard_files.specs.Explaining.{TellsWith};
+ghost use Rattle.guard_files.specs.Writing.{TellsOctets, TellsNoMemory};
+ghost use Rattle.guard_files.specs.declared.fault.Fault.TheVariants.{Run};
+ghost use Rattle.guard_streams.specs.Stream.{totals_status};
+ghost use Rattle.guard_streams.specs.Saying.{IsSaidOfRun, TellsUnread};
+ghost use Rattle.guard_streams.specs.Verbose.{last_lines, fault_lines};
+ghost use Rattle.guard_streams.specs.Watching.{WatchesStream};
+
+use crate::guarding::status_of;
+use crate::saying::{Says, said_of_fault, said_of_run};
+use crate::seen::{Seen, fault_notes, last_notes, line_with};
+use crate::watching::watch_all;
+use guard_files::{FAILED, Fault, Files, load, new_frame_room, tell_line, tell_no_memory};
+use guard_frames::{RunFault, Sink, Source};
+use std::alloc::Global;
+
+/// Guards the stream under the policy at the path, with its reports on standard error, and answers the status, as `run`
+/// does. Behind the reports, and behind the line of a fault, it says how many frames there were and how often each
+/// reason was reported. Where there is no memory for that, it says so, and the status is 3.
+pub fn run_verbosely<F: Files, S: Source, O: Sink, E: Sink, T: Says>(
+    alloc: Global,
+    path: &str,
+    files: &mut F,
+    input: &mut S,
+    out: &mut O,
+    err: &mut E,
+    system: &T,
+) -> u8
+    ensures { WatchesStream (F.told files.old) path.now (source_of S.tells S.takes S.has_failed input.old input.new)
+        (device_of O.taken O.has_failed out.old out.new)
+        (device_of E.taken E.has_failed err.old err.new) result }
+{
+    let policy = match load(alloc, path, files) {
+        Ok(policy) => policy,
+        Err(fault) => return tell_unread(alloc, &fault, err, system),
+    };
+    let Ok(mut room) = new_frame_room(alloc) else {
+        return tell_no_memory(err);
+    };
+    let mut seen = Seen::nothing();
+    match watch_all(
+        alloc,
+        &policy,
+        room.as_mut_slice(),
+        input,
+        out,
+        err,
+        &mut seen,
+    ) {
+        Ok(()) => tell_last(alloc, &seen, err),
+        // Standard error took its last line in part: there is no place to say anything.
+        Err(_) if err.failed() => FAILED,
+        Err(fault) => tell_fault(alloc, fault, &seen, err, system),
+    }
+}
+
+/// Says the last notes, and answers the status of the totals.
+fn tell_last<E: Sink>(alloc: Global, seen: &Seen, err: &mut E) -> u8
+    ensures { TellsOctets (last_lines seen.now) (totals_status seen.now.totals)
+        (device_of E.taken E.has_failed err.old err.new) result
+        ⊎ TellsNoMemory (device_of E.taken E.has_failed err.old err.new) result }
+{
+    match last_notes(alloc, seen) {
+        Ok(notes) => tell_line(notes.as_slice(), status_of(seen.totals), err),
+        Err(_) => tell_no_memory(err),
+    }
+}
+
+/// Says a fault with the notes behind its line.
+fn tell_fault<E: Sink, T: Says>(
+    alloc: Global,
+    fault: RunFault,
+    seen: &Seen,
+    err: &mut E,
+    system: &T,
+) -> u8
+    ensures { (said : List ℕ) × IsSaidOfRun fault said × TellsWith (Run fault) (fault_lines fault said seen.now)
+        (device_of E.taken E.has_failed err.old err.new) result }
+{
+    let Ok(said) = said_of_run(alloc, fault, system) else {
+        return tell_no_memory(err);
+    };
+    match fault_notes(alloc, fault, said.as_slice(), seen) {
+        Ok(lines) => tell_line(lines.as_slice(), FAILED, err),
+        Err(_) => tell_no_memory(err),
+    }
+}
+
+/// Says why there is no policy, with what the system says.
+pub fn tell_unread<E: Sink, T: Says>(alloc: Global, fault: &Fault, err: &mut E, system: &T) -> u8
+    ensures { TellsUnread fault.now (device_of E.taken E.has_failed err.old err.new) result }
+{
+    let Ok(said) = said_of_fault(alloc, fault, system) else {
+        return tell_no_memory(err);
+    };
+    match line_with(alloc, fault, said.as_slice()) {
+        Ok(lines) => tell_line(lines.as_slice(), fault.status(), err),
+        Err(_) => tell_no_memory(err),
+    }
+}

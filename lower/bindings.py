@@ -2,13 +2,14 @@
 
 from __future__ import annotations
 
+import re
 import tomllib
 from dataclasses import dataclass, field
 
 from job import Change, Place
 from library import Library
 from reading_modules import ModuleReader
-from tokens import Fault, cut
+from tokens import Fault, Source, cut
 from tree import Definition, Type
 
 LEAVE_OUT = "leave-out"
@@ -41,12 +42,9 @@ class Bindings:
 
     def depth_of(self, definitions: list[Definition], otherwise: int) -> int:
         """The depth of a recursion that has these definitions."""
-        for definition in definitions:
-            for key in (f"{definition.module.name}.{definition.name}", definition.name):
-                if key in self.depths:
-                    self.used.add(key)
-                    return self.depths[key]
-        return otherwise if self.depth is None else self.depth
+        names = [name for d in definitions for name in (f"{d.module.name}.{d.name}", d.name) if name in self.depths]
+        self.used.update(names[:1])
+        return self.depths[names[0]] if names else otherwise if self.depth is None else self.depth
 
     def parsed(self, place: Place, text: str) -> Type:
         """A type of the bindings as a tree."""
@@ -63,10 +61,10 @@ class Bindings:
     def fault(self, place: Place | str, why: str) -> Fault:
         """A fault of an entry, with the line that has it."""
         names = [f'"{place}"', *(f'"{short}"' for short in str(place).split(".", 1)[1:])]
-        for number, line in enumerate(self.text.split("\n"), 1):
-            for name in (name for name in names if name in line):
-                return Fault(why, self.path, number, line.index(name) + 1, line)
-        return Fault(f"{self.path}: {place}: {why}")
+        found = re.search("|".join(map(re.escape, names)), self.text)
+        if found is None:
+            return Fault(f"{self.path}: {place}: {why}")
+        return Fault(why, Source(self.path, self.text), found.start())
 
     def signs(self, change: Change) -> bool:
         """Whether the author takes a change that widens."""

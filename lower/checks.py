@@ -2,19 +2,20 @@
 
 from __future__ import annotations
 
-from dataclasses import dataclass, field, replace
+from dataclasses import dataclass, replace
 
-from job import Output
+from bindings import Bindings
+from job import Output, Scope
 from library import Library, children
-from plain import NATURAL
+from lowering import Job, Tags
 from reading_modules import read_modules
+from recursion import Recursion
 from tokens import Fault, cut
-from tree import Component, Constrained, Definition, Element, ListOf, Module, Node, Plain, Reference, Set, Structure
-from tree import Tagged, Type
+from tree import Component, Constrained, Definition, Element, ListOf, Node, Plain, Reference, Set, Structure, Tagged
+from tree import Type
 from writing import Text
 
 MOST_NODES, MOST_COMPONENTS, DEEPEST, LARGEST_TAG, LAST_BIT, MOST_MODULES = 100_000, 64, 32, 268_435_455, 65_535, 64
-Tags = frozenset[tuple[str, int]]
 
 
 @dataclass(frozen=True)
@@ -28,20 +29,23 @@ class Finding:
 
 @dataclass
 class Measure:
+    """How large a type is, as the guard counts."""
+
     nodes: int = 0
     constraints: int = 0
     depth: int = 0
-    tags: Tags = frozenset()
-    choice: bool = False
 
 
-@dataclass
 class Checker:
-    outputs: dict[tuple[str, str], Output]
-    library: Library = field(default_factory=Library)
-    measured: dict[Definition, Measure] = field(default_factory=dict)
-    findings: list[Finding] = field(default_factory=list)
-    here: Output | None = None
+    """Measures the definitions of modules; `here` is the output that is looked at."""
+
+    def __init__(self, texts: list[Text]) -> None:
+        self.library = Library()
+        self.job = Job(self.library, Bindings(), Recursion(self.library, Bindings(), [], 0))
+        self.outputs = {(text.name, out.name): out for text in texts for out in text.outputs}
+        self.measured: dict[Definition, Measure] = {}
+        self.findings: list[Finding] = []
+        self.here: Output | None = None
 
     def find(self, wrong: object, why: str, size: bool = False) -> None:
         if wrong and self.here is not None:
@@ -54,7 +58,7 @@ class Checker:
         found = self.measured[definition] = Measure()
         self.find(definition.kind == "unread", f"the lowered text can't be read: {definition.why}")
         if definition.type is not None:
-            found = self.measured[definition] = self.type(definition.type, definition.module)
+            found = self.measured[definition] = self.type(Scope(definition.module), definition.type)
             why = f"it is nested {found.depth} deep, and the guard takes {DEEPEST}"
             self.find(found.depth > DEEPEST, why, True)
             why = f"it has {found.nodes} types, and the guard takes {MOST_NODES}"
@@ -62,71 +66,59 @@ class Checker:
         self.here = before
         return found
 
-    def type(self, node: Type, module: Module) -> Measure:
+    def type(self, scope: Scope, node: Type) -> Measure:
         if isinstance(node, Tagged):
-            held, number = self.type(node.inner, module), int(node.number.text())
+            held, number = self.type(scope, node.inner), int(node.number.text())
             self.find(number > LARGEST_TAG, f"the tag {number} is above {LARGEST_TAG}")
-            by_default = not node.mode and module.default != "EXPLICIT" and not held.choice
-            depth = held.depth + (not (node.mode == "IMPLICIT" or by_default))
-            return Measure(held.nodes, held.constraints, depth, frozenset({(node.kind, number)}))
+            return replace(held, depth=held.depth + self.job.is_explicit(scope, node))
         if isinstance(node, Constrained):
-            held = self.type(node.inner, module)
+            held = self.type(scope, node.inner)
             return replace(held, constraints=held.constraints + sum(map(weigh, node.constraints)))
-        if isinstance(node, Reference):
-            definition = self.library.find(module, node.name)
-            if isinstance(definition, Definition):
-                return self.definition(definition)
-            self.find(True, definition)
         if isinstance(node, ListOf):
-            held, size = self.type(node.inner, module), 0 if node.size is None else weigh(node.size)
-            return Measure(held.nodes + 1, held.constraints + size, held.depth + 1, natural(node.word))
+            held, size = self.type(scope, node.inner), 0 if node.size is None else weigh(node.size)
+            return Measure(held.nodes + 1, held.constraints + size, held.depth + 1)
         if isinstance(node, Structure):
-            return self.structure(node, module)
+            return self.structure(scope, node)
         if isinstance(node, Plain):
             numbers = [item.number.text() for item in node.items if item.number]
             is_clear = is_set([item.name for item in node.items]) and is_set(numbers)
             self.find(not is_clear, "two of its names or numbers are equal")
-            large = node.name == "BIT STRING" and any(n.isdigit() and int(n) > LAST_BIT for n in numbers)
+            large = node.word == "BIT STRING" and any(n.isdigit() and int(n) > LAST_BIT for n in numbers)
             self.find(large, f"a named bit is above {LAST_BIT}")
-            return Measure(1, 0, 1, natural(node.name))
+            return Measure(1, 0, 1)
+        definition = self.library.find(scope.module, node.name) if isinstance(node, Reference) else ""
+        if isinstance(definition, Definition):
+            return self.definition(definition)
+        self.find(definition, definition)
         return Measure()
 
-    def structure(self, node: Structure, module: Module) -> Measure:
-        found = Measure(1, 0, 0, natural(node.word), node.word == "CHOICE")
-        components = self.flat(node, module)
-        automatic = module.default == "AUTOMATIC" and not any(isinstance(item.type, Tagged) for item, _ in components)
+    def structure(self, scope: Scope, node: Structure) -> Measure:
+        found, automatic = Measure(1), self.job.is_automatic(scope, node)
+        components = self.flat(scope, node)
         tags: list[tuple[Component, Tags]] = []
         for number, (item, there) in enumerate(components):
-            part = self.type(item.type, there)
+            part = self.type(there, item.type)
             found.nodes += part.nodes
             found.constraints += part.constraints + 2 * (item.default is not None)
-            found.depth = max(found.depth, part.depth + (automatic and part.choice))
-            tags.append((item, frozenset({("", number)}) if automatic else part.tags))
+            found.depth = max(found.depth, part.depth + (automatic and self.job.untagged(there, item.type)))
+            tags.append((item, {("", number)} if automatic else self.job.first_tags(there, item.type) or set()))
         found.depth += 1
         why = f"it has {len(tags)} components, and the guard takes {MOST_COMPONENTS}"
         self.find(len(tags) > MOST_COMPONENTS, why)
         self.find(not is_set([item.name for item, _ in tags]), "two components have one name")
         clash = clashing(node.word, tags)
         self.find(clash, f"the tags of {' and '.join(clash)} can't be told apart")
-        if node.word == "CHOICE":
-            found.tags = frozenset().union(*(part for _, part in tags))
         return found
 
-    def flat(self, node: Structure, module: Module, deep: int = 0) -> list[tuple[Component, Module]]:
+    def flat(self, scope: Scope, node: Structure, deep: int = 0) -> list[tuple[Component, Scope]]:
         """The components, with those of COMPONENTS OF in their places."""
-        found: list[tuple[Component, Module]] = []
+        found: list[tuple[Component, Scope]] = []
         for item in node.items:
-            base: Type | None = item.type if item.of else None
-            there = module
-            while isinstance(base, Constrained | Reference):
-                definition = self.library.find(there, base.name) if isinstance(base, Reference) else None
-                base = base.inner if isinstance(base, Constrained) else None
-                if isinstance(definition, Definition):
-                    base, there = definition.type, definition.module
+            there, base, _ = self.job.base(scope, item.type)
             if not item.of:
-                found.append((item, module))
+                found.append((item, scope))
             elif isinstance(base, Structure) and deep < DEEPEST:
-                found += self.flat(base, there, deep + 1)
+                found += self.flat(there, base, deep + 1)
         return found
 
     def too_large(self) -> list[Finding]:
@@ -145,10 +137,6 @@ class Checker:
 
 def is_set(names: list[str]) -> bool:
     return len(set(names)) == len(names)
-
-
-def natural(word: str) -> Tags:
-    return frozenset({("UNIVERSAL", NATURAL[word])}) if word in NATURAL else frozenset()
 
 
 def weigh(node: Node) -> int:
@@ -175,7 +163,7 @@ def clashing(word: str, parts: list[tuple[Component, Tags]]) -> list[str]:
 
 def check(texts: list[Text]) -> list[Finding]:
     """What the guard would refuse of some texts."""
-    checker = Checker({(text.name, out.name): out for text in texts for out in text.outputs})
+    checker = Checker(texts)
     for text in texts:
         try:
             for module in read_modules(cut(f"{text.name}.asn1", text.text)):

@@ -5,16 +5,16 @@ from __future__ import annotations
 import re
 from dataclasses import dataclass, replace
 
-from job import LOOSER, SAME, TIGHTER, CannotGo, Edit, NoValue, Output, Scope, Site, Typed, emit, join
+from job import LOOSER, SAME, TIGHTER, CannotGo, NoValue, Scope, Site, Typed, reached
 from library import spelled
 from reading import STRINGS, TIMES
 from reading_modules import ModuleReader, type_at
-from tokens import cut
+from tokens import Edit, cut
 from tree import Constrained, Constraint, Element, ListOf, Node, Part, Plain, Reference, Set, Structure, Type, Value
-from values import ALPHABETS, LARGEST, LEAST, LIMIT, Values, quoted, unquoted
+from values import ALPHABETS, LARGEST, LEAST, LIMIT, Values, number_of_name, quoted, unquoted
 
 Sizes = list[tuple[int, int | None]]
-NUMBER = Plain(source=cut("", "INTEGER"), a=0, b=1, name="INTEGER")
+NUMBER = Plain(source=cut("", "INTEGER"), a=0, b=1, word="INTEGER")
 SIZED = ("string", "bits", "list")
 OTHERS = ("REAL", "RELATIVE-OID", "OID-IRI", "RELATIVE-OID-IRI")
 OUTSIDE = dict.fromkeys(STRINGS - ALPHABETS.keys(), "string") | dict.fromkeys(TIMES, "time")
@@ -35,14 +35,13 @@ class Constraints(Values):
         if root is None:
             return ""
         is_plain = not node.bare and node.root.b == node.b - 1
-        return emit(node.source, node.a, node.b, [(node.root.a, node.root.b, root)]) if is_plain else f"({root})"
+        return node.emit(node.root.by(root)) if is_plain else f"({root})"
 
     def work(self, scope: Scope, governor: Typed, site: Site, rooted: bool = False) -> Work:
         """What lowers constraints of a type."""
         there, base, _ = self.base(*governor)
-        kind = "structure" if isinstance(base, Structure) else "list" if isinstance(base, ListOf) else "unknown"
-        if isinstance(base, Plain):
-            kind = "named bits" if base.name == "BIT STRING" and base.items else KINDS.get(base.name, "plain")
+        has_names = isinstance(base, Plain) and base.word == "BIT STRING" and base.items
+        kind = "list" if isinstance(base, ListOf) else "named bits" if has_names else KINDS.get(base.word, "")
         return Work(self, scope, (there, base), kind, site, rooted)
 
     def rooted_parent(self, governor: Typed, site: Site) -> str:
@@ -66,31 +65,24 @@ class Constraints(Values):
         if node.form == "size" and node.constraint is not None:
             parts = union(node.constraint.root) + union(node.constraint.more)
             return [size for part in parts for size in self.element_sizes(scope, part)]
-        ends = [None if value.name == "MAX" else self.size(scope, value) for value in node.values]
+        known = {"MAX": None, "MIN": 0}
+        ends = [known[v.name] if v.name in known else self.number(scope, v) for v in node.values]
         if not ends or "<" in node.marks or ends[0] is None:
             raise NoValue(f"{node.text()} is no range of sizes")
         return [(ends[0], ends[-1])]
-
-    def size(self, scope: Scope, node: Value) -> int:
-        return 0 if node.name == "MIN" else self.number(scope, node)
 
     def same_base(self, scope: Scope, node: Type, governor: Typed) -> bool:
         """Whether a contained type is made of what it constrains, as the guard asks for."""
         there, base = governor
         its, held, _ = self.base(scope, node)
-        if isinstance(held, Plain) and isinstance(base, Plain) and base.name not in ("ENUMERATED", "BIT STRING"):
-            return held.name == base.name
+        if isinstance(held, Plain) and isinstance(base, Plain) and base.word not in ("ENUMERATED", "BIT STRING"):
+            return held.word == base.word
         return held is base and (its is there or isinstance(base, Plain))
 
     def widens(self, name: str) -> bool:
         """Whether a type that was named has other values than in the original."""
-        seen: list[Output] = [out for out in self.here.uses if out.name == name]
-        mark = SAME
-        for out in seen:
-            for change in out.changes:
-                mark = join(mark, change.mark)
-            seen += [used for used in out.uses if used not in seen]
-        return mark != SAME
+        used = reached(out for out in self.here.uses if out.name == name)
+        return any(change.mark != SAME for out in used for change in out.changes)
 
 
 @dataclass(frozen=True)
@@ -139,7 +131,7 @@ class Work:
                 edits += [(part.a, (part.minus or part).b, text) for part, text in zip(parts, kept)]
             else:
                 edits.append((parts[0].a, (parts[-1].minus or parts[-1]).b, " ^ ".join(kept)))
-        return emit(node.source, node.a, node.b, edits) if is_whole else None
+        return node.emit(*edits) if is_whole else None
 
     def difference(self, node: Element) -> str | None:
         text = self.element(node)
@@ -160,7 +152,7 @@ class Work:
     def element(self, node: Element) -> str | None:
         if node.form == "group" and node.group is not None:
             inner = self.set(node.group)
-            return None if inner is None else emit(node.source, node.a, node.b, [(node.group.a, node.group.b, inner)])
+            return None if inner is None else node.emit(node.group.by(inner))
         if self.kind == "outside":
             return self.drop(node, "constraint", "the type is outside the profile, and so is a constraint of it")
         if node.form == "dropped":
@@ -190,15 +182,15 @@ class Work:
         """An element by a constraint in parentheses that it holds."""
         assert node.constraint is not None
         inner = self.whole(node.constraint)
-        return None if inner is None else f"{emit(node.source, node.a, node.constraint.a, [])} ({inner})"
+        return None if inner is None else f"{node.source.emit(node.a, node.constraint.a)} ({inner})"
 
     def from_element(self, node: Element) -> str | None:
-        held, base = node.constraint, self.governor[1]
-        if self.kind != "string" or held is None or not isinstance(base, Plain):
+        held, word = node.constraint, self.governor[1].word
+        if self.kind != "string" or held is None:
             return self.drop(node, "constraint", "FROM doesn't go with this type")
         try:
             parts = union(held.root) + ([] if self.rooted else union(held.more))
-            texts = [self.characters(part, base.name) for part in parts]
+            texts = [self.characters(part, word) for part in parts]
         except NoValue:
             texts = []
         if not texts or held.marked and self.exact:
@@ -287,13 +279,14 @@ class Work:
         low, high = node.values
         if self.kind != "number" or "<" in node.marks and (low.name == "MIN" or high.name == "MAX"):
             return self.drop(node, "constraint", "the profile has no such range")
-        return emit(node.source, node.a, node.b, [(value.a, value.b, self.end(value)) for value in node.values])
+        return node.emit(*(value.by(self.end(value)) for value in node.values))
 
     def end(self, value: Value) -> str:
         """An end of a range; a number beyond the guard's integers is as good as none."""
         if value.form == "word":
             return value.name
-        number = self.job.number(self.scope, value)
+        named = number_of_name(self.governor[1], value)
+        number = self.job.number(self.scope, value) if named is None else self.job.number(self.governor[0], named)
         if LEAST <= number <= LARGEST:
             return self.job.value(self.scope, value, self.governor)
         word = "MAX" if number > 0 else "MIN"
@@ -319,7 +312,7 @@ class Work:
         if self.exact and self.job.widens(text):
             raise Inexact(f"{text} isn't the same as in the original")
         root = self.job.rooted_parent((self.scope, held), self.site)
-        text = emit(node.source, node.a, node.b, [(held.a, held.b, text)])
+        text = node.emit(held.by(text))
         return f"({text} ^{root})" if root else text
 
     def dummy(self, node: Element, name: str) -> str | None:

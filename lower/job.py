@@ -2,9 +2,9 @@
 
 from __future__ import annotations
 
+from collections.abc import Iterable
 from dataclasses import dataclass, field
 
-from tokens import Source
 from tree import Constrained, Definition, Module, Node, Parameter, Span, Type
 
 SAME, TIGHTER, LOOSER, NEITHER, CANT = "same", "tighter", "looser", "neither", "can't"
@@ -89,9 +89,7 @@ Typed = tuple[Scope, Type]
 @dataclass(eq=False)
 class Change:
     place: Place
-    source: Source
-    line: int
-    column: int
+    node: Node
     step: str
     original: str
     replacement: str
@@ -102,7 +100,7 @@ class Change:
 
     @property
     def key(self) -> tuple[object, ...]:
-        return self.place, self.source, self.line, self.column, self.step, self.original
+        return self.place, self.node.source, self.node.a, self.step, self.original
 
 
 @dataclass(eq=False)
@@ -129,6 +127,17 @@ class Output:
         self.uses += [used for used in uses if used not in self.uses]
 
 
+def reached(roots: Iterable[Output]) -> list[Output]:
+    """All that some outputs use, themselves first."""
+    found = dict.fromkeys(roots)
+    todo = list(found)
+    while todo:
+        new = [used for used in todo.pop().uses if used not in found]
+        found |= dict.fromkeys(new)
+        todo += new
+    return list(found)
+
+
 @dataclass(frozen=True)
 class Lowered:
     """A type's text, and whether it is an untagged CHOICE."""
@@ -148,31 +157,12 @@ class Site:
 
 @dataclass(eq=False)
 class Shape:
-    """The list of a SEQUENCE, SET or CHOICE as it was lowered: the components that stay, and those that went."""
+    """The list of a SEQUENCE, SET or CHOICE as it was lowered: the components that stay, and those that went with why;
+    `ended` where a recursion did."""
 
     presence: dict[str, str] = field(default_factory=dict)
-    gone: set[str] = field(default_factory=set)
+    gone: dict[str, list[Cause]] = field(default_factory=dict)
     ended: bool = False
-
-
-Edit = tuple[int, int, str]
-
-
-def has_comment(space: str) -> bool:
-    return "--" in space or "/*" in space
-
-
-def emit(source: Source, a: int, b: int, edits: list[Edit]) -> str:
-    """The text of the tokens from a up to b, some of them replaced; what is replaced by nothing leaves its comments."""
-    out: list[str] = []
-    at = a
-    for begin, end, text in [*sorted(edits, key=lambda edit: edit[:2]), (b, b, "")]:
-        out += [(token.space if at + k > a else "") + token.text for k, token in enumerate(source.tokens[at:begin])]
-        space = source.tokens[begin].space if a < begin < b else ""
-        if text or has_comment(space):
-            out.append(space + text)
-        at = end
-    return "".join(out)
 
 
 def strip(node: Type) -> Type:

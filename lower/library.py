@@ -8,7 +8,7 @@ from dataclasses import dataclass, field, fields
 
 from reading import BUILT_IN_CLASSES
 from reading_modules import read_modules
-from tokens import RESERVED, Fault, cut
+from tokens import RESERVED, cut
 from tree import Definition, Module, Node, Reference
 
 BUILT_IN = """Built-In DEFINITIONS ::= BEGIN
@@ -31,7 +31,7 @@ class Library:
         known = self.modules.setdefault(module.name, module)
         if [d.text() for d in known.definitions] != [d.text() for d in module.definitions]:
             why = f"another module has the name {module.name}: {known.source.path}"
-            raise Fault.at(module.source, module.source.place(module.a), why)
+            raise module.source.fault(module.a, why)
 
     def find(self, module: Module, name: str, source: str | None = None) -> Definition | str:
         """The definition that a name stands for in a module, or why there is none; `source` is what is before `.`."""

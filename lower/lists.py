@@ -5,9 +5,10 @@ from __future__ import annotations
 import re
 from dataclasses import dataclass
 
-from job import LOOSER, NEITHER, TIGHTER, CannotGo, Cause, Edit, Lowered, NoValue, Place, Scope, Shape, Site, emit
+from job import LOOSER, NEITHER, TIGHTER, CannotGo, Cause, Lowered, NoValue, Place, Scope, Shape, Site
 from library import spelled
 from plain import WHY_EXPLICIT, Parts, PlainTypes, brace_list
+from tokens import Edit
 from tree import Component, ListOf, Reference, Structure, Tagged
 
 MOST_VERSIONS = 12
@@ -50,7 +51,8 @@ class Lists(PlainTypes):
         self.lower_entries(node, shape, entries)
         kept = [entry for entry in entries if entry.text]
         if node.word == "CHOICE" and not kept:
-            raise self.stop(site.place, node, "empty", "no alternative of the CHOICE stays", shape.ended)
+            empty = self.stop(site.place, node, "empty", "no alternative of the CHOICE stays").causes
+            raise CannotGo(empty + [cause for causes in shape.gone.values() for cause in causes], shape.ended)
         bare = all(entry.whole or entry.tag is None and not entry.text.startswith("[") for entry in kept)
         if not automatic and self.here.module.default == "AUTOMATIC" and kept and bare:
             self.back(before)
@@ -89,8 +91,9 @@ class Lists(PlainTypes):
             raise CannotGo(causes, ends)
 
     def leave(self, shape: Shape, entry: Entry, stop: CannotGo | None, why: str) -> None:
-        shape.ended |= stop is not None and stop.ends
-        shape.gone.add(entry.item.name)
+        ends = stop is not None and stop.ends
+        shape.ended |= ends
+        shape.gone[entry.item.name] = [] if stop is None or ends else stop.causes
         self.note_left_out(Site(entry.place), entry.item, "", stop, f"left out: {why}")
 
     def lower_entry(self, entry: Entry) -> None:
@@ -164,14 +167,14 @@ class Lists(PlainTypes):
         if not (item.named or entry.whole):
             text = f"{item.name} {text}"
             self.note(site, item, "text", "a component without a name", new=item.name)
-        edits = [*self.renamed(item, site, spelled(item.name)), (item.type.a, item.type.b, text)]
+        edits = [*self.renamed(item, site, spelled(item.name)), item.type.by(text)]
         if item.default is not None:
             try:
-                edits.append((item.default.a, item.default.b, self.default_of(entry)))
+                edits.append(item.default.by(self.default_of(entry)))
             except NoValue as stop:
                 edits.append((item.type.b, item.b, "OPTIONAL"))
                 self.note(site, item.default, "default", f"the default can't be written: {stop}", LOOSER, "OPTIONAL")
-        return emit(item.source, item.a, item.b, edits) + (" OPTIONAL" if entry.mandatory else "")
+        return item.emit(*edits) + (" OPTIONAL" if entry.mandatory else "")
 
     def default_of(self, entry: Entry) -> str:
         assert entry.item.default is not None
@@ -209,7 +212,7 @@ class Lists(PlainTypes):
         edits: list[Edit] = []
         if node.size is not None:
             text = self.constraint(scope, node.size, (scope, node), site)
-            edits.append((node.size.a, node.size.b, text[1:-1] if node.size.bare else text))
+            edits.append(node.size.by(text[1:-1] if node.size.bare else text))
         if node.name is not None:
             edits.append((node.name, node.name + 1, ""))
             why = "the profile has no names of elements"
@@ -232,8 +235,8 @@ class Lists(PlainTypes):
             text = f"{node.word} (SIZE (0)) OF NULL"
             self.note_left_out(inside, node, text, stop, "only the empty list stays")
             return Lowered(text)
-        edits.append((node.inner.a, node.inner.b, held.text))
-        return Lowered(emit(node.source, node.a, node.b, edits))
+        edits.append(node.inner.by(held.text))
+        return Lowered(node.emit(*edits))
 
 
 def number_versions(entries: list[Entry]) -> None:

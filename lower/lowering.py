@@ -2,8 +2,11 @@
 
 from __future__ import annotations
 
+from collections.abc import Callable
+from typing import Any
+
 from bindings import LEAVE_OUT
-from job import NEITHER, SAME, TIGHTER, Actual, CannotGo, Edit, Lowered, NoValue, Output, Scope, Site, emit, strip
+from job import NEITHER, SAME, TIGHTER, Actual, CannotGo, Lowered, NoValue, Output, Scope, Site, strip
 from library import spelled
 from lists import Lists
 from plain import NATURAL
@@ -23,7 +26,7 @@ class Job(Lists):
         if node.name in node.module.twice:
             raise self.stop(out.place, node.module.twice[node.name], "text", f"{node.name} is defined twice")
         lowered = self.type(scope, node.type, Site(out.place, free=node.kind != "value"))
-        start, edits = node.type.a - 1, [(node.type.a, node.type.b, lowered.text)]
+        start, edits = node.type.a - 1, [node.type.by(lowered.text)]
         if node.kind == "set":
             held = self.value_set(scope, node, node.type, site)
             self.note(site, node, "expansion", "a value set is a constrained type")
@@ -31,10 +34,10 @@ class Job(Lists):
         if node.value is not None:
             start += 1
             try:
-                edits.append((node.value.a, node.value.b, self.value(scope, node.value, (scope, node.type))))
+                edits.append(node.value.by(self.value(scope, node.value, (scope, node.type))))
             except NoValue as stop:
                 raise self.stop(out.place, node, "value", str(stop)) from stop
-        return Lowered(node.source.tokens[start].space + emit(node.source, start, node.b, edits), lowered.choice)
+        return Lowered(node.source.tokens[start].space + node.source.emit(start, node.b, edits), lowered.choice)
 
     def value_set(self, scope: Scope, node: Definition, kind: Type, site: Site) -> str:
         """The set of a value set assignment as a constraint."""
@@ -56,22 +59,7 @@ class Job(Lists):
         actual = scope.actual(node.name, node.module) if isinstance(node, Reference) else None
         by_another = isinstance(node, Reference) and (node.fields or actual is not None)
         substitute = self.substitute(scope, node, site) if site.implicit and not by_another else None
-        if substitute is not None:
-            return substitute
-        if isinstance(node, Constrained):
-            return self.constrained(scope, node, site)
-        if isinstance(node, Structure):
-            return self.structure(scope, node, site)
-        if isinstance(node, ListOf):
-            return self.list_of(scope, node, site)
-        if isinstance(node, Plain):
-            return self.plain(scope, node, site)
-        if isinstance(node, Selection):
-            return self.selection(scope, node, site)
-        assert isinstance(node, Reference)
-        if node.fields:
-            return self.field(scope, node, site)
-        return self.reference(scope, node, site) if actual is None else self.dummy(actual, node, site)
+        return substitute or BY_FORM[type(node)](self, scope, node, site)
 
     def constrained(self, scope: Scope, node: Constrained, site: Site) -> Lowered:
         if self.is_open(scope, node.inner):
@@ -84,15 +72,20 @@ class Job(Lists):
             return self.type(scope, held, Site(site.place, free=False))
         lowered = self.type(scope, node.inner, site)
         text = lowered.text + self.rooted_parent((scope, node.inner), site)
-        edits: list[Edit] = [(node.inner.a, node.inner.b, text)]
+        edits = [node.inner.by(text)]
         for c in node.constraints:
             rooted = c is not node.constraints[-1]
-            edits.append((c.a, c.b, self.constraint(scope, c, (scope, node.inner), site, rooted)))
-        return Lowered(emit(node.source, node.a, node.b, edits), lowered.choice)
+            edits.append(c.by(self.constraint(scope, c, (scope, node.inner), site, rooted)))
+        return Lowered(node.emit(*edits), lowered.choice)
 
     # references
 
     def reference(self, scope: Scope, node: Reference, site: Site) -> Lowered:
+        actual = scope.actual(node.name, node.module)
+        if node.fields:
+            return self.field(scope, node, site)
+        if actual is not None:
+            return self.dummy(actual, node, site)
         definition = self.library.find(scope.module, node.name, node.module)
         if isinstance(definition, str):
             raise self.hole(site, node, "missing", definition)
@@ -225,8 +218,17 @@ class Job(Lists):
                 return {("", number) for number in range(len(base.items))}
             tags = [self.first_tags(there, item.type) for item in base.items]
             return None if None in tags else {tag for held in tags for tag in held or ()}
-        word = getattr(base, "word", "") or getattr(base, "name", "")
-        return {("UNIVERSAL", NATURAL[word])} if word in NATURAL else None
+        return {("UNIVERSAL", NATURAL[base.word])} if base.word in NATURAL else None
+
+
+BY_FORM: dict[type[Type], Callable[[Job, Scope, Any, Site], Lowered]] = {
+    Constrained: Job.constrained,
+    Structure: Job.structure,
+    ListOf: Job.list_of,
+    Plain: Job.plain,
+    Selection: Job.selection,
+    Reference: Job.reference,
+}
 
 
 def alternative_name(tree: Type, taken: list[str]) -> str:

@@ -55,8 +55,7 @@ def wanted(library: Library, names: list[str]) -> dict[str, Definition]:
             where = ", ".join(definition.module.name for definition in held)
             raise Fault(f"{name} is in more than one module: {where}; write Module.{name}")
         if held[0].kind not in ("type", "set", "unread") or held[0].parameters is not None:
-            place = held[0].source.place(held[0].a)
-            raise Fault.at(held[0].source, place, f"{name} is no type without parameters")
+            raise held[0].source.fault(held[0].a, f"{name} is no type without parameters")
         found += held
     found = list(dict.fromkeys(found))
     short = [definition.name for definition in found]
@@ -87,9 +86,9 @@ def attempt(job: Job, wanted: dict[str, Definition]) -> Result:
 def lower(library: Library, bindings: Bindings, wanted: dict[str, Definition], leave: bool) -> Result:
     """Lowers with less and less depth, and without what the guard would refuse, until it refuses nothing."""
     refused: dict[str, str] = {}
-    depth, definitions = DEPTH, list(wanted.values())
+    recursion = Recursion(library, bindings, list(wanted.values()), DEPTH)
     for _ in range(MOST_RUNS):
-        job = Job(library, bindings, Recursion(library, bindings, definitions, depth), leave)
+        job = Job(library, bindings, recursion, leave)
         job.refused = refused
         result = attempt(job, wanted)
         findings = checks.check(result.texts)
@@ -97,9 +96,9 @@ def lower(library: Library, bindings: Bindings, wanted: dict[str, Definition], l
             result.unread = [d for module in library.modules.values() for d in module.definitions if d.kind == "unread"]
             result.collect()
             return result
-        shorter = bindings.depth is None and depth > 0 and job.recursion.members
+        shorter = bindings.depth is None and recursion.depth > 0 and recursion.members
         if shorter and any(finding.size for finding in findings):
-            depth -= 1
+            recursion.depth -= 1
         else:
             refused |= {str(finding.out.place): finding.why for finding in findings}
     raise Fault("the guard's limits aren't met after many attempts")
@@ -140,8 +139,7 @@ def tell(result: Result) -> None:
         print(f"{message.name}: {message.mark}{'' if message.fits else ', not signed'}")
     for message in result.messages:
         for cause in message.causes[:3]:
-            node = cause.node
-            fault = Fault.at(node.source, node.source.place(node.a), f"{cause.place}: {cause.why}")
+            fault = cause.node.source.fault(cause.node.a, f"{cause.place}: {cause.why}")
             print(f"derguard-lower: {message.name} can't go: {fault.shown()}", file=sys.stderr)
     for name in result.job.bindings.unused():
         print(f"derguard-lower: no message reaches {name}, which the bindings name", file=sys.stderr)

@@ -10,7 +10,7 @@ from library import BUILT_IN_CLASS, Library
 from reading_modules import ModuleReader, type_at
 from recursion import Recursion
 from tokens import Fault, Source
-from tree import ClassField, Constrained, Definition, Node, Plain, Reference, Span, Structure, Tagged, Type, Value
+from tree import ClassField, Constrained, Definition, Node, Reference, Span, Structure, Tagged, Type, Value
 
 Key = tuple[object, ...]
 Way = tuple[Scope, Type, Place | None]
@@ -121,15 +121,13 @@ class Meaning:
     def untagged(self, scope: Scope, node: Type) -> bool:
         """Whether a type is an untagged CHOICE or an open type, also by a parameter."""
         _, base, _ = self.base(scope, node, tags=False)
-        if isinstance(base, Structure):
-            return base.word == "CHOICE"
-        return isinstance(base, Plain) and base.name == "ANY" or isinstance(base, Reference) and bool(base.fields)
+        return base.word in ("CHOICE", "ANY") or isinstance(base, Reference) and bool(base.fields)
 
     def is_open(self, scope: Scope, node: Type) -> bool:
         inner = strip(node)
         if isinstance(inner, Reference) and inner.fields:
             return self.class_field(scope, inner) == "open"
-        return isinstance(inner, Plain) and inner.name == "ANY"
+        return inner.word == "ANY"
 
     # classes and objects
 
@@ -229,14 +227,8 @@ class Meaning:
     def candidates(self, scope: Scope, node: Type) -> list[str]:
         """The types that objects of a table have for an open type, as texts that name the modules of definitions."""
         found, name = self.table_of(scope, node) or (ObjectSet([]), "")
-        texts: dict[str, None] = {}
-        for one in (one for one in found.objects if name in one.fields):
-            source, a, _ = one.fields[name]
-            try:
-                texts[self.full_text(one.scope, ModuleReader(source, a).type())] = None
-            except Fault:
-                continue
-        return list(texts)
+        held = [(one.scope, type_at(one.fields[name])) for one in found.objects if name in one.fields]
+        return list(dict.fromkeys(self.full_text(there, tree) for there, tree in held if tree is not None))
 
     def full_text(self, scope: Scope, tree: Type) -> str:
         """A type's text, with the module of the definition that it names."""
@@ -252,7 +244,8 @@ def settings(held: Definition, span: Span) -> dict[str, Span] | None:
     if source.tokens[a + 1].kind == "field":
         reader = ModuleReader(source, a + 1)
         while reader.at < b - 1:
-            found[reader.next()] = (source, *reader.skip_to(",", end=b - 1))
+            name = reader.next()
+            found[name] = (source, *reader.skip_to(",", end=b - 1))
             reader.at += 1
         return found
     if held.syntax is None:

@@ -5,12 +5,12 @@ from __future__ import annotations
 from collections.abc import Callable
 
 from bindings import Bindings
-from job import SAME, TIGHTER, Actual, CannotGo, Cause, Change, Edit, Lowered, Output, Place, Scope, Shape, Site
+from job import SAME, TIGHTER, Actual, CannotGo, Cause, Change, Lowered, Output, Place, Scope, Shape, Site
 from library import Library, spelled
 from meaning import Key, Meaning
 from reading_modules import read_modules
 from recursion import Recursion
-from tokens import cut
+from tokens import Edit, cut
 from tree import Component, Definition, Item, ListOf, Module, Node, Type
 
 
@@ -171,8 +171,7 @@ class Outputs(Meaning):
     ) -> None:
         """Writes a change down for the output that is made; SAME leaves values and encodings as they are."""
         original = node.text() if old is None else old
-        change = Change(site.place, node.source, *node.source.place(node.a), step, original, new, mark, why)
-        self.here.take([change], [])
+        self.here.take([Change(site.place, node, step, original, new, mark, why)], [])
 
     def renamed(self, node: Definition | Item | Component, site: Site, name: str) -> list[Edit]:
         """What writes another name at the beginning of a node, where its own isn't that."""

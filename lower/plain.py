@@ -3,10 +3,11 @@
 from __future__ import annotations
 
 from constraints import OUTSIDE, Constraints, Sizes
-from job import LOOSER, NEITHER, TIGHTER, Edit, Lowered, NoValue, Scope, Site, emit, has_comment, strip
+from job import LOOSER, NEITHER, TIGHTER, Lowered, NoValue, Scope, Site, strip
 from library import spelled
 from reading import OPEN, TIMES
-from tree import Constrained, Item, Node, Plain, Reference, Structure, Tagged, Type, Value
+from tokens import Edit, has_comment
+from tree import Constrained, Item, Node, Plain, Reference, Tagged, Type, Value
 from values import LARGEST, LEAST
 
 WIDE = {"BMPString": 2, "UniversalString": 4}
@@ -61,7 +62,7 @@ class PlainTypes(Constraints):
             why = "no implicit tag can stand here, so the word has no meaning: EXPLICIT is what compilers take it for"
             self.note(site, node, "tag", why, NEITHER, mode, node.mode)
             edits.append((node.number.b + 1, node.number.b + 2, mode))
-        return Lowered(emit(node.source, node.a, node.b, [*edits, (node.inner.a, node.inner.b, text)]))
+        return Lowered(node.emit(*edits, node.inner.by(text)))
 
     def portable(self, scope: Scope, node: Type, site: Site, name: str) -> Lowered:
         """A type's text for a module other than the one that it was written in."""
@@ -80,8 +81,7 @@ class PlainTypes(Constraints):
     def universal(self, scope: Scope, node: Tagged, site: Site, number: int, explicit: bool) -> Lowered:
         """A tag of the class UNIVERSAL: it goes where another tag replaces it, or where it is the type's own."""
         _, base, _ = self.base(scope, node.inner, tags=False)
-        name = base.word if isinstance(base, Structure) else base.name if isinstance(base, Plain) else ""
-        if explicit or not (site.implicit or NATURAL.get(name) == number):
+        if explicit or not (site.implicit or NATURAL.get(base.word) == number):
             raise self.hole(site, node, "universal", f"the tag [UNIVERSAL {number}] is the standard's own")
         self.note(site, node, "text", "the tag isn't sent, or is the type's own", old=f"[UNIVERSAL {number}]")
         return self.type(scope, node.inner, site)
@@ -89,14 +89,14 @@ class PlainTypes(Constraints):
     # types by their words
 
     def plain(self, scope: Scope, node: Plain, site: Site) -> Lowered:
-        if node.name in OPEN:
-            raise self.hole(site, node, "open", f"{node.name} holds a value of any type")
-        if node.name in OUTSIDE:
-            raise self.hole(site, node, OUTSIDE[node.name], f"{node.name} under its universal tag isn't in the profile")
-        if node.name == "ISO646String":
+        if node.word in OPEN:
+            raise self.hole(site, node, "open", f"{node.word} holds a value of any type")
+        if node.word in OUTSIDE:
+            raise self.hole(site, node, OUTSIDE[node.word], f"{node.word} under its universal tag isn't in the profile")
+        if node.word == "ISO646String":
             self.note(site, node, "string", "another name of the same type", new="VisibleString")
             return Lowered("VisibleString")
-        if node.name == "ENUMERATED":
+        if node.word == "ENUMERATED":
             return self.enumeration(scope, node, site)
         return Lowered(self.names_of(node, site, self.numbers(scope, node, site), {}))
 
@@ -126,7 +126,7 @@ class PlainTypes(Constraints):
         seen: set[str | int | None] = set()
         for item in node.items:
             number, text = numbers.get(item), ""
-            if item.name and node.name != "ENUMERATED" and is_needless(node, item, number, seen):
+            if item.name and node.word != "ENUMERATED" and is_needless(node, item, number, seen):
                 self.dropped.add(item)
                 self.note(site, item, "number", "a name says nothing of messages, and the guard doesn't take this one")
             elif item.name:
@@ -138,7 +138,7 @@ class PlainTypes(Constraints):
         tokens = node.source.tokens
         brace = next((k for k in range(node.a, node.b) if tokens[k].text == "{"), node.b)
         if not any(text for _, text in parts.values()):
-            return emit(node.source, node.a, brace, [])
+            return node.source.emit(node.a, brace)
         return brace_list(node, brace, parts)
 
     def one_item(self, item: Item, site: Site, number: int | None, write: int | None) -> str:
@@ -146,7 +146,7 @@ class PlainTypes(Constraints):
         edits = self.renamed(item, site, name[0].lower() + name[1:])
         if item.number is not None and number is not None:
             edits += self.renumbered(item.number, item, site, number)
-        text = emit(item.source, item.a, item.b, edits)
+        text = item.emit(*edits)
         return text if write is None or item.number is not None else f"{text}({write})"
 
     def renumbered(self, value: Value, node: Node, site: Site, number: int) -> list[Edit]:
@@ -155,28 +155,28 @@ class PlainTypes(Constraints):
         if written == str(number):
             return []
         self.note(site, node, "number", "the profile has no references here", new=str(number), old=written)
-        return [(value.a, value.b, str(number))]
+        return [value.by(str(number))]
 
     # strings and times under implicit tags
 
     def substitute(self, scope: Scope, node: Type, site: Site) -> Lowered | None:
         """What holds the contents of a type that is outside the profile, where an implicit tag hides its own."""
         way = list(self.way(scope, node, tags=False))
-        at = way[-1][1]
-        kind = OUTSIDE.get(at.name, "") if isinstance(at, Plain) else ""
-        if not isinstance(at, Plain) or not kind or kind == "external" and at.name != "EXTERNAL":
+        word = way[-1][1].word
+        kind = OUTSIDE.get(word, "")
+        if not kind or kind == "external" and word != "EXTERNAL":
             return None
         parts = [(there, part) for there, part, _ in reversed(way) if isinstance(part, Constrained)]
         held = [(there, constraint) for there, part in parts for constraint in part.constraints]
-        text = FORMS.get(at.name, "OCTET STRING")
+        text = FORMS.get(word, "OCTET STRING")
         if kind == "external":
             why = "EXTERNAL as its SEQUENCE, without a descriptor and without a single type"
             self.note(site, node, kind, why, NEITHER if held else TIGHTER, text)
             return self.aside(lambda: Lowered(text), site, "External")
         for there, constraint in held if kind == "string" else []:
             sizes = self.sizes(there, constraint.root) if not constraint.marked else None
-            text += "" if sizes is None else octet_sizes(sizes, at.name)
-        why = f"all contents that {at.name} can have, and others"
+            text += "" if sizes is None else octet_sizes(sizes, word)
+        why = f"all contents that {word} can have, and others"
         self.note(site, node, "time" if kind == "time" else "string", why, LOOSER, text)
         return Lowered(text)
 
@@ -200,7 +200,7 @@ def is_needless(node: Plain, item: Item, number: int | None, seen: set[str | int
     """Whether the guard wouldn't take a named number or bit: a second of its name or number, or a large one."""
     if number is None or spelled(item.name) in seen or number in seen:
         return number is not None
-    return not LEAST <= number <= (65_535 if node.name == "BIT STRING" else LARGEST)
+    return not LEAST <= number <= (65_535 if node.word == "BIT STRING" else LARGEST)
 
 
 def octet_sizes(sizes: Sizes, name: str) -> str:
@@ -221,7 +221,7 @@ def octet_sizes(sizes: Sizes, name: str) -> str:
 def brace_list(node: Node, brace: int, parts: Parts) -> str:
     """A type's text with its list in braces: the parts that have a text, commas between them, and comments."""
     tokens, at, is_pending = node.source.tokens, brace + 1, False
-    out = [emit(node.source, node.a, brace, []), tokens[brace].space, "{"]
+    out = [node.source.emit(node.a, brace), tokens[brace].space, "{"]
     last = max((a for a, (_, text) in parts.items() if text), default=-1)
     while at < node.b - 1:
         after, text = parts.get(at, (at + 1, ""))

@@ -50,7 +50,7 @@ class Cursor:
         return token.kind == "word" and token.text[0].islower()
 
     def fault(self, why: str) -> Fault:
-        return Fault.at(self.source, self.source.place(self.at), why)
+        return self.source.fault(self.at, why)
 
     def next(self) -> str:
         """Goes past a token, and says what it was."""
@@ -64,7 +64,7 @@ class Cursor:
 
     def take(self, *words: str) -> bool:
         """Goes past the words where they stand here."""
-        found = all(self.text(ahead) == word for ahead, word in enumerate(words))
+        found = self.text() == words[0] and all(self.text(ahead) == word for ahead, word in enumerate(words[1:], 1))
         self.at += len(words) * found
         return found
 
@@ -81,7 +81,7 @@ class Cursor:
         depth, begin = 0, self.at
         while depth > 0 or self.at == begin:
             if self.token().kind == "end":
-                raise Fault.at(self.source, self.source.place(begin), f"{self.tokens[begin].text} isn't closed")
+                raise self.source.fault(begin, f"{self.tokens[begin].text} isn't closed")
             depth += OPENING.get(self.next(), 0)
         return begin, self.at
 
@@ -289,13 +289,13 @@ class TypeReader(Cursor):
             if self.take("DEFINED"):
                 self.need("BY")
                 self.at += 1
-            return self.node(Plain, begin, name="ANY")
+            return self.node(Plain, begin, word="ANY")
         name = f"{word} {self.text(1)}" if (word, self.text(1)) in PAIRS or word == "INSTANCE" else word
         if name == word and word not in SINGLE and word != "ENUMERATED":
             return self.reference()
         self.at += name.count(" ") + 1 + (word == "INSTANCE")
         listed = word == "ENUMERATED" or self.text() == "{" and word in ("INTEGER", "BIT")
-        return self.node(Plain, begin, name=name, items=self.listed(self.item) if listed else [])
+        return self.node(Plain, begin, word=name, items=self.listed(self.item) if listed else [])
 
     def reference(self) -> Reference:
         begin, name, module, fields = self.at, self.text(), None, list[str]()

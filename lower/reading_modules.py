@@ -2,6 +2,8 @@
 
 from __future__ import annotations
 
+from functools import cache
+
 from reading import TypeReader
 from tokens import Fault, Source
 from tree import Definition, Import, Module, Span, Type
@@ -43,7 +45,7 @@ class ModuleReader(TypeReader):
         begin = self.at
         while not self.take(mark):
             if self.token().kind == "end":
-                raise Fault.at(self.source, self.source.place(begin), why)
+                raise self.source.fault(begin, why)
             self.at += 1
         return begin, self.at
 
@@ -70,7 +72,7 @@ class ModuleReader(TypeReader):
         start = self.at
         while not self.take(";"):
             if self.token().kind == "end":
-                raise Fault.at(self.source, self.source.place(begin), "; is missing after IMPORTS")
+                raise self.source.fault(begin, "; is missing after IMPORTS")
             if self.take("FROM"):
                 node.clauses.append(self.import_source(symbols, start))
                 node.imported |= {self.tokens[k].text: node.clauses[-1].module for k in symbols}
@@ -129,8 +131,8 @@ class ModuleReader(TypeReader):
         while self.token().kind != "end" and not (self.text() == "END" or assigned and self.begins_assignment()):
             assigned = self.next() == "::=" or assigned
         node.why = fault.why
-        start = self.source.line_starts[fault.line - 1] + fault.column - 1
-        node.why_at = next((k for k in range(node.a, self.at + 1) if self.tokens[k].start >= start), node.a)
+        found = (k for k in range(node.a, self.at + 1) if self.tokens[k].start >= fault.start)
+        node.why_at = next(found, node.a)
 
     def begins_assignment(self) -> bool:
         """Whether a line begins here with a word, and `::=` comes before another such line."""
@@ -179,17 +181,12 @@ def read_modules(source: Source) -> list[Module]:
     return ModuleReader(source).modules()
 
 
-TREES: dict[tuple[Source, int], Type | None] = {}
-
-
+@cache
 def type_at(span: Span) -> Type | None:
     """The type that tokens are, if they are one; the same tree each time."""
-    source, a, b = span
-    if (source, a) not in TREES:
-        reader = ModuleReader(source, a)
-        try:
-            tree: Type | None = reader.type()
-        except Fault:
-            tree = None
-        TREES[source, a] = tree if reader.at == b else None
-    return TREES[source, a]
+    reader = ModuleReader(*span[:2])
+    try:
+        tree = reader.type()
+    except Fault:
+        return None
+    return tree if reader.at == span[2] else None

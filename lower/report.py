@@ -5,12 +5,13 @@ from __future__ import annotations
 import json
 from collections import Counter
 from dataclasses import dataclass, field
+from typing import Any
 
-from job import CANT, LOOSER, NEITHER, SAME, Cause, Change, Output, join
+from job import CANT, LOOSER, NEITHER, SAME, Cause, Change, Output, join, reached
 from library import spelled
 from lowering import Job
 from tree import Definition
-from writing import Text, reached
+from writing import Text
 
 HEAD = """# What lowering costs
 
@@ -69,7 +70,7 @@ class Result:
     def collect(self) -> None:
         """Numbers the changes that messages reach, and joins their marks."""
         self.changes = [change for text in self.texts for out in text.outputs for change in out.changes]
-        self.changes.sort(key=lambda change: (change.source.path, change.line, change.column))
+        self.changes.sort(key=lambda change: tuple(where(change).values()))
         for number, change in enumerate(self.changes, 1):
             change.number, change.signed = number, self.job.bindings.signs(change)
         for message in (message for message in self.messages if message.out is not None):
@@ -102,10 +103,8 @@ def quoted(text: str) -> str:
     return json.dumps(text, ensure_ascii=False)
 
 
-def where(found: Change | Cause | Definition) -> dict[str, object]:
+def where(found: Change | Cause | Definition) -> dict[str, Any]:
     """The place in a file of a change, a cause, or what couldn't be read."""
-    if isinstance(found, Change):
-        return {"file": found.source.path, "line": found.line, "column": found.column}
     node, index = (found, found.why_at) if isinstance(found, Definition) else (found.node, found.node.a)
     line, column = node.source.place(index)
     return {"file": node.source.path, "line": line, "column": column}

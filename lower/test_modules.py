@@ -39,6 +39,14 @@ class Holes(Case):
         self.assertEqual((result.status, result.messages[0].mark), (0, "tighter"))
         self.assertIn("c SEQUENCE (SIZE (0)) OF NULL}", result.texts[0].text)
 
+    def test_holes_inside_a_choice_that_goes(self) -> None:
+        """What takes the last alternatives along is named too, so that the author sees where a type would help."""
+        body = "A ::= SEQUENCE {a B OPTIONAL} B ::= CHOICE {x ANY, y C} C ::= UTCTime"
+        draft = report.as_draft(lower([self.text(body)], "A", leave=True))
+        self.assertIn('"M.A.a" = "leave-out"', draft)
+        holes = [line.split(" ")[1] for line in draft.split("\n") if line.startswith("# M.")]
+        self.assertEqual(holes, ["M.B", "M.B.x", "M.C"])
+
     def test_draft_and_folder_in_one_call(self) -> None:
         """The draft leaves the hole out; what is written to the folder doesn't, as nobody has said so."""
         with tempfile.TemporaryDirectory() as folder, contextlib.redirect_stderr(io.StringIO()) as said:
@@ -84,6 +92,12 @@ class Modules(Case):
         self.assertEqual(texts["M"], expected)
         self.assertIn("EXPORTS B, C, F;", texts["N"])
         self.assertEqual(result.messages[0].mark, "same")
+
+    def test_messages_are_exported(self) -> None:
+        """A module of rules imports them, whatever the original exports."""
+        text = "M DEFINITIONS ::= BEGIN EXPORTS B; A ::= SEQUENCE {b B, c C} B ::= NULL C ::= INTEGER END"
+        self.assertIn("EXPORTS B, A;", lower([text], "A").texts[0].text)
+        self.assertIn("EXPORTS A;", lower([text.replace("EXPORTS B", "EXPORTS")], "A").texts[0].text)
 
     def test_comments_of_imports(self) -> None:
         """A comment behind a clause stays once, whether the next clause stays or goes."""

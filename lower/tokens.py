@@ -4,6 +4,7 @@ from __future__ import annotations
 
 import re
 from bisect import bisect
+from collections.abc import Iterable
 from dataclasses import dataclass, field
 from pathlib import Path
 
@@ -28,6 +29,7 @@ TOKEN = re.compile(
 )
 SPACE = re.compile(r"[\s\u00a0\ufeff]+|--(?:(?!--)[^\n\r])*(?:--|(?=[\n\r])|\Z)|/\*")
 NESTED = re.compile(r"/\*|\*/")
+Edit = tuple[int, int, str]
 
 
 @dataclass(frozen=True, slots=True)
@@ -40,9 +42,26 @@ class Token:
     start: int
 
 
+class Fault(Exception):
+    """Something wrong, at a place of a text where it has one."""
+
+    def __init__(self, why: str, source: Source | None = None, start: int = 0) -> None:
+        super().__init__(why)
+        self.why, self.source, self.start = why, source, start
+
+    def shown(self) -> str:
+        """The fault with its line and a caret below."""
+        if self.source is None:
+            return self.why
+        line, column = self.source.place_of(self.start)
+        head, number = f"{self.source.path}:{line}:{column}: {self.why}", f"{line:>6} | "
+        text = self.source.text.split("\n")[line - 1].expandtabs(1)
+        return f"{head}\n{number}{text}\n{' ' * (len(number) - 2)}| {' ' * (column - 1)}^"
+
+
 @dataclass(eq=False)
 class Source:
-    """A file of modules, with its tokens."""
+    """A text, with its tokens where it is one of modules."""
 
     path: str
     text: str
@@ -51,37 +70,38 @@ class Source:
     def __post_init__(self) -> None:
         self.line_starts = [0, *(found.end() for found in re.finditer("\n", self.text))]
 
-    def place(self, index: int) -> tuple[int, int]:
-        """Line and column of a token, from 1."""
-        return self.place_of(self.tokens[min(index, len(self.tokens) - 1)].start)
-
     def place_of(self, start: int) -> tuple[int, int]:
+        """Line and column of a character, from 1."""
         line = bisect(self.line_starts, start)
         return line, start - self.line_starts[line - 1] + 1
+
+    def place(self, index: int) -> tuple[int, int]:
+        return self.place_of(self.tokens[index].start)
+
+    def fault(self, index: int, why: str) -> Fault:
+        """A fault at a token."""
+        return Fault(why, self, self.tokens[min(index, len(self.tokens) - 1)].start)
 
     def between(self, a: int, b: int) -> str:
         """The text of the tokens from a up to b, on one line and without comments."""
         return " ".join(token.text for token in self.tokens[a:b])
 
+    def emit(self, a: int, b: int, edits: Iterable[Edit] = ()) -> str:
+        """The text of the tokens from a up to b, some of them replaced; comments before what goes stay."""
+        out: list[str] = []
+        at = a
+        for begin, end, text in [*sorted(edits, key=lambda edit: edit[:2]), (b, b, "")]:
+            tokens = enumerate(self.tokens[at:begin], at)
+            out += [(token.space if k > a else "") + token.text for k, token in tokens]
+            space = self.tokens[begin].space if a < begin < b else ""
+            if text or has_comment(space):
+                out.append(space + text)
+            at = end
+        return "".join(out)
 
-class Fault(Exception):
-    """Something wrong in a text, at a place."""
 
-    def __init__(self, why: str, path: str = "", line: int = 0, column: int = 0, text: str = "") -> None:
-        super().__init__(why)
-        self.why, self.path, self.line, self.column, self.text = why, path, line, column, text
-
-    @classmethod
-    def at(cls, source: Source, place: tuple[int, int], why: str) -> Fault:
-        return cls(why, source.path, *place, source.text.split("\n")[place[0] - 1])
-
-    def shown(self) -> str:
-        """The fault with its line and a caret below."""
-        if not self.path:
-            return self.why
-        head = f"{self.path}:{self.line}:{self.column}: {self.why}"
-        number = f"{self.line:>6} | "
-        return f"{head}\n{number}{self.text.expandtabs(1)}\n{' ' * (len(number) - 2)}| {' ' * (self.column - 1)}^"
+def has_comment(space: str) -> bool:
+    return "--" in space or "/*" in space
 
 
 def read_file(path: str) -> Source:
@@ -105,7 +125,7 @@ def cut(path: str, text: str) -> Source:
         found = TOKEN.match(text, at)
         if found is None and at < len(text):
             what = "string isn't closed" if text[at] in "\"'" else f"character {text[at]!r} can't stand here"
-            raise Fault.at(source, source.place_of(at), what)
+            raise Fault(what, source, at)
         kind, word = (str(found.lastgroup), found.group()) if found else ("end", "")
         source.tokens.append(Token(kind, word, text[begin:at], at))
         at += len(word)
@@ -118,7 +138,7 @@ def past_space(source: Source, at: int) -> int:
     while True:
         found = NESTED.search(source.text, at) if opened else SPACE.match(source.text, at)
         if found is None and opened:
-            raise Fault.at(source, source.place_of(opened[0]), "the comment that is opened here isn't closed")
+            raise Fault("the comment that is opened here isn't closed", source, opened[0])
         if found is None:
             return at
         if found.group() == "/*":

@@ -4,7 +4,7 @@ from __future__ import annotations
 
 from dataclasses import dataclass, field
 
-from tokens import Source
+from tokens import Edit, Source
 
 Span = tuple[Source, int, int]
 
@@ -17,6 +17,13 @@ class Node:
 
     def text(self) -> str:
         return self.source.between(self.a, self.b)
+
+    def emit(self, *edits: Edit) -> str:
+        return self.source.emit(self.a, self.b, edits)
+
+    def by(self, text: str) -> Edit:
+        """An edit that puts a text in the place of this."""
+        return self.a, self.b, text
 
 
 @dataclass(eq=False, kw_only=True)
@@ -74,7 +81,9 @@ class Constraint(Node):
 
 @dataclass(eq=False, kw_only=True)
 class Type(Node):
-    pass
+    """`word` is that of a type by words, of a SEQUENCE, SET or CHOICE, and of a list; else it is empty."""
+
+    word: str = ""
 
 
 @dataclass(eq=False, kw_only=True)
@@ -103,7 +112,6 @@ class Item(Node):
 class Plain(Type):
     """A type by its words alone, with the list of names that follows it; also ANY and INSTANCE OF."""
 
-    name: str
     items: list[Item] = field(default_factory=list)
 
 
@@ -127,7 +135,6 @@ class Component(Node):
 class Structure(Type):
     """A SEQUENCE, SET or CHOICE with its list and the `...` in it; `open` is the token of its brace."""
 
-    word: str
     open: int
     items: list[Component]
     marks: list[Node]
@@ -135,7 +142,6 @@ class Structure(Type):
 
 @dataclass(eq=False, kw_only=True)
 class ListOf(Type):
-    word: str
     inner: Type
     size: Constraint | None
     name: int | None

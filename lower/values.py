@@ -4,11 +4,11 @@ from __future__ import annotations
 
 import re
 
-from job import CannotGo, NoValue, Scope, Typed, emit
+from job import CannotGo, NoValue, Scope, Typed
 from library import spelled
 from outputs import Outputs
 from reading_modules import ModuleReader
-from tree import ListOf, Node, Plain, Reference, Structure, Value
+from tree import ListOf, Node, Plain, Reference, Structure, Type, Value
 
 Arcs = list[tuple[str, int]]
 FIRST_ARCS = {"itu-t": 0, "ccitt": 0, "itu-r": 0, "iso": 1, "joint-iso-itu-t": 2, "joint-iso-ccitt": 2}
@@ -45,7 +45,7 @@ class Values(Outputs):
             for item in (item for item in held if item.name == node.name):
                 return f"{spelled(node.name)} : {self.value(scope, node.inner, (there, item.type))}"
             raise NoValue(f"{node.name} is no alternative")
-        is_known = isinstance(base, Plain) and fits(node, base.name)
+        is_known = fits(node, base.word)
         if not (is_known or isinstance(base, Reference)) or node.form not in ("number", "bits", "word", "string"):
             raise NoValue(f"{node.text()[:60]} is no value of the type")
         if node.form == "number":
@@ -73,9 +73,8 @@ class Values(Outputs):
             if node.form not in ("name", "field"):
                 return scope, node
             there, base, _ = self.base(scope, scope.governor) if scope.governor is not None else (scope, None, None)
-            items = base.items if isinstance(base, Plain) else []
-            numbers = [item.number for item in items if item.name == node.name and item.number is not None]
-            scope, node = (there, numbers[0]) if numbers else self.referred(scope, node)
+            number = number_of_name(base, node)
+            scope, node = self.referred(scope, node) if number is None else (there, number)
         raise NoValue(f"{node.text()} contains itself")
 
     def number(self, scope: Scope, node: Value) -> int:
@@ -87,11 +86,11 @@ class Values(Outputs):
 
     def named(self, scope: Scope, node: Value, governor: Typed) -> str:
         there, base = governor
-        for item in base.items if isinstance(base, Plain) and base.name in ("INTEGER", "ENUMERATED") else []:
+        for item in base.items if isinstance(base, Plain) and base.word in ("INTEGER", "ENUMERATED") else []:
             if node.module is None and item.name == node.name:
                 dropped = item in self.dropped and item.number is not None
                 return str(self.number(there, item.number)) if dropped and item.number else spelled(node.name)
-        if not isinstance(base, Plain) or base.name != "INTEGER":
+        if base.word != "INTEGER":
             return self.value(*self.referred(scope, node), governor)
         found = str(within_limits(self.number(scope, node)))
         definition = self.library.find(scope.module, node.name, node.module)
@@ -108,11 +107,11 @@ class Values(Outputs):
 
     def braces(self, scope: Scope, node: Value, governor: Typed) -> str:
         there, base = governor
-        if isinstance(base, Plain) and base.name == "OBJECT IDENTIFIER":
+        if base.word == "OBJECT IDENTIFIER":
             return self.identifier(scope, node)
-        if isinstance(base, Plain) and base.name == "BIT STRING":
+        if base.word == "BIT STRING":
             return bits(node)
-        if isinstance(base, Plain) and base.name.endswith("String"):
+        if base.word.endswith("String"):
             return string_in_braces(node)
         parts, walk = [], ModuleReader(node.source, node.a + 1)
         while walk.at < node.b - 1:
@@ -149,7 +148,7 @@ class Values(Outputs):
             raise NoValue(f"{node.text()} has fewer than two arcs")
         text = node.text().replace(" ( ", "(").replace(" )", ")")
         if re.fullmatch(r"\{( (\d+|[a-z][A-Za-z0-9-]*\(\d+\)))+ \}", text):
-            return emit(node.source, node.a, node.b, [])
+            return node.emit()
         return "{" + " ".join(f"{name}({arc})" if name else str(arc) for name, arc in arcs) + "}"
 
     def arcs(self, scope: Scope, node: Value, deep: int = 0) -> Arcs:
@@ -181,6 +180,12 @@ class Values(Outputs):
         if [arc for _, arc in before] == [0, 0] and len(name) == 1:
             known = {name: ord(name) - ord("a") + 1}
         return [(name, known[name])] if name in known else []
+
+
+def number_of_name(base: Type | None, node: Value) -> Value | None:
+    """The number, as it is written, of the item or named number of a type that a value is by its name."""
+    items = base.items if isinstance(base, Plain) and node.form == "name" and node.module is None else []
+    return next((item.number for item in items if item.name == node.name), None)
 
 
 def within_limits(number: int) -> int:
@@ -216,17 +221,18 @@ def bits(node: Node) -> str:
 
 
 def string_in_braces(node: Node) -> str:
-    """A quadruple or tuple of a character that a string in quotes can have; strings one after another."""
-    text, inner = "", node.source.between(node.a + 1, node.b - 1)
-    for part in inner.replace("{", "").split("}" if "{" in inner else "\0"):
-        words = part.replace(",", " ").split()
-        if words and words[0].startswith('"'):
-            text += unquoted(" ".join(words))
-            continue
-        numbers = [int(word) for word in words if word.isdigit()]
-        code = numbers[-1] if len(numbers) == 4 and numbers[:3] == [0, 0, 0] else 0
-        code = numbers[-1] + 16 * numbers[0] if len(numbers) == 2 else code
-        if words and (len(numbers) != len(words) or not 32 <= code < 127):
+    """The string in quotes that strings and characters by number make (X.680 41.8): {4, 1} and {0, 0, 0, 65} are A."""
+    text, numbers = "", list[int]()
+    for token in node.source.tokens[node.a : node.b]:
+        code = 32
+        if token.kind == "string":
+            text += unquoted(token.text)
+        elif token.kind == "number":
+            numbers.append(int(token.text))
+        elif token.text == "}" and numbers:
+            in_table = 16 * numbers[0] + numbers[-1] if len(numbers) == 2 else 0
+            code = numbers[-1] if numbers[:-1] == [0, 0, 0] else in_table
+            text, numbers = text + chr(code), []
+        if token.kind == "word" or not 32 <= code < 127:
             raise NoValue(f"{node.text()[:60]} has no notation in quotes")
-        text += chr(code) if words else ""
     return quoted(text)

@@ -2,11 +2,15 @@
 
 from __future__ import annotations
 
+import re
 from dataclasses import dataclass, field
 
-from job import Edit, Output, emit, has_comment
+from job import Output, reached
 from library import spelled
+from tokens import Edit, has_comment
 from tree import Import, Module
+
+PLAIN = re.compile(r"\{(?: (?:[0-9]+|\)|\((?= [0-9])|[a-z][A-Za-z0-9-]*))+ \}")
 
 
 @dataclass
@@ -19,21 +23,12 @@ class Text:
     text: str = ""
 
 
-def reached(roots: list[Output]) -> list[Output]:
-    """All that some outputs use, themselves first."""
-    found = dict.fromkeys(roots)
-    todo = list(roots)
-    while todo:
-        new = [used for used in todo.pop().uses if used not in found]
-        found |= dict.fromkeys(new)
-        todo += new
-    return list(found)
-
-
 def texts(modules: list[Module], roots: list[Output]) -> list[Text]:
-    """The texts of all modules that some outputs reach."""
+    """The texts of all modules that some outputs reach; these are exported, since rules are made of them."""
     held = {module: Text(module, spelled(module.name)) for module in modules}
     needed: dict[Module, set[str]] = {}
+    for out in roots:
+        needed.setdefault(out.module, set()).add(out.name)
     for out in reached(roots):
         held[out.module].outputs.append(out)
         for used in out.imports.values():
@@ -69,19 +64,12 @@ def header(module: Module) -> str:
         edits.append((module.a, module.a + 1, spelled(module.name)))
     if module.identifier is not None and not plain_identifier(module, *module.identifier):
         edits.append((*module.identifier, ""))
-    return emit(module.source, module.a, module.body, edits)
+    return module.source.emit(module.a, module.body, edits)
 
 
 def plain_identifier(module: Module, a: int, b: int) -> bool:
     """Whether what is in braces after a module's name is as the profile has it: names, numbers, names with numbers."""
-    tokens = module.source.tokens[a:b]
-    if len(tokens) < 3 or tokens[0].text != "{":
-        return False
-    for before, token in zip(tokens, tokens[1:-1]):
-        fits = token.kind == "number" or token.text in "()" or token.kind == "word" and token.text[0].islower()
-        if not fits or "_" in token.text or before.text == "(" and token.kind != "number":
-            return False
-    return True
+    return PLAIN.fullmatch(module.source.between(a, b)) is not None
 
 
 def exports(text: Text, needed: set[str]) -> str:
@@ -89,7 +77,7 @@ def exports(text: Text, needed: set[str]) -> str:
         return ""
     source, (a, b) = text.module.source, text.module.exports
     if source.tokens[a + 1].text == "ALL":
-        return source.tokens[a].space + emit(source, a, b, [])
+        return source.tokens[a].space + source.emit(a, b)
     names = {out.name for out in text.outputs}
     symbols = [(token.space, spelled(token.text)) for token in source.tokens[a + 1 : b] if token.kind == "word"]
     kept = [(space, name) for space, name in symbols if name in names]
@@ -129,4 +117,4 @@ def import_source(module: Module, clause: Import) -> str:
     end = next((k + 1 for k in range(a, b) if tokens[k].text == "}"), a)
     start = end if plain_identifier(module, a, end) else a
     edits += [(start, b, "")] if b > start else []
-    return tokens[word].space + emit(module.source, word, clause.b, edits)
+    return tokens[word].space + module.source.emit(word, clause.b, edits)

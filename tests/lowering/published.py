@@ -1,5 +1,6 @@
 """What derguard-lower makes of published modules: how many go as they stand, lowered, and with holes left out."""
 import collections
+import concurrent.futures
 import dataclasses
 import json
 import pathlib
@@ -141,21 +142,22 @@ def summary(results: dict[str, dict[str, Found]]) -> tuple[str, int]:
     return "\n".join(lines), len(wrong)
 
 
-def run(cache: pathlib.Path, only: list[str], words: seeded.Words) -> int:
-    """Fetches, measures and prints; the status is 1 where something crashed, was refused, was slow or differs."""
+def run(cache: pathlib.Path, only: list[str], words: seeded.Words, jobs: int) -> int:
+    """Fetches, measures so many modules at a time and prints; the status is 1 where something crashed, was refused, was
+    slow or differs."""
     outcome = seeded.Outcome()
     corpus.fetch(cache)
     groups, known = corpus.specifications(cache)
     groups = [group for group in groups if not only or group.name in only]
+    wanted = [(group, module) for group in groups for module in group.modules]
+    needed = [corpus.needed(module, known[group.name]) for group, module in wanted]
+    folders = [cache / "work" / group.name.replace(" ", "-") / module.name for group, module in wanted]
     results: dict[str, dict[str, Found]] = {}
-    for group in groups:
-        for module in group.modules:
-            place = f"{group.name}/{module.name}"
-            modules = corpus.needed(module, known[group.name])
-            folder = cache / "work" / group.name.replace(" ", "-") / module.name
-            found = measured(module, modules, folder)
+    with concurrent.futures.ThreadPoolExecutor(jobs) as pool:
+        came = pool.map(measured, [module for _, module in wanted], needed, folders)
+        for (group, module), modules, folder, found in zip(wanted, needed, folders, came):
+            place, faults = f"{group.name}/{module.name}", {one.fault for one in found.values() if one.fault}
             whole = [form for form in FORMS if found[form].whole]
-            faults = {one.fault for one in found.values() if one.fault}
             print(f"{place}: {', '.join(whole) or '-'} {', '.join(faults)}".rstrip(), flush=True)
             if NOTHING not in faults:
                 results[place] = found

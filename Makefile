@@ -40,10 +40,10 @@ help: ## lists these commands
 try: ## a first look without proof: builds the program, and runs it on messages
 	@tools/try
 
-quick: ## what can be told of a change without proof, in minutes: after each edit
+quick: ## tests a change without proof, in minutes: after each edit
 	@tools/quick
 
-test: ## everything, as the gate does: proofs, edits, rows, the program as a process
+test: ## tests everything, as the gate does: proofs, edits, rows, the program as a process
 	@ALLOW_MISSING=$(ALLOW_MISSING) tools/needs
 	@ALLOW_MISSING=$(ALLOW_MISSING) .ci/run
 
@@ -58,10 +58,10 @@ edits: ## CRATE=..: tries the edits of a crate that the prover must refuse
 unproved: ## builds the program without proof, as out/unproved/derguard
 	@tools/try --keep
 
-bench: ## speed and room, as bench/figures.md has them
+bench: ## measures speed and memory, as bench/figures.md has them
 	bench/run
 
-packages: ## what the gate takes besides the toolchain, and what is missing here
+packages: ## lists what the gate needs besides the toolchain, and what is missing here
 	@tools/packages
 
 library: ## proves and builds the library for C

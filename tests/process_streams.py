@@ -118,6 +118,34 @@ def devices(trial: Trial) -> None:
     trial.compare("standard error that is closed", got, 3, one)
 
 
+def never_blocking(trial: Trial) -> None:
+    """Descriptors that don't block (O_NONBLOCK): what isn't there yet, and room that isn't, is waited for."""
+    one = one_frame()
+    ends = os.pipe()
+    os.set_blocking(ends[0], False)
+    pipes = {"cwd": TOP, "stdout": subprocess.PIPE, "stderr": subprocess.PIPE}
+    process = subprocess.Popen([PROGRAM, "run", POLICY], stdin=ends[0], **pipes)
+    os.close(ends[0])
+    for part in (one[:9], one[9:]):
+        time.sleep(0.2)
+        os.write(ends[1], part)
+    os.close(ends[1])
+    out, err = process.communicate(timeout=60)
+    trial.compare("an input that doesn't block", Answer(process.returncode, out, err), 0, one)
+    # More than a pipe holds, with a reader that is late.
+    many, ends = trial.file("many", one * 6000), os.pipe()
+    os.set_blocking(ends[1], False)
+    with open(many, "rb") as stream:
+        how = {"cwd": TOP, "stdin": stream, "stdout": ends[1], "stderr": subprocess.PIPE}
+        process = subprocess.Popen([PROGRAM, "run", POLICY], **how)
+    os.close(ends[1])
+    time.sleep(0.5)
+    with open(ends[0], "rb") as reader:
+        out = reader.read()
+    err = process.stderr.read()
+    trial.compare("an output that doesn't block", Answer(process.wait(60), out, err), 0, one * 6000)
+
+
 def many_frames(trial: Trial) -> None:
     """Many frames that pass, in constant memory: blocks of a megabyte, 64 of them or as many as DERGUARD_BLOCKS says,
     in 64 megabytes of addresses."""

@@ -6,9 +6,10 @@ import shutil
 import subprocess
 
 from process import POLICY, Trial, run
-from wire import EXAMPLES, PASSES, PROGRAM, STAYS, TOP, Answer
+from wire import EXAMPLES, PASSES, PROGRAM, STAYS, TOP, Answer, has_sanitizer
 
 ROUTE = ["--from", "north", "--to", "south", "--message", "order"]
+ZERO = "/dev/zero"
 COMMANDS = ("", "check", "decide", "show", "encode", "test", "run", "ask", "mux")
 BUILT_IN = "pass\nnot-allowed low First:3:18 $\npass\nundecodable BooleanContents at 5 $.urgent\n"
 BOTH_FAIL = "not-allowed small Orders:8:45 $.qty, wide Orders:9:44 $.qty\n"
@@ -44,6 +45,32 @@ def texts(trial: Trial) -> None:
     shutil.copy(EXAMPLES / "orders.asn1", trial.folder)
     trial.compare("modules beside the policy", run("check", alone), 0, "ok: messages 0, rules 0\n")
     trial.compare("a folder", run("check", trial.folder), 2, "", f"derguard: cannot read {trial.folder}\n")
+
+
+def obstacles(trial: Trial) -> None:
+    """What is in the way at a path, as the system tells it."""
+    last = "Nothing can be read at this path. Module files are looked for in the folder of the policy."
+    lost = trial.folder / "lost.toml"
+    lost.symlink_to(trial.folder / "nowhere.toml")
+    found = {trial.folder / "none.toml": "There is no file.", trial.folder: "There is a folder in place of a file.",
+             lost: "There is a link, and nothing where it leads."}
+    for path, said in found.items():
+        wanted = f"derguard: cannot read {path}\n  {said}\n  {last}\n"
+        trial.compare(said, run("check", path, "--explain"), 2, "", wanted)
+
+
+def endless(trial: Trial) -> None:
+    """Files without an end: no more is read of one than it may have, and an octet."""
+    (trial.folder / "zero.asn1").symlink_to(ZERO)
+    module = trial.file("zero.toml", 'modules = ["zero.asn1"]\n')
+    trial.compare("an endless module", run("check", module), 2, "", "derguard: L7 TextTooLong 1\n")
+    got = run("show", POLICY, "--message", "order", "--der", ZERO)
+    trial.compare("an endless message", got, 2, "", "derguard: message too long\n")
+    if has_sanitizer():
+        trial.leave_out("an endless policy", "an unproved program takes too long for 64 MiB")
+        return
+    for words in (["check", ZERO], ["test", POLICY, ZERO]):
+        trial.compare(f"endless: {words[0]}", run(*words), 2, "", f"derguard: too large {ZERO}\n")
 
 
 def version(trial: Trial) -> None:

@@ -4,6 +4,7 @@ from __future__ import annotations
 import contextlib
 import io
 import pathlib
+import socket
 import sys
 import unittest
 
@@ -39,6 +40,17 @@ class Wire(unittest.TestCase):
 
     def test_a_free_port_is_free(self) -> None:
         self.assertGreater(wire.free_port(), 1023)
+
+    def test_a_port_that_is_kept_is_left_to_who_names_it(self) -> None:
+        with wire.hold("127.0.0.1") as held:
+            port = held.getsockname()[1]
+            self.assertFalse(wire.is_listening("127.0.0.1", port))
+            with socket.socket() as other, self.assertRaises(OSError):
+                other.bind(("127.0.0.1", port))
+            with socket.create_server(("127.0.0.1", port)):  # it allows the reuse of its address
+                self.assertTrue(wire.is_listening("127.0.0.1", port))
+                self.assertFalse(wire.is_listening("127.0.0.2", port))
+            self.assertFalse(wire.is_listening("127.0.0.1", port))
 
 
 class Counting(unittest.TestCase):

@@ -13,6 +13,7 @@ import pathlib
 import signal
 import socket
 import subprocess
+import sys
 import time
 from collections.abc import Callable, Iterator
 from typing import Any, NamedTuple
@@ -31,6 +32,8 @@ STAYS = "300E80010581010082010BA403020107"
 # The longest message and the longest piece of a record.
 LONGEST = 1_048_576
 PIECE, END, RELOAD = 0, 1, 2
+# The state of a socket that accepts connections, as /proc/net/tcp has it.
+LISTEN = "0A"
 UNIVERSAL, APPLICATION, CONTEXT = 0x00, 0x40, 0x80
 
 
@@ -151,6 +154,26 @@ def free_port() -> int:
         return listener.getsockname()[1]
 
 
+def hold(address: str, port: int = 0) -> socket.socket:
+    """Keeps a port of an address, any one where none is said, from whatever takes a free one: only who names it, and
+    allows its reuse as socat and HAProxy do, can listen there."""
+    held = socket.socket()
+    held.setsockopt(socket.SOL_SOCKET, socket.SO_REUSEADDR, 1)
+    try:
+        held.bind((address, port))
+    except OSError:
+        held.close()
+        raise
+    return held
+
+
+def is_listening(address: str, port: int, process: int | str = "self") -> bool:
+    """Whether something accepts connections at a port, in the network of a process."""
+    number = int.from_bytes(socket.inet_aton(address), sys.byteorder)
+    lines = pathlib.Path(f"/proc/{process}/net/tcp").read_text().splitlines()[1:]
+    return [f"{number:08X}:{port:04X}", LISTEN] in ([line.split()[1], line.split()[3]] for line in lines)
+
+
 def waits_until(holds: Callable[[], bool], seconds: float = 60) -> bool:
     """Whether something comes to hold within so many seconds."""
     until = time.monotonic() + seconds
@@ -167,7 +190,7 @@ def call(words: list[Any], stream: bytes = b"", seconds: float = 300, **how: Any
 
 def heed_signals() -> None:
     """What whoever calls this ignores, as nohup does, isn't ignored by the program."""
-    for number in (signal.SIGHUP, signal.SIGTERM, signal.SIGINT):
+    for number in (signal.SIGHUP, signal.SIGTERM, signal.SIGINT, signal.SIGUSR1, signal.SIGUSR2):
         signal.signal(number, signal.SIG_DFL)
 
 

@@ -1,6 +1,8 @@
 """Tests of the scripts in tools/, on small texts."""
 from __future__ import annotations
 
+import contextlib
+import io
 import pathlib
 import sys
 import tempfile
@@ -189,6 +191,18 @@ class Costs(unittest.TestCase):
             costs.FIGURES.write_text("# a comment\nlow 5 1.5 2\n")
             self.assertEqual(costs.above("low"), ["middle", "top"])
             self.assertEqual(costs.costs(), {"low": costs.Cost(5, 1.5, 2)})
+
+    def test_a_crate_without_a_line_is_named_and_a_line_without_a_crate_is_wrong(self) -> None:
+        costs = script("tools/costs")
+        known = {"low": costs.Cost(5, 1.5, 2)}
+        out, err = io.StringIO(), io.StringIO()
+        with contextlib.redirect_stdout(out), contextlib.redirect_stderr(err):
+            self.assertEqual(costs.checked(known, ["low", "top"]), 0)
+            self.assertEqual(costs.checked(known, ["top"]), 1)
+        self.assertEqual(out.getvalue(), "tools/costs.txt has low, and crates.txt doesn't\n")
+        self.assertTrue(err.getvalue().endswith("costs.txt): top\n"))
+        with self.assertRaises(costs.BadLine):
+            costs.cost_in(3, "low 5 1.5")
 
 
 class Definitions(unittest.TestCase):

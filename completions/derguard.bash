@@ -46,9 +46,9 @@ _derguard() {
                 if [ "$command" = check ]; then word='--explain --strict --help'; fi
                 if [ "$command" = run ] || [ "$command" = mux ]; then word='--verbose --help'; fi
                 if [ "$command" = decide ]; then word='--from --to --message --der --frame --link --explain --help'; fi
-                if [ "$command" = show ]; then word='--message --der --frame --link --help'; fi
+                if [ "$command" = show ]; then word='--message --der --frame --link --capture --help'; fi
                 if [ "$command" = encode ]; then word='--message --from --to --der --help'; fi
-                if [ "$command" = test ]; then word='--cover --help'; fi
+                if [ "$command" = test ]; then word='--cover --explain --help'; fi
                 mapfile -t COMPREPLY < <(compgen -W "$word" -- "$current")
             elif [ -z "$policy" ] || [ "$command" = test ]; then
                 compopt -o filenames 2> /dev/null

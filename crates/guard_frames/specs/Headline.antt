@@ -1,4 +1,4 @@
--- The headline, whole: which frames of a stream go out and what is reported of each other one, by the texts of modules
+-- The headline, whole: which frames of a stream go out and what is reported of every other one, by the texts of modules
 -- and of a policy. It is the page to read first. Each definition that it names says one thing:
 --
 --   what the texts say     `SayPolicy`: `Accepts` of guard_schema (X.680), `Loads` of guard_policy
@@ -25,7 +25,8 @@ use Rattle.guard_frames.specs.OfPolicy.{route_of}
 use Rattle.guard_frames.specs.Texts.{SayPolicy}
 
 -- The frame has three names and a message. What the message encodes in DER is a value of the type that is declared for
--- its name; some rule that allows on this route has the value, and no rule that denies there has it.
+-- its name; some rule that allows on this route has the value, and no rule that denies there has it. `drop 4` takes off
+-- the four octets of a frame's length.
 abbrev pub MayGo : AbstractPolicy → List ℕ → Type 0
 MayGo p frame = (b : AbstractBody) × IsBody (drop 4 frame) b
     × (t : AbstractType) × (v : AbstractValue)
@@ -47,7 +48,7 @@ IsLineOf p n frame line =
     ((b : AbstractBody) × IsBody (drop 4 frame) b × IsLineOfBody p n b line)
     ⊎ (((b : AbstractBody) → IsBody (drop 4 frame) b → ⊥) × (line ≡ decimal n ++ codes " bad-header\n"))
 
--- The frames, numbered on from n: each that may go is out, octet by octet, and of each other one its line is reported.
+-- The frames, numbered on from n: each that may go is out, octet by octet, and of every other one its line is reported.
 abbrev pub Guards : AbstractPolicy → ℕ → List (List ℕ) → List ℕ → List ℕ → Type 0
 Guards p n [] out reports = (out ≡ []) × (reports ≡ [])
 Guards p n (frame ∷ frames) out reports =

@@ -25,8 +25,8 @@ pub record RunsToEnd (d : Decision) (read : List ℕ) (totals : Totals) (added :
   pub all : RunsAll d read added (λ rest. rest ≡ [])
   pub counts : Counts all.outcomes totals
 
--- A length that no frame may have, at which reading stops: after its first three octets no more was read than one piece
--- of 65,536.
+-- A length that no frame may have, at which reading stops: the last octet of the length came in the piece that was read
+-- last, of at most 65,536.
 pub record IsFoundTooLong (rest : List ℕ) : Type 0 where
   pub too_long : IsTooLong rest
   pub at_once : length rest < 4 + 65536

@@ -1,4 +1,5 @@
--- What comes of a stream of frames that ask what becomes of them. With Answered.antt this is the page to read of `ask`.
+-- What comes of a stream of frames that ask: a line answers each, with what would become of it. With Answered.antt this
+-- is the page to read of `ask`.
 use Rattle.std.specs.Prelude.{◌≡◌, ◌⊎◌, ℕ, List}
 use Rattle.guard_policy.specs.Policies.{AbstractPolicy}
 use Rattle.guard_frames.specs.declared.running.RunFault.{RunFault}

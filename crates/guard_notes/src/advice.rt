@@ -1,5 +1,5 @@
-//! The words on what to do about a fault of modules, by the fault and the text that has it. Rows show them, and no
-//! contract: it says that they are lines of words and where they come.
+//! The words on what to do about a fault of modules, by the fault and the text that has it. Rows show most of them. The
+//! contract says that they are lines of words and where they come, and not which.
 use crate::left_out::{
     LOWERED, form_of_character, form_of_unexpected, form_of_value, more_of_word,
 };

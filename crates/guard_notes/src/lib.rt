@@ -4,7 +4,7 @@
 //! |---|---|---|
 //! | What comes after the line of a fault? | `explaining.rt` (`explain_schema`, `explain_policy`) | `specs/Explaining.antt` |
 //! | Where is each numbered fault? | `notes.rt` | `specs/Notes.antt` |
-//! | Which words say what to do? | `advice.rt`, `policy_advice.rt`, of forms that are left out `left_out.rt` | none, rows show them |
+//! | Which words say what to do? | `advice.rt`, `policy_advice.rt`, of forms that are left out `left_out.rt` | none; rows show most of them |
 //! | Of which part is too much asked? | `crowding.rt` | none, rows show it |
 //! | How is a place shown? | `sources.rt` | `specs/Sources.antt` |
 //! | How is a line shown with a mark under a column? | `marking.rt` | `specs/Marking.antt` |

@@ -9,7 +9,7 @@ use guard_tables::TableFault;
 pub fn policy_advice<'a>(fault: &PolicyFault, said: &str, crowding: &'a str) -> Advice<'a> {
     match fault {
         PolicyFault::Toml => words(
-            "The policy is no document of TOML. Look for a missing quote, bracket or equals sign.",
+            "The text is no document of TOML. Look for a missing quote, bracket or equals sign.",
         ),
         PolicyFault::UnknownKey(_, _) => words(
             "The entry has a key that says nothing. Remove or mend it; docs/POLICY.md has the keys.",

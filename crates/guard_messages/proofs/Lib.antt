@@ -6,3 +6,7 @@ pub mod KeptOctets
 pub mod LinkedFrames
 pub mod MessageLaws
 pub mod CapturedFrames
+pub mod Dues
+pub mod Headers
+pub mod SoundParts
+pub mod Spots

@@ -20,7 +20,8 @@ use Rattle.guard_files.specs.Files.{Told}
 use Rattle.guard_files.specs.Bodies.{route_body}
 use Rattle.guard_files.specs.Reading.{IsPolicyAt, IsNoPolicyAt}
 use Rattle.guard_files.specs.Answers.{AbstractAnswer}
-use Rattle.guard_messages.specs.HeaderNotes.{header_note}
+use Rattle.guard_messages.specs.HeaderNotes.{spot_note}
+use Rattle.guard_messages.specs.Questions.{AbstractSpot}
 use Rattle.guard_messages.specs.Reasons.{ExplainsVerdict}
 use Rattle.guard_messages.specs.RuleTypes.{AbstractGrounds}
 
@@ -84,11 +85,10 @@ IsHeldExplained told path held a =
     (text : List ℕ) × (files : List (List ℕ)) × (modules : List (List ℕ)) × AreTextsOf told path text files modules
     × IsExplainedOver (sources path files modules) text held a
 
--- and where the octets of a frame aren't three names and a message, why below that
-abbrev pub IsFoundExplained : Told → List ℕ → Option AbstractBody → List ℕ → AbstractAnswer → Type 0
-IsFoundExplained told path (Some b) octets a = IsHeldExplained told path (Some b) a
-IsFoundExplained told path None octets a =
-    (shown : AbstractAnswer) × IsHeldExplained told path None shown × (a.out ≡ shown.out ++ header_note octets)
+-- and below that the names in the octets of a frame, or why they aren't there
+abbrev pub IsFoundExplained : Told → List ℕ → AbstractSpot → Option AbstractBody → List ℕ → AbstractAnswer → Type 0
+IsFoundExplained told path spot held octets a =
+    (shown : AbstractAnswer) × IsHeldExplained told path held shown × (a.out ≡ shown.out ++ spot_note spot held octets)
     × (a.status ≡ shown.status)
 
 -- of the octets that the digits write

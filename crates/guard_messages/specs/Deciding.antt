@@ -38,15 +38,17 @@ GivesWritten true told path route digits =
     GivesExplained (IsDecidedExplained told path route digits) (IsUndecidedExplained told path digits)
 
 -- which these octets hold
-abbrev pub GivesHeld : Bool → Told → List ℕ → Option AbstractBody → List ℕ → Device → Device → ℕ → Type 0
-GivesHeld false told path held octets = Gives (IsHeldDecided told path held) (IsNoPolicyAt told path)
-GivesHeld true told path held octets = GivesExplained (IsFoundExplained told path held octets) (IsExplained told path)
+abbrev pub GivesHeld : Bool → Told → List ℕ → AbstractSpot → Option AbstractBody → List ℕ → Device → Device → ℕ
+    → Type 0
+GivesHeld false told path spot held octets = Gives (IsHeldDecided told path held) (IsNoPolicyAt told path)
+GivesHeld true told path spot held octets =
+    GivesExplained (IsFoundExplained told path spot held octets) (IsExplained told path)
 
 abbrev pub DecidesAt : AbstractPlace → Told → AbstractQuestion → Input → Device → Device → ℕ → Type 0
 DecidesAt (written digits) told q input out err status =
     IsUnread input × GivesWritten q.explain told q.policy (asked_route q) digits out err status
 DecidesAt (elsewhere spot) told q input out err status =
-    AnswersFound (λ later octets. GivesHeld q.explain later q.policy (held_in (asked_route q) spot octets) octets)
+    AnswersFound (λ later octets. GivesHeld q.explain later q.policy spot (held_in (asked_route q) spot octets) octets)
     told spot input out err status
 DecidesAt nowhere told q input out err status = TellsUnasked input out err status
 
@@ -56,17 +58,20 @@ Decides told q input out err status = DecidesAt (decide_place q) told q input ou
 -- ---- show
 
 -- under the policy at the path
-abbrev pub IsHeldShown : Told → List ℕ → Option AbstractBody → AbstractAnswer → Type 0
-IsHeldShown told path held a =
-    (p : AbstractPolicy) × IsPolicyAt told path p × OfHeld (λ route octets. ShowsMessage p route.message octets) held a
+abbrev pub IsHeldShown : Bool → Told → List ℕ → Option AbstractBody → AbstractAnswer → Type 0
+IsHeldShown explain told path held a =
+    (p : AbstractPolicy) × IsPolicyAt told path p
+    × OfHeld (λ route octets. ShowsMessage explain p route.message octets) held a
 
 abbrev pub ShowsAt : AbstractPlace → Told → AbstractQuestion → Input → Device → Device → ℕ → Type 0
 ShowsAt (written digits) told q input out err status =
     IsUnread input
-    × Gives (IsShownAt told q.policy (asked_route q).message digits) (IsUndecided told q.policy digits) out err status
+    × Gives (IsShownAt q.explain told q.policy (asked_route q).message digits) (IsUndecided told q.policy digits)
+    out err status
 ShowsAt (elsewhere spot) told q input out err status =
     AnswersFound
-    (λ later octets. Gives (IsHeldShown later q.policy (held_in (asked_route q) spot octets)) (IsNoPolicyAt later q.policy))
+    (λ later octets. Gives (IsHeldShown q.explain later q.policy (held_in (asked_route q) spot octets))
+    (IsNoPolicyAt later q.policy))
     told spot input out err status
 ShowsAt nowhere told q input out err status = TellsUnasked input out err status
 

@@ -1,8 +1,10 @@
--- What is shown of the body of a frame that isn't three names and a message: each name that stands in its place, why the
--- next one is none, and the first octets.
+-- What is shown of the body of a frame: each name that stands in its place; and where it isn't three names and a message,
+-- why the next one is none, and the first octets.
 use Rattle.std.specs.Prelude.{ℕ, ◌||◌, List, [], ◌∷◌, ◌++◌, codes, decimal, length, take, drop, nat_eq, nat_lt, if◌then◌else◌, Option, Some, None, option_map}
 use Rattle.hex.specs.Hex.{encode_upper}
 use Rattle.guard_policy.specs.Names.{is_name}
+use Rattle.guard_frames.specs.Bodies.{AbstractBody}
+use Rattle.guard_messages.specs.Questions.{AbstractSpot, kept, framed, linked}
 
 -- the first octet that is no name where it stands alone, as each octet of a name is
 abbrev pub first_other : List ℕ → Option ℕ
@@ -68,3 +70,14 @@ octets_line (o ∷ body) = codes "  " ++ (encode_upper (take 59 (o ∷ body)) ++
 
 abbrev pub header_note : List ℕ → List ℕ
 header_note body = name_lines parts body ++ octets_line body
+
+-- what is shown of the body of any frame: of three names and a message the names alone
+abbrev pub frame_note : Option AbstractBody → List ℕ → List ℕ
+frame_note (Some b) body = name_lines parts body
+frame_note None body = header_note body
+
+-- what is shown of the octets at a spot: those of a file are no frame
+abbrev pub spot_note : AbstractSpot → Option AbstractBody → List ℕ → List ℕ
+spot_note (kept path) held octets = []
+spot_note (framed number) held octets = frame_note held octets
+spot_note (linked link number) held octets = frame_note held octets

@@ -12,6 +12,7 @@ pub mod RuleTypes
 pub mod Reasons
 pub mod HeaderNotes
 -- ---- what is listed of a policy, what is shown of a message
+pub mod PartsBefore
 pub mod Shown
 -- ---- what decides or shows one message
 pub mod Decided

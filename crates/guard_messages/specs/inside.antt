@@ -1,2 +1,3 @@
 -- What only private contracts and proofs cite.
 pub mod Passed
+pub mod Spots

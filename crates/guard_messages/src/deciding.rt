@@ -18,11 +18,13 @@ ghost use Rattle.guard_files.specs.declared.fault.Fault.TheVariants.{BadHex, NoM
 ghost use Rattle.guard_messages.specs.Decided.{verdict_status, IsVerdict, IsDecided, IsUndecided, IsExplainedVerdict};
 ghost use Rattle.guard_messages.specs.Decided.{IsFoundExplained, IsHeldExplained, IsExplainedBy, IsExplainedOver};
 ghost use Rattle.guard_messages.specs.Decided.{IsDecidedExplained, OfHeld, IsUndecidedExplained};
-ghost use Rattle.guard_messages.specs.HeaderNotes.{header_note};
+ghost use Rattle.guard_messages.specs.HeaderNotes.{spot_note};
+ghost use Rattle.guard_messages.specs.Questions.{spot_view};
 ghost use Rattle.guard_messages.specs.RuleTypes.{grounds_view};
 
-use crate::header_notes::header_note;
+use crate::header_notes::spot_note;
 use crate::holding::{bad_header, body_of, route_in};
+use crate::question::Spot;
 use crate::reasons::verdict_note;
 use crate::rule_types::{Grounds, document_of};
 use guard_files::{
@@ -77,37 +79,42 @@ pub fn decide_explained<F: Files>(
     }
 }
 
-/// The explained verdict on the message that these octets hold; or why they hold none.
+/// The explained verdict on the message that the octets at the spot hold; or why they hold none.
 pub fn explain_found<F: Files>(
     alloc: Global,
     path: &str,
+    spot: &Spot,
     held: Option<Body>,
     octets: &[u8],
     files: &mut F,
 ) -> Result<Answer, Refusal>
-    ensures decided { IfOk result (λ a. IsFoundExplained (F.told files.old) path.now (option_map body_view held.entry)
-        octets.now (answer_view a)) }
+    ensures decided { IfOk result (λ a. IsFoundExplained (F.told files.old) path.now (spot_view spot.now)
+        (option_map body_view held.entry) octets.now (answer_view a)) }
     ensures undecided { IfErr result
         (λ r. IsExplained (F.told files.old) path.now r.fault (string_bytes r.note)) }
 {
-    match held {
-        Some(body) => explain_held(alloc, path, Some(body), files),
-        None => match explain_held(alloc, path, None, files) {
-            Ok(answer) => match with_header(alloc, answer, octets) {
-                Ok(answer) => Ok(answer),
-                Err(_) => Err(Refusal::no_memory(alloc)),
-            },
-            Err(refusal) => Err(refusal),
+    match explain_held(alloc, path, held, files) {
+        Ok(answer) => match with_names(alloc, answer, spot, held, octets) {
+            Ok(answer) => Ok(answer),
+            Err(_) => Err(Refusal::no_memory(alloc)),
         },
+        Err(refusal) => Err(refusal),
     }
 }
 
-/// Why these octets aren't three names and a message, below the answer.
-fn with_header(alloc: Global, answer: Answer, octets: &[u8]) -> Result<Answer, OutOfMemory>
-    ensures text { IfOk result (λ a. a.out.items ≡ answer.out.items ++ header_note octets.now) }
+/// Where the octets are those of a frame, the names in it, or why they aren't there, below the answer.
+fn with_names(
+    alloc: Global,
+    answer: Answer,
+    spot: &Spot,
+    held: Option<Body>,
+    octets: &[u8],
+) -> Result<Answer, OutOfMemory>
+    ensures text { IfOk result (λ a. a.out.items
+        ≡ answer.out.items ++ spot_note (spot_view spot.now) (option_map body_view held.entry) octets.now) }
     ensures status { IfOk result (λ a. a.status ≡ answer.status) }
 {
-    let note = header_note(alloc, octets)?;
+    let note = spot_note(alloc, spot, held, octets)?;
     let mut out = answer.out;
     add(&mut out, &note)?;
     Ok(Answer {

@@ -1,10 +1,15 @@
-//! What is shown of the body of a frame that isn't three names and a message.
+//! What is shown of the body of a frame: its names, or why they aren't there.
 ghost use Rattle.std.specs.Prelude.{◌≡◌, ◌++◌, codes, map, option_map, string_bytes, take, IfOk, OnOk};
-ghost use Rattle.guard_messages.specs.HeaderNotes.{behind_name, cut_text, end_text, first_other, header_note};
+ghost use Rattle.guard_frames.specs.Bodies.{body_view};
+ghost use Rattle.guard_messages.specs.HeaderNotes.{behind_name, cut_text, end_text, first_other, frame_note};
+ghost use Rattle.guard_messages.specs.HeaderNotes.{spot_note};
+ghost use Rattle.guard_messages.specs.Questions.{spot_view};
 ghost use Rattle.guard_messages.specs.HeaderNotes.{length_text, name_at, name_line, name_lines, octets_line};
 ghost use Rattle.guard_messages.specs.HeaderNotes.{other_text, parts, unnamed, unnamed_of, why_line};
 
+use crate::question::Spot;
 use guard_files::add;
+use guard_frames::Body;
 use guard_model::OutOfMemory;
 use guard_policy::is_name;
 use std::alloc::{AllocError, Global};
@@ -15,13 +20,32 @@ const LONGEST: usize = 63;
 /// How many octets of a body are shown.
 const SHOWN: usize = 59;
 
-/// Each name that stands in its place, why the next one is none, and the first octets.
-pub fn header_note(alloc: Global, body: &[u8]) -> Result<Vec<u8>, OutOfMemory>
-    ensures { IfOk result (λ note. note.items ≡ header_note body.now) }
+/// What is shown of the octets at the spot: of those in a file nothing, since they are no frame.
+pub fn spot_note(
+    alloc: Global,
+    spot: &Spot,
+    held: Option<Body>,
+    octets: &[u8],
+) -> Result<Vec<u8>, OutOfMemory>
+    ensures { IfOk result (λ note. note.items
+        ≡ spot_note (spot_view spot.now) (option_map body_view held.entry) octets.now) }
+{
+    match spot {
+        Spot::Kept(_) => Ok(Vec::new(alloc)),
+        Spot::Framed(_) | Spot::Linked(_, _) => frame_note(alloc, held, octets),
+    }
+}
+
+/// Each name that stands in its place. Where the octets don't hold three names and a message, also why the next one is
+/// none, and the first octets.
+fn frame_note(alloc: Global, held: Option<Body>, octets: &[u8]) -> Result<Vec<u8>, OutOfMemory>
+    ensures { IfOk result (λ note. note.items ≡ frame_note (option_map body_view held.entry) octets.now) }
 {
     let mut note = Vec::new(alloc);
-    add_names(alloc, &mut note, &["sender", "receiver", "message"], body)?;
-    add_octets(alloc, &mut note, body)?;
+    add_names(alloc, &mut note, &["sender", "receiver", "message"], octets)?;
+    if held.is_none() {
+        add_octets(alloc, &mut note, octets)?;
+    }
     Ok(note)
 }
 

@@ -109,22 +109,29 @@ pub fn show_held<F: Files>(
     alloc: Global,
     path: &str,
     held: Option<Body>,
+    explain: bool,
     files: &mut F,
 ) -> Result<Answer, Fault>
-    ensures shown { IfOk result (λ a. IsHeldShown (F.told files.old) path.now (option_map body_view held.entry)
-        (answer_view a)) }
+    ensures shown { IfOk result (λ a. IsHeldShown explain (F.told files.old) path.now
+        (option_map body_view held.entry) (answer_view a)) }
     ensures none { IfErr result (IsNoPolicyAt (F.told files.old) path.now) }
 {
     let policy = load(alloc, path, files)?;
-    Ok(shown_answer(alloc, &policy, held)?)
+    Ok(shown_answer(alloc, &policy, held, explain)?)
 }
 
-fn shown_answer(alloc: Global, policy: &Policy, held: Option<Body>) -> Result<Answer, OutOfMemory>
-    ensures { IfOk result (λ a. OfHeld (λ route octets. ShowsMessage (policy_view policy.now) route.message octets)
+fn shown_answer(
+    alloc: Global,
+    policy: &Policy,
+    held: Option<Body>,
+    explain: bool,
+) -> Result<Answer, OutOfMemory>
+    ensures { IfOk result (λ a.
+        OfHeld (λ route octets. ShowsMessage explain (policy_view policy.now) route.message octets)
         (option_map body_view held.entry) (answer_view a)) }
 {
     match held {
-        Some(body) => show_octets(alloc, policy, body.name, body.message_octets),
+        Some(body) => show_octets(alloc, policy, body.name, body.message_octets, explain),
         None => bad_header(alloc),
     }
 }

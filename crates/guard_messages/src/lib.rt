@@ -8,8 +8,9 @@
 //! | How are its octets found in a file or in a frame? | `finding.rt`, `numbered.rt`, `linked.rt` | `specs/Finding.antt`, `specs/Numbered.antt`, `specs/Linked.antt` |
 //! | What is answered to it? | `looking.rt`, `holding.rt` | `specs/Deciding.antt` |
 //! | What is shown of a message? | `values.rt` | `specs/Shown.antt` |
+//! | Which parts of a message stand whole before its breach? | `parts_before.rt` | `specs/PartsBefore.antt` |
 //! | What is shown below a verdict where it is to be explained? | `reasons.rt` | `specs/Reasons.antt` |
-//! | Which names stand in a frame that isn't three names and a message, and why not the next one? | `header_notes.rt` | `specs/HeaderNotes.antt` |
+//! | Which names stand in a frame, and why not the next one? | `header_notes.rt` | `specs/HeaderNotes.antt` |
 //! | Which rules has a message? | `message_rules.rt` | `specs/Reasons.antt` |
 //! | Which type has a rule, and where is it assigned? | `rule_types.rt` | `specs/RuleTypes.antt` |
 //! | Which policy is built in? | `built_in.rt` | `specs/FirstRun.antt` |
@@ -25,6 +26,7 @@ mod linked;
 mod looking;
 mod message_rules;
 mod numbered;
+mod parts_before;
 mod question;
 mod reasons;
 mod rule_types;

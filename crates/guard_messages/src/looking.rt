@@ -91,7 +91,14 @@ fn show_value<F: Files, S: Source, O: Sink, E: Sink>(
     match question.show_place() {
         Place::Written(digits) => {
             let message = route_asked(question).message;
-            let shown = show_message(alloc, question.policy, message, digits, files);
+            let shown = show_message(
+                alloc,
+                question.policy,
+                message,
+                digits,
+                question.explain,
+                files,
+            );
             give(alloc, shown, out, err)
         }
         Place::Elsewhere(spot) => show_found(alloc, question, &spot, files, input, out, err),
@@ -180,7 +187,7 @@ fn decide_found<F: Files, S: Source, O: Sink, E: Sink>(
     err: &mut E,
 ) -> u8
     ensures { AnswersFound (λ later octets. GivesHeld (question_view question.now).explain later
-        (question_view question.now).policy
+        (question_view question.now).policy (spot_view spot.now)
         (held_in (asked_route (question_view question.now)) (spot_view spot.now) octets) octets)
         (F.told files.old) (spot_view spot.now)
         (source_of S.tells S.takes S.has_failed input.old input.new)
@@ -191,16 +198,17 @@ fn decide_found<F: Files, S: Source, O: Sink, E: Sink>(
         Ok(octets) => {
             let route = route_asked(question);
             let held = held_in(route.from, route.to, route.message, spot, &octets);
-            give_held(alloc, question, held, &octets, files, out, err)
+            give_held(alloc, question, spot, held, &octets, files, out, err)
         }
         Err(reason) => tell_unfound(alloc, &reason, err),
     }
 }
 
-/// Says what becomes of a message that is held by these octets.
+/// Says what becomes of a message that is held by the octets at the spot.
 fn give_held<F: Files, O: Sink, E: Sink>(
     alloc: Global,
     question: &Question,
+    spot: &Spot,
     held: Option<Body>,
     octets: &[u8],
     files: &mut F,
@@ -208,13 +216,13 @@ fn give_held<F: Files, O: Sink, E: Sink>(
     err: &mut E,
 ) -> u8
     ensures { GivesHeld (question_view question.now).explain (F.told files.old) (question_view question.now).policy
-        (option_map body_view held.entry) octets.now (device_of O.taken O.has_failed out.old out.new)
+        (spot_view spot.now) (option_map body_view held.entry) octets.now (device_of O.taken O.has_failed out.old out.new)
         (device_of E.taken E.has_failed err.old err.new) result }
 {
     if question.explain {
         give_explained(
             alloc,
-            explain_found(alloc, question.policy, held, octets, files),
+            explain_found(alloc, question.policy, spot, held, octets, files),
             out,
             err,
         )
@@ -239,7 +247,7 @@ fn show_found<F: Files, S: Source, O: Sink, E: Sink>(
     err: &mut E,
 ) -> u8
     ensures { AnswersFound (λ later octets.
-        Gives (IsHeldShown later (question_view question.now).policy
+        Gives (IsHeldShown (question_view question.now).explain later (question_view question.now).policy
         (held_in (asked_route (question_view question.now)) (spot_view spot.now) octets))
         (IsNoPolicyAt later (question_view question.now).policy))
         (F.told files.old) (spot_view spot.now)
@@ -253,7 +261,7 @@ fn show_found<F: Files, S: Source, O: Sink, E: Sink>(
             let held = held_in(route.from, route.to, route.message, spot, &octets);
             give(
                 alloc,
-                show_held(alloc, question.policy, held, files),
+                show_held(alloc, question.policy, held, question.explain, files),
                 out,
                 err,
             )

@@ -19,5 +19,5 @@ returns-in-Ok g c =
       c.in-Ok.octets.items,
       later,
       c.in-Ok.ensures.found,
-      subst (λ (h : Option AbstractBody). GivesHeld q.explain later q.policy h c.in-Ok.octets.items out err c.give_held.result) held (rw c.deref-in-Ok.ensures.value at c.give_held.ensures),
+      subst (λ (h : Option AbstractBody). GivesHeld q.explain later q.policy (spot_view c.args.spot.now) h c.in-Ok.octets.items out err c.give_held.result) held (rw c.deref-in-Ok.ensures.value at c.give_held.ensures),
     )

@@ -22,7 +22,7 @@ returns-in-Ok g c =
       c.in-Ok.octets.items,
       later,
       c.in-Ok.ensures.found,
-      subst (λ (h : Option AbstractBody). Gives (IsHeldShown later q.policy h) (IsNoPolicyAt later q.policy) out err c.give.result) same
-          (gives (IsHeldShown later q.policy (option_map body_view c.held_in-held.result)) (IsNoPolicyAt later q.policy) out err c.give.result c.show_held.result
+      subst (λ (h : Option AbstractBody). Gives (IsHeldShown q.explain later q.policy h) (IsNoPolicyAt later q.policy) out err c.give.result) same
+          (gives (IsHeldShown q.explain later q.policy (option_map body_view c.held_in-held.result)) (IsNoPolicyAt later q.policy) out err c.give.result c.show_held.result
           c.show_held.ensures.shown c.show_held.ensures.none c.give.ensures.written c.give.ensures.told),
     )

@@ -18,11 +18,11 @@ returns-in-Written g c =
     let out = device (g.O.Sink.taken c.args.out.now) (g.O.Sink.taken c.give.new.out) (g.O.Sink.has_failed c.give.new.out) in
     let err = device (g.E.Sink.taken c.args.err.now) (g.E.Sink.taken c.give.new.err) (g.E.Sink.has_failed c.give.new.err) in
     let digits = c.in-Written.digits.now in
-    let shown = subst (λ (m : List ℕ). IfOk c.show_message-shown.result (λ a. IsShownAt told q.policy m digits (answer_view a)))
+    let shown = subst (λ (m : List ℕ). IfOk c.show_message-shown.result (λ a. IsShownAt q.explain told q.policy m digits (answer_view a)))
     (ap (λ (r : AbstractRoute). r.message) c.route_asked.ensures) c.show_message-shown.ensures.shown in
     subst (λ (p : AbstractPlace). ShowsAt p told q input out err c.give.result) c.in-Written.ensures (
       (refl, refl),
-      gives (IsShownAt told q.policy (asked_route q).message digits) (IsUndecided told q.policy digits) out err c.give.result c.show_message-shown.result
+      gives (IsShownAt q.explain told q.policy (asked_route q).message digits) (IsUndecided told q.policy digits) out err c.give.result c.show_message-shown.result
           shown c.show_message-shown.ensures.none c.give.ensures.written c.give.ensures.told,
     )
 

@@ -12,5 +12,5 @@ returns-clause-shown g c =
       p,
       c.in_ok-octets.ensures.octets,
       c.in_ok-policy.ensures.there,
-      subst (λ (o : List ℕ). ShowsMessage p c.args.message.now o a) c.deref.ensures.value c.in_ok-show_octets.ensures,
+      subst (λ (o : List ℕ). ShowsMessage c.args.explain p c.args.message.now o a) c.deref.ensures.value c.in_ok-show_octets.ensures,
     )

@@ -17,6 +17,11 @@ shown_text-requires c =
     let p = policy_view c.args.policy.now in
     declared_sound p.messages p.rules c.args.message.now (type_view c.in-Some.ty.now) c.args.policy.now.kept.consistent (sym c.in-Some.ensures)
 
+pub lines_of-requires : goal.lines_of-requires
+lines_of-requires c =
+    let p = policy_view c.args.policy.now in
+    declared_sound p.messages p.rules c.args.message.now (type_view c.in-Some.ty.now) c.args.policy.now.kept.consistent (sym c.in-Some.ensures)
+
 pub returns-in_default : goal.returns-in_default
 returns-in_default c =
     IfOk-weaker c.unknown.result _ _ (λ a h. inl (sym (rw c.in_default.is at c.declared.ensures), h.0, h.1)) c.unknown.ensures
@@ -26,4 +31,4 @@ returns c =
     let t = type_view c.in-Some.ty.now in
     let shown = shown_view c.in_ok-shown.shown in
     let is = shown_is t c.args.octets.now shown c.law_one_answer.ensures.one c.in_ok-shown.ensures.of_value c.in_ok-shown.ensures.of_breach in
-    IfOk-weaker c.answer_of.result _ _ (λ a h. inr (t, shown, sym c.in-Some.ensures, is, h.0, h.1)) c.answer_of.ensures
+    IfOk-weaker c.answer_of.result _ _ (λ a h. inr (t, shown, c.in_ok-lines.lines.items, sym c.in-Some.ensures, is, c.in_ok-lines.ensures, h.0, h.1)) c.answer_of.ensures

@@ -336,6 +336,7 @@ fn try_streams<R: Files + Print + AllocGlobal>(rt: &R, tally: &mut Tally) -> io:
             "program/faults.rows",
             "program/encoded.rows",
             "program/tested.rows",
+            "program/compared.rows",
             "program/found.rows",
             "program/many_links.rows",
             "program/verbose.rows",

@@ -14,10 +14,11 @@ use Rattle.clap.specs.Kinds.{Kinds, or_else}
 use Rattle.clap.specs.Simple.{App, Shape, argument_words, built, built_leaf, entered, filled, help_rule, help_shape, inherited, label_of, marked_built, names_of, rows_at, subcommand_of, with_index, with_leaf_noted}
 use Rattle.clap.specs.declared.error.kind.ErrorKind.TheVariants as kind
 use Rattle.guard_messages.specs.Questions.{AbstractQuestion}
+use Rattle.guard_authors.specs.Comparing.{AbstractComparing}
 use Rattle.guard_authors.specs.Encodes.{AbstractEncoding}
 use Rattle.guard_authors.specs.Testing.{AbstractTrial}
-use Rattle.derguard_program.specs.Requests.{AbstractRequest, first, check, decide, show, encode, test, run, ask, mux}
-use Rattle.derguard_program.specs.Words.{AreFound, IsCommand, ask_shape, check_shape, decide_shape, encode_shape, flag_of, flag_rule, free_option_rule, free_place_rule, mux_shape, option_rule, place_rule, run_shape, show_shape, test_shape, the_app}
+use Rattle.derguard_program.specs.Requests.{AbstractRequest, first, check, decide, show, encode, test, compare, run, ask, mux}
+use Rattle.derguard_program.specs.Words.{AreFound, IsCommand, ask_shape, check_shape, compare_shape, decide_shape, encode_shape, flag_of, flag_rule, free_option_rule, free_place_rule, mux_shape, option_rule, place_rule, run_shape, show_shape, test_shape, the_app}
 use Rattle.derguard_program.proofs.Filled.{AllFill, Filled, Fills, IsFilled, both_none, finished_filled, flag_fills, help_fills, set_fills, some_kind, walk_filled}
 
 -- ---- a walk in which nothing is wrong stops at no word help
@@ -169,6 +170,9 @@ built_encode = built_leaf (inherited (with_leaf_noted (marked_built the_app.top)
 abbrev built_test : Shape
 built_test = built_leaf (inherited (with_leaf_noted (marked_built the_app.top)) test_shape)
 
+abbrev built_compare : Shape
+built_compare = built_leaf (inherited (with_leaf_noted (marked_built the_app.top)) compare_shape)
+
 abbrev built_run : Shape
 built_run = built_leaf (inherited (with_leaf_noted (marked_built the_app.top)) run_shape)
 
@@ -201,7 +205,7 @@ help_flag_fills : (place : ℕ) → Fills (ready_rule place help_rule)
 help_flag_fills place = help_fills (ready_rule place help_rule) refl
 
 check_fills : AllFill built_check.rules
-check_fills = (place_fills 1 (codes "policy"), (switch_fills 2 (codes "explain"), (switch_fills 2 (codes "strict"), (help_flag_fills 2, tt))))
+check_fills = (place_fills 1 (codes "policy"), (switch_fills 2 (codes "explain"), (switch_fills 2 (codes "strict"), (switch_fills 2 (codes "digest"), (help_flag_fills 2, tt)))))
 
 decide_fills : AllFill built_decide.rules
 decide_fills =
@@ -209,7 +213,7 @@ decide_fills =
 
 show_fills : AllFill built_show.rules
 show_fills =
-    (place_fills 1 (codes "policy"), (free_option_fills (codes "message"), (free_place_fills 2 (codes "hex"), (free_option_fills (codes "der"), (free_option_fills (codes "frame"), (free_option_fills (codes "link"), (switch_fills 3 (codes "capture"), (help_flag_fills 3, tt))))))))
+    (place_fills 1 (codes "policy"), (free_option_fills (codes "message"), (free_place_fills 2 (codes "hex"), (free_option_fills (codes "der"), (free_option_fills (codes "frame"), (free_option_fills (codes "link"), (switch_fills 3 (codes "capture"), (switch_fills 3 (codes "explain"), (help_flag_fills 3, tt)))))))))
 
 encode_fills : AllFill built_encode.rules
 encode_fills =
@@ -217,6 +221,10 @@ encode_fills =
 
 test_fills : AllFill built_test.rules
 test_fills = (place_fills 1 (codes "policy"), (free_place_fills 2 (codes "cases"), (switch_fills 3 (codes "cover"), (switch_fills 3 (codes "explain"), (help_flag_fills 3, tt)))))
+
+compare_fills : AllFill built_compare.rules
+compare_fills =
+    (place_fills 1 (codes "old"), (place_fills 2 (codes "new"), (switch_fills 3 (codes "by-place"), (free_option_fills (codes "link"), (help_flag_fills 3, tt)))))
 
 run_fills : AllFill built_run.rules
 run_fills = (place_fills 1 (codes "policy"), (switch_fills 2 (codes "verbose"), (help_flag_fills 2, tt)))
@@ -236,7 +244,7 @@ check_asks words e =
     let rows = rows_filled built_check [] words false [] e check_fills in
     let policy = given_next _ _ (check_none built_check [] words false [] e) in
     let path = given_value (codes "policy") (rows_after built_check.rules [] words) rows policy.0 in
-    (check path.0 (flag_of (codes "explain") (rows_after built_check.rules [] words)) (flag_of (codes "strict") (rows_after built_check.rules [] words)), (refl, path.1, refl, refl))
+    (check path.0 (flag_of (codes "explain") (rows_after built_check.rules [] words)) (flag_of (codes "strict") (rows_after built_check.rules [] words)) (flag_of (codes "digest") (rows_after built_check.rules [] words)), (refl, path.1, refl, refl, refl))
 
 show_asks : (words : List Text) → level_fault built_show [] nothing_held words false [] ≡ [] → Requests built_show words
 show_asks words e =
@@ -253,7 +261,7 @@ show_asks words e =
       der = first_of (codes "der") rows;
       frame = first_of (codes "frame") rows;
       link = first_of (codes "link") rows;
-      explain = false;
+      explain = flag_of (codes "explain") rows;
       capture = flag_of (codes "capture") rows;
     } in
     (show asked, (refl, p.1, refl, refl, refl, refl, refl, refl, refl, refl, refl))
@@ -289,6 +297,22 @@ test_asks words e =
       explain = flag_of (codes "explain") rows;
     } in
     (test asked, (refl, p.1, refl, refl, refl))
+
+compare_asks : (words : List Text) → level_fault built_compare [] nothing_held words false [] ≡ [] → Requests built_compare words
+compare_asks words e =
+    let rows = rows_after built_compare.rules [] words in
+    let filled = rows_filled built_compare [] words false [] e compare_fills in
+    let old = given_next _ _ (check_none built_compare [] words false [] e) in
+    let new = given_next _ _ old.1 in
+    let p = given_value (codes "old") rows filled old.0 in
+    let q = given_value (codes "new") rows filled new.0 in
+    let asked : AbstractComparing = record {
+      old = p.0;
+      new = q.0;
+      by_place = flag_of (codes "by-place") rows;
+      link = first_of (codes "link") rows;
+    } in
+    (compare asked, (refl, p.1, q.1, refl, refl))
 
 run_asks : (words : List Text) → level_fault built_run [] nothing_held words false [] ≡ [] → Requests built_run words
 run_asks words e =
@@ -377,10 +401,11 @@ entered_asks (Some p) another e there =
     (or_next p (is built_show) built_show _ show_asks
     (or_next p (is built_encode) built_encode _ encode_asks
     (or_next p (is built_test) built_test _ test_asks
+    (or_next p (is built_compare) built_compare _ compare_asks
     (or_next p (is built_run) built_run _ run_asks
     (or_next p (is built_ask) built_ask _ ask_asks
     (or_next p (is built_mux) built_mux _ mux_asks
-    (no_help p (is (built_leaf help_shape)) (not_help_met p.0 another))))))))) e there
+    (no_help p (is (built_leaf help_shape)) (not_help_met p.0 another)))))))))) e there
 
 command_there : (b : Bool) (others : Kinds)
     → ◌≡◌ {A = Kinds} (cond (not b && false) (kind.DisplayHelpOnMissingArgumentOrSubcommand ∷ []) (cond (not b && true) (kind.MissingSubcommand ∷ []) others)) [] → b ≡ true
@@ -403,7 +428,7 @@ same_value : {A : Type 0} (a b : A) → Some a ≡ Some b → a ≡ b
 same_value a b e = ap (λ o. unwrap_or o a) e
 
 module _ (rows : List Row) where
-  -- what a command asks for, by the first letter of its name
+  -- what a command asks for, by the first two letters of its name
   value_of : Text → Text
   value_of id = unwrap_or (first_of id rows) []
 
@@ -441,7 +466,7 @@ module _ (rows : List Row) where
     der = first_of (codes "der") rows;
     frame = first_of (codes "frame") rows;
     link = first_of (codes "link") rows;
-    explain = false;
+    explain = flag_of (codes "explain") rows;
     capture = flag_of (codes "capture") rows;
   }
 
@@ -453,9 +478,18 @@ module _ (rows : List Row) where
     explain = flag_of (codes "explain") rows;
   }
 
-  request_at : ℕ → AbstractRequest
-  request_at letter =
-      if nat_eq letter 99 then check (value_of (codes "policy")) (flag_of (codes "explain") rows) (flag_of (codes "strict") rows)
+  abbrev comparing_at : AbstractComparing
+  comparing_at = record {
+    old = value_of (codes "old");
+    new = value_of (codes "new");
+    by_place = flag_of (codes "by-place") rows;
+    link = first_of (codes "link") rows;
+  }
+
+  request_at : ℕ → ℕ → AbstractRequest
+  request_at letter second =
+      if nat_eq second 111 then compare comparing_at
+      else if nat_eq letter 99 then check (value_of (codes "policy")) (flag_of (codes "explain") rows) (flag_of (codes "strict") rows) (flag_of (codes "digest") rows)
       else if nat_eq letter 100 then decide decision_at
       else if nat_eq letter 115 then show showing_at
       else if nat_eq letter 101 then encode encoding_at
@@ -469,15 +503,15 @@ module _ (rows : List Row) where
   unfolding value_of
   is_value id v e = sym (ap (λ o. unwrap_or o []) e)
 
-  named_at : (name other : Text) → name ≡ other → request_at (slice_index other 0) ≡ request_at (slice_index name 0)
-  named_at name other e = ap (λ (n : Text). request_at (slice_index n 0)) (sym e)
+  named_at : (name other : Text) → name ≡ other → request_at (slice_index other 0) (slice_index other 1) ≡ request_at (slice_index name 0) (slice_index name 1)
+  named_at name other e = ap (λ (n : Text). request_at (slice_index n 0) (slice_index n 1)) (sym e)
 
-  is_request_at : (name : Text) (r : AbstractRequest) → IsCommand name rows r → r ≡ request_at (slice_index name 0)
+  is_request_at : (name : Text) (r : AbstractRequest) → IsCommand name rows r → r ≡ request_at (slice_index name 0) (slice_index name 1)
   unfolding request_at
   is_request_at name first h = absurd h
-  is_request_at name (check path explain strict) h =
+  is_request_at name (check path explain strict digest) h =
       let p = is_value (codes "policy") path h.1 in
-      (λ i. check (p i) (h.2 i) (h.3 i)) ∙ named_at name (codes "check") h.0
+      (λ i. check (p i) (h.2 i) (h.3 i) (h.4 i)) ∙ named_at name (codes "check") h.0
   is_request_at name (decide q) h =
       let p = is_value (codes "policy") q.policy h.1 in
       let f = sym h.2 in
@@ -509,6 +543,11 @@ module _ (rows : List Row) where
       let p = is_value (codes "policy") asked.policy h.1 in
       let f = sym h.2 in
       (λ i. test (record { policy = p i; cases = f i; cover = h.3 i; explain = h.4 i })) ∙ named_at name (codes "test") h.0
+  is_request_at name (compare asked) h =
+      let p = is_value (codes "old") asked.old h.1 in
+      let q = is_value (codes "new") asked.new h.2 in
+      let l = sym h.4 in
+      (λ i. compare (record { old = p i; new = q i; by_place = h.3 i; link = l i })) ∙ named_at name (codes "compare") h.0
   is_request_at name (run path verbose) h =
       let p = is_value (codes "policy") path h.1 in
       (λ i. run (p i) (h.2 i)) ∙ named_at name (codes "run") h.0

@@ -1,5 +1,6 @@
--- What it is to meet a request, by what is read, what goes out, and the status. This is the page to read first.
-use Rattle.std.specs.Prelude.{◌≡◌, ◌⊎◌, ℕ, Bool, true, false, List, ◌++◌, codes}
+-- What it is to meet a request, by what is read, what goes out, and the status. Of the commands this is the page to read
+-- first.
+use Rattle.std.specs.Prelude.{◌≡◌, ◌⊎◌, ℕ, Bool, ◌||◌, true, false, List, ◌++◌, codes}
 use Rattle.clap.specs.declared.error.kind.ErrorKind.{ErrorKind}
 use Rattle.clap.specs.declared.error.kind.ErrorKind.TheVariants as code
 use Rattle.clap.specs.declared.error.kind.ErrorKind.TheVariants.{InvalidValue, UnknownArgument, InvalidSubcommand, NoEquals, ValueValidation, TooManyValues, TooFewValues, WrongNumberOfValues, ArgumentConflict, MissingRequiredArgument, MissingSubcommand, DisplayHelp, DisplayHelpOnMissingArgumentOrSubcommand, DisplayVersion, Io, Format}
@@ -10,7 +11,7 @@ use Rattle.guard_files.specs.Reading.{IsNoPolicyAt}
 use Rattle.guard_files.specs.Answers.{AbstractAnswer, Gives, GivesExplained}
 use Rattle.guard_files.specs.Devices.{Input, Device, IsUnread, IsUntouched}
 use Rattle.guard_files.specs.Explaining.{IsExplained}
-use Rattle.guard_files.specs.Writing.{Writes, TellsLine, TellsNoMemory}
+use Rattle.guard_files.specs.Writing.{Writes, TellsLine, TellsText, TellsNoMemory}
 use Rattle.guard_streams.specs.Asking.{AsksStream}
 use Rattle.guard_streams.specs.Muxing.{GuardsLinks, WatchesLinks}
 use Rattle.guard_streams.specs.Watching.{WatchesStream}
@@ -18,10 +19,12 @@ use Rattle.guard_streams.specs.Stream.{GuardsStream}
 use Rattle.guard_messages.specs.FirstRun.{IsFirst, IsNoFirst}
 use Rattle.guard_messages.specs.Deciding.{Decides, ShowsAsked}
 use Rattle.guard_authors.specs.Checked.{IsChecked, IsCheckedExplained}
+use Rattle.guard_authors.specs.Comparing.{Compares}
+use Rattle.guard_authors.specs.Digested.{IsDigested}
 use Rattle.guard_authors.specs.Encodes.{Encodes}
 use Rattle.guard_authors.specs.Strictness.{ChecksStrictly}
 use Rattle.guard_authors.specs.Testing.{Tests}
-use Rattle.derguard_program.specs.Requests.{AbstractRequest, first, check, decide, show, encode, test, run, ask, mux}
+use Rattle.derguard_program.specs.Requests.{AbstractRequest, first, check, decide, show, encode, test, compare, run, ask, mux}
 use Rattle.derguard_program.specs.Words.{Asks, joined, the_app, version}
 
 -- Such an answer is written, or such a fault is reported; nothing is read.
@@ -34,16 +37,31 @@ abbrev pub AnswersExplained : (AbstractAnswer → Type 0) → (Fault → List �
 AnswersExplained IsAnswer IsFault input out err status =
     IsUnread input × GivesExplained IsAnswer IsFault out err status
 
+-- what is reported where `--digest` doesn't stand alone
+abbrev pub not_alone : List ℕ
+not_alone =
+    codes "error: the argument '--digest' cannot be used with '--explain' or '--strict'\n\nFor more information, try '--help'."
+
+-- by whether more is asked of the policy than the number of its texts
+abbrev pub GivesDigest : Bool → Told → List ℕ → Device → Device → ℕ → Type 0
+GivesDigest false told path out err status = Gives (IsDigested told path) (IsNoPolicyAt told path) out err status
+GivesDigest true told path out err status = IsUntouched out × TellsText not_alone 2 err status
+
+abbrev pub AnswersDigest : Bool → Told → List ℕ → Input → Device → Device → ℕ → Type 0
+AnswersDigest more told path input out err status = IsUnread input × GivesDigest more told path out err status
+
 -- what is read, written and reported, and the status, by the request
 abbrev pub Meets : Told → AbstractRequest → Input → Device → Device → ℕ → Type 0
 Meets told first = Answers IsFirst IsNoFirst
-Meets told (check path explain true) = ChecksStrictly told path explain
-Meets told (check path false false) = Answers (IsChecked told path) (IsNoPolicyAt told path)
-Meets told (check path true false) = AnswersExplained (IsCheckedExplained told path) (IsExplained told path)
+Meets told (check path explain strict true) = AnswersDigest (explain || strict) told path
+Meets told (check path explain true false) = ChecksStrictly told path explain
+Meets told (check path false false false) = Answers (IsChecked told path) (IsNoPolicyAt told path)
+Meets told (check path true false false) = AnswersExplained (IsCheckedExplained told path) (IsExplained told path)
 Meets told (decide q) = Decides told q
 Meets told (show q) = ShowsAsked told q
 Meets told (encode asked) = Encodes told asked
 Meets told (test asked) = Tests told asked
+Meets told (compare asked) = Compares told asked
 Meets told (run path false) = GuardsStream told path
 Meets told (run path true) = WatchesStream told path
 Meets told (ask path) = AsksStream told path

@@ -1,6 +1,7 @@
 -- What a request asks for.
 use Rattle.std.specs.Prelude.{ℕ, Bool, List}
 use Rattle.guard_messages.specs.Questions.{AbstractQuestion, question_view}
+use Rattle.guard_authors.specs.Comparing.{AbstractComparing, comparing_view}
 use Rattle.guard_authors.specs.Encodes.{AbstractEncoding, encoding_view}
 use Rattle.guard_authors.specs.Testing.{AbstractTrial, trial_view}
 use Rattle.derguard_program.specs.declared.request.Request.{Request}
@@ -9,8 +10,9 @@ use Rattle.derguard_program.specs.declared.request.Request.TheVariants as code
 pub data AbstractRequest : Type 0 where
   -- the messages that are built in
   first : AbstractRequest
-  -- of the policy at this path; whether a fault is to be explained, and whether remarks count
-  check : List ℕ → Bool → Bool → AbstractRequest
+  -- of the policy at this path; whether a fault is to be explained, whether remarks count, and whether the number of the
+  -- texts is to be shown
+  check : List ℕ → Bool → Bool → Bool → AbstractRequest
   -- what becomes of one message
   decide : AbstractQuestion → AbstractRequest
   -- the value of one message
@@ -19,6 +21,8 @@ pub data AbstractRequest : Type 0 where
   encode : AbstractEncoding → AbstractRequest
   -- which cases come out as they should
   test : AbstractTrial → AbstractRequest
+  -- the frames that come in, under an old policy and a new one
+  compare : AbstractComparing → AbstractRequest
   -- what comes in, by the policy at this path; and whether notes are to be written
   run : List ℕ → Bool → AbstractRequest
   -- frames that come in, of each of which it is said what the policy at this path makes of it
@@ -28,11 +32,12 @@ pub data AbstractRequest : Type 0 where
 
 abbrev pub request_view : Request → AbstractRequest
 request_view code.First = first
-request_view (code.Check policy explain strict) = check policy.now explain strict
+request_view (code.Check policy explain strict digest) = check policy.now explain strict digest
 request_view (code.Decide q) = decide (question_view q)
 request_view (code.Show q) = show (question_view q)
 request_view (code.Encode e) = encode (encoding_view e)
 request_view (code.Test t) = test (trial_view t)
+request_view (code.Compare asked) = compare (comparing_view asked)
 request_view (code.Run policy verbose) = run policy.now verbose
 request_view (code.Ask policy) = ask policy.now
 request_view (code.Mux policy verbose) = mux policy.now verbose

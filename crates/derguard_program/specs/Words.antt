@@ -5,7 +5,7 @@ use Rattle.std.specs.Option.{option_map_or}
 use Rattle.clap.specs.Words.{App, Rule, Row, Shape, Text, first_of, fault_of, new_rule, subcommand_of}
 use Rattle.clap.specs.Simple.{new_shape}
 use Rattle.clap.specs.declared.builder.action.ArgAction.TheVariants.{Set, SetTrue}
-use Rattle.derguard_program.specs.Requests.{AbstractRequest, first, check, decide, show, encode, test, run, ask, mux}
+use Rattle.derguard_program.specs.Requests.{AbstractRequest, first, check, decide, show, encode, test, compare, run, ask, mux}
 
 -- the program's version
 abbrev pub version : Text
@@ -42,10 +42,11 @@ flag_rule name = record (new_rule name) { long = Some name; action = Some SetTru
 abbrev pub command_shape : Text → List Rule → Shape
 command_shape name arguments = record (new_shape name) { rules = arguments }
 
--- check POLICY [--explain] [--strict]
+-- check POLICY [--explain] [--strict] [--digest]
 abbrev pub check_shape : Shape
 check_shape = command_shape (codes "check")
-    (place_rule (codes "policy") ∷ flag_rule (codes "explain") ∷ flag_rule (codes "strict") ∷ [])
+    (place_rule (codes "policy") ∷ flag_rule (codes "explain") ∷ flag_rule (codes "strict")
+    ∷ flag_rule (codes "digest") ∷ [])
 
 -- decide POLICY [--from FROM] [--to TO] [--message MESSAGE] [HEX] [--der FILE] [--frame NUMBER] [--link NUMBER] [--explain]
 abbrev pub decide_shape : Shape
@@ -55,11 +56,12 @@ decide_shape = command_shape (codes "decide")
     ∷ free_option_rule (codes "frame") ∷ free_option_rule (codes "link") ∷ flag_rule (codes "explain") ∷ [])
 
 -- show POLICY [--message MESSAGE] [HEX] [--der FILE] [--frame NUMBER] [--link NUMBER] [--capture]
+-- [--explain]
 abbrev pub show_shape : Shape
 show_shape = command_shape (codes "show")
     (place_rule (codes "policy") ∷ free_option_rule (codes "message") ∷ free_place_rule (codes "hex")
     ∷ free_option_rule (codes "der") ∷ free_option_rule (codes "frame") ∷ free_option_rule (codes "link")
-    ∷ flag_rule (codes "capture") ∷ [])
+    ∷ flag_rule (codes "capture") ∷ flag_rule (codes "explain") ∷ [])
 
 -- encode POLICY --message MESSAGE [VALUE] [--from FROM] [--to TO] [--der]
 abbrev pub encode_shape : Shape
@@ -72,6 +74,12 @@ abbrev pub test_shape : Shape
 test_shape = command_shape (codes "test")
     (place_rule (codes "policy") ∷ free_place_rule (codes "cases") ∷ flag_rule (codes "cover")
     ∷ flag_rule (codes "explain") ∷ [])
+
+-- compare OLD NEW [--by-place] [--link NUMBER]
+abbrev pub compare_shape : Shape
+compare_shape = command_shape (codes "compare")
+    (place_rule (codes "old") ∷ place_rule (codes "new") ∷ flag_rule (codes "by-place")
+    ∷ free_option_rule (codes "link") ∷ [])
 
 -- run POLICY [--verbose]
 abbrev pub run_shape : Shape
@@ -89,7 +97,8 @@ mux_shape = command_shape (codes "mux") (place_rule (codes "policy") ∷ flag_ru
 abbrev pub the_app : App
 the_app = record {
   top = record (new_shape (codes "derguard")) { is_leaf = false; subcommand_required = true; has_version = true };
-  subs = check_shape ∷ decide_shape ∷ show_shape ∷ encode_shape ∷ test_shape ∷ run_shape ∷ ask_shape ∷ mux_shape ∷ [];
+  subs = check_shape ∷ decide_shape ∷ show_shape ∷ encode_shape ∷ test_shape ∷ compare_shape
+      ∷ run_shape ∷ ask_shape ∷ mux_shape ∷ [];
 }
 
 -- ---- the requests
@@ -101,9 +110,9 @@ flag_of id rows = option_map_or (λ value. bytes_eq value (codes "true")) (first
 -- what a command with these values asks for
 abbrev pub IsCommand : Text → List Row → AbstractRequest → Type 0
 IsCommand name rows first = ⊥
-IsCommand name rows (check path explain strict) =
+IsCommand name rows (check path explain strict digest) =
     (name ≡ codes "check") × (first_of (codes "policy") rows ≡ Some path) × (explain ≡ flag_of (codes "explain") rows)
-    × (strict ≡ flag_of (codes "strict") rows)
+    × (strict ≡ flag_of (codes "strict") rows) × (digest ≡ flag_of (codes "digest") rows)
 IsCommand name rows (decide q) =
     (name ≡ codes "decide") × (first_of (codes "policy") rows ≡ Some q.policy) × (first_of (codes "from") rows ≡ q.from)
     × (first_of (codes "to") rows ≡ q.to) × (first_of (codes "message") rows ≡ q.message)
@@ -114,7 +123,7 @@ IsCommand name rows (show q) =
     (name ≡ codes "show") × (first_of (codes "policy") rows ≡ Some q.policy) × (q.from ≡ None) × (q.to ≡ None)
     × (first_of (codes "message") rows ≡ q.message) × (first_of (codes "hex") rows ≡ q.hex)
     × (first_of (codes "der") rows ≡ q.der) × (first_of (codes "frame") rows ≡ q.frame)
-    × (first_of (codes "link") rows ≡ q.link) × (q.explain ≡ false)
+    × (first_of (codes "link") rows ≡ q.link) × (q.explain ≡ flag_of (codes "explain") rows)
     × (q.capture ≡ flag_of (codes "capture") rows)
 IsCommand name rows (encode asked) =
     (name ≡ codes "encode") × (first_of (codes "policy") rows ≡ Some asked.policy)
@@ -125,6 +134,10 @@ IsCommand name rows (test asked) =
     (name ≡ codes "test") × (first_of (codes "policy") rows ≡ Some asked.policy)
     × (first_of (codes "cases") rows ≡ asked.cases) × (asked.cover ≡ flag_of (codes "cover") rows)
     × (asked.explain ≡ flag_of (codes "explain") rows)
+IsCommand name rows (compare asked) =
+    (name ≡ codes "compare") × (first_of (codes "old") rows ≡ Some asked.old)
+    × (first_of (codes "new") rows ≡ Some asked.new) × (asked.by_place ≡ flag_of (codes "by-place") rows)
+    × (first_of (codes "link") rows ≡ asked.link)
 IsCommand name rows (run path verbose) =
     (name ≡ codes "run") × (first_of (codes "policy") rows ≡ Some path) × (verbose ≡ flag_of (codes "verbose") rows)
 IsCommand name rows (ask path) = (name ≡ codes "ask") × (first_of (codes "policy") rows ≡ Some path)

@@ -1,9 +1,9 @@
 //! The program over any files, source and sinks.
-ghost use Rattle.std.specs.Prelude.{◌≡◌, ◌≤◌, ◌∷◌, [], length, map, string_bytes, true, false, IfOk, IfErr};
+ghost use Rattle.std.specs.Prelude.{◌≡◌, ◌≤◌, ◌||◌, ◌∷◌, [], length, map, string_bytes, true, false, IfOk, IfErr};
 ghost use Rattle.guard_files.specs.Devices.{source_of, device_of, IsUntouched};
 ghost use Rattle.guard_files.specs.Writing.{TellsNoMemory};
 ghost use Rattle.derguard_program.specs.Requests.{request_view, first, run, mux};
-ghost use Rattle.derguard_program.specs.Meeting.{Meets, Programs, Shows, is_help, version_line};
+ghost use Rattle.derguard_program.specs.Meeting.{GivesDigest, Meets, Programs, Shows, is_help, version_line};
 ghost use Rattle.clap.specs.Words.{kind_of};
 ghost use Rattle.clap.specs.declared.error.kind.ErrorKind.TheVariants.{DisplayVersion, OutOfMemory};
 
@@ -12,12 +12,16 @@ use crate::request::Request;
 use crate::words::{VERSION, request_in};
 use clap::Error;
 use clap::error::ErrorKind;
-use guard_authors::{check, check_explained, check_strictly, encode, test};
+use guard_authors::{check, check_digest, check_explained, check_strictly, compare, encode, test};
 use guard_files::{Files, give, give_explained, tell_no_memory, tell_text, write};
 use guard_frames::{Sink, Source};
 use guard_messages::{decide_asked, first_run, show_asked};
 use guard_streams::{Says, ask, mux, mux_verbosely, run, run_verbosely};
 use std::alloc::{AllocError, Global};
+
+const NOT_ALONE: &str =
+    "error: the argument '--digest' cannot be used with '--explain' or '--strict'\n\nFor more information, try \
+        '--help'.";
 
 /// Does what the words ask for, the first of which is the program's name, and answers the status: 0 where all passed,
 /// the policy is accepted or help was asked for; 1 where something was denied; 2 for bad words, hexadecimal digits, a
@@ -79,8 +83,12 @@ pub fn meet<F: Files, S: Source, O: Sink, E: Sink, T: Says>(
             policy,
             explain,
             strict,
+            digest,
         } => {
-            if *strict {
+            if *digest {
+                let more = asks_more(*explain, *strict);
+                give_digest(alloc, policy, more, files, out, err)
+            } else if *strict {
                 check_strictly(alloc, policy, *explain, files, out, err)
             } else if *explain {
                 give_explained(alloc, check_explained(alloc, policy, files), out, err)
@@ -92,6 +100,7 @@ pub fn meet<F: Files, S: Source, O: Sink, E: Sink, T: Says>(
         Request::Show(question) => show_asked(alloc, question, files, input, out, err),
         Request::Encode(asked) => encode(alloc, asked, files, input, out, err),
         Request::Test(asked) => test(alloc, asked, files, out, err),
+        Request::Compare(asked) => compare(alloc, asked, files, input, out, err),
         Request::Run { policy, verbose } => {
             guard_stream(alloc, policy, *verbose, files, input, out, err, system)
         }
@@ -99,6 +108,32 @@ pub fn meet<F: Files, S: Source, O: Sink, E: Sink, T: Says>(
         Request::Mux { policy, verbose } => {
             guard_links(alloc, policy, *verbose, files, input, out, err, system)
         }
+    }
+}
+
+/// Whether more is asked of a policy than the number of its texts.
+fn asks_more(explain: bool, strict: bool) -> bool
+    ensures { result ≡ (explain || strict) }
+{
+    explain || strict
+}
+
+/// Says whether the policy is accepted, and the number of its texts; of which nothing else is asked.
+fn give_digest<F: Files, O: Sink, E: Sink>(
+    alloc: Global,
+    policy: &str,
+    more: bool,
+    files: &mut F,
+    out: &mut O,
+    err: &mut E,
+) -> u8
+    ensures { GivesDigest more (F.told files.old) policy.now (device_of O.taken O.has_failed out.old out.new)
+        (device_of E.taken E.has_failed err.old err.new) result }
+{
+    if more {
+        tell_text(alloc, NOT_ALONE, 2, err)
+    } else {
+        give(alloc, check_digest(alloc, policy, files), out, err)
     }
 }
 

@@ -1,5 +1,5 @@
 //! What the words of the command line ask for.
-use guard_authors::{Encoding, Trial};
+use guard_authors::{Comparing, Encoding, Trial};
 use guard_messages::Question;
 
 /// The words as they were given. A policy is named by its path.
@@ -7,11 +7,13 @@ use guard_messages::Question;
 pub enum Request<'a> {
     /// No words: the messages that are built in.
     First,
-    /// Whether a policy and its modules are accepted. A fault may be asked to be explained, and remarks to count.
+    /// Whether a policy and its modules are accepted. A fault may be asked to be explained, remarks to count, and the
+    /// number of the texts to be shown.
     Check {
         policy: &'a str,
         explain: bool,
         strict: bool,
+        digest: bool,
     },
     /// What becomes of one message.
     Decide(Question<'a>),
@@ -21,6 +23,8 @@ pub enum Request<'a> {
     Encode(Encoding<'a>),
     /// Which cases come out as they should.
     Test(Trial<'a>),
+    /// Which frames that come in have another verdict under a new policy than under an old one.
+    Compare(Comparing<'a>),
     /// What may pass of the frames that come in. Notes may be asked for.
     Run {
         policy: &'a str,

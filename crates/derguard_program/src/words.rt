@@ -3,17 +3,19 @@ ghost use Rattle.std.specs.Prelude.{◌≡◌, ℕ, List, Some, None, codes, fal
 ghost use Rattle.clap.specs.Words.{HasKind, Row, Text, app_of, fault_of, first_of, found_of};
 ghost use Rattle.clap.specs.Words.{rows_of, rule_of, shape_of, subcommand_rows_of};
 ghost use Rattle.guard_messages.specs.Questions.{question_view};
+ghost use Rattle.guard_authors.specs.Comparing.{comparing_view};
 ghost use Rattle.guard_authors.specs.Encodes.{encoding_view};
 ghost use Rattle.guard_authors.specs.Testing.{trial_view};
 ghost use Rattle.derguard_program.specs.Requests.{AbstractRequest, request_view};
-ghost use Rattle.derguard_program.specs.Words.{AreFound, IsCommand, ask_shape, check_shape, decide_shape, encode_shape};
+ghost use Rattle.derguard_program.specs.Words.{AreFound, IsCommand, ask_shape, check_shape, compare_shape};
+ghost use Rattle.derguard_program.specs.Words.{decide_shape, encode_shape};
 ghost use Rattle.derguard_program.specs.Words.{flag_of, flag_rule, free_option_rule, free_place_rule, free_rule};
 ghost use Rattle.derguard_program.specs.Words.{mux_shape, option_rule, place_rule, required_rule, run_shape};
 ghost use Rattle.derguard_program.specs.Words.{show_shape, test_shape, the_app};
 
 use crate::request::Request;
 use clap::{Arg, ArgAction, ArgMatches, Command, Error};
-use guard_authors::{Encoding, Trial};
+use guard_authors::{Comparing, Encoding, Trial};
 use guard_messages::Question;
 use std::alloc::{AllocError, Global};
 
@@ -25,10 +27,10 @@ const ABOUT: &str =
         words it decides four messages that are built in.";
 
 const EXAMPLE: &str = "Example:\n  derguard check examples/orders.toml\n\n\
-        Statuses: 0 all passed, was accepted, shown or encoded; 1 something was stopped or remarked, show has no \
-        value, or encode's value is outside its type or its message isn't declared; 2 bad words, policy, modules, \
-        digits or text of a value, a file that can't be read, a message that is too long, or a frame that isn't \
-        there or can't be made; 3 a stream, link, record or device failed, or no memory.";
+        Statuses: 0 all passed, was accepted, shown or encoded; 1 something was stopped, remarked or differs, show \
+        has no value, or encode's value is outside its type or its message isn't declared; 2 bad words, policy, \
+        modules, digits or text of a value, a file that can't be read, a message that is too long, a frame or link \
+        that isn't there, or a frame that can't be made; 3 a stream, link, record or device failed, or no memory.";
 
 const CHECK_EXAMPLE: &str = "Example:\n  derguard check examples/orders.toml --explain";
 
@@ -43,6 +45,15 @@ const ENCODE_EXAMPLE: &str =
     "Example:\n  derguard encode examples/orders.toml --message order '{id 5, kind sell, lines {7}}'";
 
 const TEST_EXAMPLE: &str = "Example:\n  derguard test examples/orders.toml";
+
+const COMPARE_EXAMPLE: &str =
+    "Example:\n  derguard compare examples/orders.toml examples/orders.toml < examples/orders.frames";
+
+const BY_PLACE: &str =
+    "Verdicts differ too where only the place of a constraint in its module does.";
+
+const OF_LINK: &str =
+    "The number of a link, 0 to 15, whose frames are compared; standard input is records.";
 
 const RUN_EXAMPLE: &str = "Example:\n  derguard run examples/orders.toml < examples/orders.frames";
 
@@ -86,10 +97,12 @@ fn request_of<'a>(matches: &ArgMatches<'a>) -> Request<'a>
             policy: text(found, "policy"),
             explain: flag(found, "explain"),
             strict: flag(found, "strict"),
+            digest: flag(found, "digest"),
         },
         Some(("show", found)) => Request::Show(question_to_show(found)),
         Some(("encode", found)) => Request::Encode(encoding_of(found)),
         Some(("test", found)) => Request::Test(trial_of(found)),
+        Some(("compare", found)) => Request::Compare(comparing_of(found)),
         Some(("run", found)) => Request::Run {
             policy: text(found, "policy"),
             verbose: flag(found, "verbose"),
@@ -134,7 +147,7 @@ fn question_to_decide<'a>(found: &ArgMatches<'a>) -> Question<'a>
     }
 }
 
-/// What `show` asks for, which takes no sender and no receiver and explains nothing.
+/// What `show` asks for, which takes no sender and no receiver.
 fn question_to_show<'a>(found: &ArgMatches<'a>) -> Question<'a>
     ensures policy { (path : List ℕ) → first_of (codes "policy") (rows_of (found_of found.now)) ≡ Some path
         → (question_view result).policy ≡ path }
@@ -145,7 +158,7 @@ fn question_to_show<'a>(found: &ArgMatches<'a>) -> Question<'a>
     ensures file { (question_view result).der ≡ first_of (codes "der") (rows_of (found_of found.now)) }
     ensures frame { (question_view result).frame ≡ first_of (codes "frame") (rows_of (found_of found.now)) }
     ensures link { (question_view result).link ≡ first_of (codes "link") (rows_of (found_of found.now)) }
-    ensures explain { (question_view result).explain ≡ false }
+    ensures explain { (question_view result).explain ≡ flag_of (codes "explain") (rows_of (found_of found.now)) }
     ensures capture { (question_view result).capture ≡ flag_of (codes "capture") (rows_of (found_of found.now)) }
 {
     Question {
@@ -157,7 +170,7 @@ fn question_to_show<'a>(found: &ArgMatches<'a>) -> Question<'a>
         der: given(found, "der"),
         frame: given(found, "frame"),
         link: given(found, "link"),
-        explain: false,
+        explain: flag(found, "explain"),
         capture: flag(found, "capture"),
     }
 }
@@ -199,6 +212,23 @@ fn trial_of<'a>(found: &ArgMatches<'a>) -> Trial<'a>
     }
 }
 
+/// What `compare` asks for. Both policies are required, so they are there.
+fn comparing_of<'a>(found: &ArgMatches<'a>) -> Comparing<'a>
+    ensures old { (path : List ℕ) → first_of (codes "old") (rows_of (found_of found.now)) ≡ Some path
+        → (comparing_view result).old ≡ path }
+    ensures new { (path : List ℕ) → first_of (codes "new") (rows_of (found_of found.now)) ≡ Some path
+        → (comparing_view result).new ≡ path }
+    ensures by_place { (comparing_view result).by_place ≡ flag_of (codes "by-place") (rows_of (found_of found.now)) }
+    ensures link { (comparing_view result).link ≡ first_of (codes "link") (rows_of (found_of found.now)) }
+{
+    Comparing {
+        old: text(found, "old"),
+        new: text(found, "new"),
+        by_place: flag(found, "by-place"),
+        link: given(found, "link"),
+    }
+}
+
 fn text<'a>(matches: &ArgMatches<'a>, id: &str) -> &'a str
     ensures { (value : List ℕ) → first_of id.now (rows_of (found_of matches.now)) ≡ Some value → result.now ≡ value }
 {
@@ -235,6 +265,7 @@ fn command<'a>(alloc: Global) -> Result<Command<'a>, AllocError>
         .subcommand(show(alloc)?)?
         .subcommand(encode(alloc)?)?
         .subcommand(test(alloc)?)?
+        .subcommand(compare(alloc)?)?
         .subcommand(run(alloc)?)?
         .subcommand(ask(alloc)?)?
         .subcommand(mux(alloc)?)
@@ -256,6 +287,11 @@ fn check<'a>(alloc: Global) -> Result<Command<'a>, AllocError>
             alloc,
             "strict",
             "Says what is remarked on standard error, with status 1 if anything is.",
+        ))?
+        .arg(switch(
+            alloc,
+            "digest",
+            "Shows SHA-256 over the policy and its modules too; without the other options.",
         ))
 }
 
@@ -296,6 +332,11 @@ fn show<'a>(alloc: Global) -> Result<Command<'a>, AllocError>
             alloc,
             "capture",
             "With --frame: writes the frame itself, which is a capture of one, in place of its value.",
+        ))?
+        .arg(switch(
+            alloc,
+            "explain",
+            "Shows the parts before what is wrong with the octets.",
         ))
 }
 
@@ -335,6 +376,21 @@ fn test<'a>(alloc: Global) -> Result<Command<'a>, AllocError>
             "explain",
             "Shows where a file of cases is no TOML document, and what to do.",
         ))
+}
+
+fn compare<'a>(alloc: Global) -> Result<Command<'a>, AllocError>
+    ensures { IfOk result (λ c. shape_of c ≡ compare_shape) }
+{
+    Command::new(alloc, "compare")
+        .about(
+            "Says which frames have another verdict under a new policy than under an old one: frames from standard \
+                input, a line for each that differs to standard output, and how many.",
+        )
+        .after_help(COMPARE_EXAMPLE)
+        .arg(place(alloc, "old", "OLD", "The file of the policy in force."))?
+        .arg(place(alloc, "new", "NEW", "The file of the new policy."))?
+        .arg(switch(alloc, "by-place", BY_PLACE))?
+        .arg(free_option(alloc, "link", OF_LINK))
 }
 
 fn run<'a>(alloc: Global) -> Result<Command<'a>, AllocError>
@@ -382,6 +438,14 @@ fn policy<'a>(alloc: Global) -> Arg<'a>
     required(alloc, "policy").value_name("POLICY").help(
         "The file of the policy; module files are looked for beside it.",
     )
+}
+
+/// A word by itself that must be given.
+fn place<'a>(alloc: Global, id: &'a str, name: &'a str, help: &'a str) -> Arg<'a>
+    ensures rule { rule_of result ≡ place_rule id.entry.now }
+    ensures local { result.global ≡ false }
+{
+    required(alloc, id).value_name(name).help(help)
 }
 
 /// The octets of a message, which may be elsewhere.

@@ -6,3 +6,6 @@ pub mod CasesFound
 pub mod TriedCases
 pub mod FaultyCases
 pub mod ReachedLaws
+pub mod FramesCompared
+pub mod PlacesTaken
+pub mod TextsJoined

@@ -11,5 +11,9 @@ pub mod Cases
 pub mod Reached
 pub mod Testing
 pub mod Checked
+pub mod Digested
+-- ---- two policies
+pub mod Differing
+pub mod Comparing
 -- ---- what only private contracts and proofs cite
 pub mod inside

@@ -3,3 +3,4 @@ pub mod Assigned
 pub mod Caseless
 pub mod Encoded
 pub mod Loading
+pub mod Pieces

@@ -9,4 +9,5 @@ returns c =
     let start : app_of c.after_help.result ≡ new_app (codes "check") = ap app_of_fields c.after_help.ensures ∙ ap app_of_fields c.about.ensures ∙ c.new.ensures.app in
     let first = with_argument _ _ _ _ _ c.in_ok-arg.ensures c.policy.ensures.local start c.policy.ensures.rule in
     let second = with_argument _ _ _ _ _ c.in_ok-arg-2.ensures c.switch.ensures.local first c.switch.ensures.rule in
-    IfOk-weaker c.arg-3.result _ _ (λ r added. ap (λ (a : App). a.top) (with_argument _ r _ _ _ added c.switch-2.ensures.local second c.switch-2.ensures.rule)) c.arg-3.ensures
+    let third = with_argument _ _ _ _ _ c.in_ok-arg-3.ensures c.switch-2.ensures.local second c.switch-2.ensures.rule in
+    IfOk-weaker c.arg-4.result _ _ (λ r added. ap (λ (a : App). a.top) (with_argument _ r _ _ _ added c.switch-3.ensures.local third c.switch-3.ensures.rule)) c.arg-4.ensures

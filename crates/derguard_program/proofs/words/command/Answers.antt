@@ -21,6 +21,7 @@ returns c =
     let third = with_command _ _ _ _ _ c.in_ok-subcommand-3.ensures refl second c.in_ok-show.ensures in
     let fourth = with_command _ _ _ _ _ c.in_ok-subcommand-4.ensures refl third c.in_ok-encode.ensures in
     let fifth = with_command _ _ _ _ _ c.in_ok-subcommand-5.ensures refl fourth c.in_ok-test.ensures in
-    let sixth = with_command _ _ _ _ _ c.in_ok-subcommand-6.ensures refl fifth c.in_ok-run.ensures in
-    let seventh = with_command _ _ _ _ _ c.in_ok-subcommand-7.ensures refl sixth c.in_ok-ask.ensures in
-    IfOk-weaker c.subcommand-8.result _ _ (λ r added. with_command _ _ r _ _ added refl seventh c.in_ok-mux.ensures) c.subcommand-8.ensures
+    let sixth = with_command _ _ _ _ _ c.in_ok-subcommand-6.ensures refl fifth c.in_ok-compare.ensures in
+    let seventh = with_command _ _ _ _ _ c.in_ok-subcommand-7.ensures refl sixth c.in_ok-run.ensures in
+    let eighth = with_command _ _ _ _ _ c.in_ok-subcommand-8.ensures refl seventh c.in_ok-ask.ensures in
+    IfOk-weaker c.subcommand-9.result _ _ (λ r added. with_command _ _ r _ _ added refl eighth c.in_ok-mux.ensures) c.subcommand-9.ensures

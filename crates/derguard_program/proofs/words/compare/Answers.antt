@@ -1,0 +1,13 @@
+use Rattle.std.proofs.Common.{◌≡◌, ◌∙◌, ap, codes}
+use Rattle.std.proofs.lemmas.Result.{IfOk-weaker}
+use Rattle.clap.specs.Simple.{App, app_of, app_of_fields, new_app}
+use Rattle.derguard_program.proofs.Commands.{with_argument}
+use Rattle.derguard_program.proofs.words.compare.Goals as goal
+
+pub returns : goal.returns
+returns c =
+    let start : app_of c.after_help.result ≡ new_app (codes "compare") = ap app_of_fields c.after_help.ensures ∙ ap app_of_fields c.about.ensures ∙ c.new.ensures.app in
+    let first = with_argument _ _ _ _ _ c.in_ok-arg.ensures c.place.ensures.local start c.place.ensures.rule in
+    let second = with_argument _ _ _ _ _ c.in_ok-arg-2.ensures c.place-2.ensures.local first c.place-2.ensures.rule in
+    let third = with_argument _ _ _ _ _ c.in_ok-arg-3.ensures c.switch.ensures.local second c.switch.ensures.rule in
+    IfOk-weaker c.arg-4.result _ _ (λ r added. ap (λ (a : App). a.top) (with_argument _ r _ _ _ added c.free_option.ensures.local third c.free_option.ensures.rule)) c.arg-4.ensures

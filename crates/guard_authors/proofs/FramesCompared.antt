@@ -1,0 +1,442 @@
+-- The frames that come in piece by piece, compared one after another, and how that ends.
+use Rattle.std.proofs.Common.{◌≡◌, ◌∙◌, ◌+◌, ◌<◌, ◌≤◌, ◌^◌, ◌⊎◌, inl, inr, ℕ, Bool, true, List, [], ◌∷◌, ◌++◌, ap, refl, sym, subst, length, take, drop, map, arith, append_assoc, length-drop}
+use Rattle.std.specs.Prelude.{Option, Some, Result, Ok, Err, IfOk, IfErr}
+use Rattle.std.specs.List.{concat, All}
+use Rattle.std.specs.Io.KnownBytes.{Appends, Consumes, IsAtEnd}
+use Rattle.std.proofs.lemmas.List.{append-nil, map-append, take-append-drop, drop-drop}
+use Rattle.std.proofs.lemmas.List.Elements.{All-append}
+use Rattle.std.proofs.lemmas.List.Folds.{concat-append}
+use Rattle.guard_frames.specs.Bodies.{AbstractBody, body_in}
+use Rattle.guard_frames.specs.Cutting.{IsFirst}
+use Rattle.guard_frames.specs.Frames.{IsFrame, IsUnfinished}
+use Rattle.guard_frames.specs.declared.cut.Frame.{Frame}
+use Rattle.guard_frames.specs.OfPolicy.{route_of}
+use Rattle.guard_frames.specs.Totals.{later, WentUpBy}
+use Rattle.guard_policy.specs.Policies.{AbstractRoute}
+use Rattle.guard_frames.proofs.Appending.{Appends_none, Appends_trans, Prefix_second}
+use Rattle.guard_frames.proofs.Elements.{All_none, All_more}
+use Rattle.guard_frames.proofs.Holding.{empty_unfinished}
+use Rattle.guard_frames.proofs.Reading.{Consumes_none, Consumes_trans}
+use Rattle.guard_files.specs.Devices.{Input, Device, input_of, device}
+use Rattle.guard_files.specs.Records.{Record, record_octets, IsAllowed}
+use Rattle.guard_files.specs.Records.Record.{end}
+use Rattle.guard_files.specs.Writing.{TookAll, Writes, TellsNoMemory}
+use Rattle.guard_files.proofs.RecordReading.{joined_last, short_none}
+use Rattle.guard_authors.specs.declared.comparing.Origin.{Origin}
+use Rattle.guard_authors.specs.declared.comparing.Origin.TheVariants.{Stream, Link}
+use Rattle.guard_authors.specs.declared.comparing.Uncompared.{Uncompared}
+use Rattle.guard_authors.specs.declared.comparing.Uncompared.TheVariants as why
+use Rattle.guard_authors.specs.declared.differing.Tally.{Tally}
+use Rattle.guard_authors.specs.Comparing.{ComparesFrames, Ends, Gives, GivesOfLink, IsBad, IsFailed, IsStopped, LeavesOpen, Progress, Reaches, of_link}
+use Rattle.guard_authors.specs.Differing.{AbstractComparison, AbstractTexts, AreLines, AreVerdictTexts, IsLine, after, compared_line, compared_status, no_frames, total_line}
+use Rattle.guard_authors.specs.inside.Pieces.{AddsPiece, AreCompared, EndsBehind, HasPassed, HasTaken, StopsReading, StopsTaking}
+
+-- ---- lines
+
+pub lines_then : (c : AbstractComparison) (t m e : Tally) (fs gs : List (List ℕ)) (l k : List ℕ) → AreLines c t fs l m
+    → AreLines c m gs k e → AreLines c t (fs ++ gs) (l ++ k) e
+lines_then c t m e [] gs l k (none, same) q =
+    subst (λ (s : List ℕ). AreLines c t gs (s ++ k) e) (sym none) (subst (λ (x : Tally). AreLines c x gs k e) same q)
+lines_then c t m e (f ∷ fs) gs l k (line, rest, is, others, joined) q = (
+  line,
+  rest ++ k,
+  is,
+  lines_then c (after t line) m e fs gs rest k others q,
+  ap (λ s. s ++ k) joined ∙ append_assoc line rest k,
+)
+
+pub one_line : (c : AbstractComparison) (t : Tally) (f line : List ℕ) → IsLine c (later t.frames 1) (body_in (drop 4 f)) line
+    → AreLines c t (f ∷ []) line (after t line)
+one_line c t f line is = (line, [], is, (refl, refl), sym (append-nil line))
+
+-- what both policies say on the route of a body
+pub line_is : (c : AbstractComparison) (n : ℕ) (b : AbstractBody) (route : AbstractRoute) (old new : AbstractTexts) (line : List ℕ)
+    → route ≡ route_of b → AreVerdictTexts c.old route b.message_octets old → AreVerdictTexts c.new route b.message_octets new
+    → line ≡ compared_line c.by_place n route old new → IsLine c n (Some b) line
+line_is c n b route old new line same p q is = (
+  old,
+  new,
+  subst (λ (r : AbstractRoute). AreVerdictTexts c.old r b.message_octets old) same p,
+  subst (λ (r : AbstractRoute). AreVerdictTexts c.new r b.message_octets new) same q,
+  is ∙ ap (λ r. compared_line c.by_place n r old new) same,
+)
+
+-- ---- octets that are frames and a rest
+
+joined_frames : (frames others : List (List ℕ)) (a b c : List ℕ) → a ≡ concat frames ++ b → b ≡ concat others ++ c
+    → a ≡ concat (frames ++ others) ++ c
+joined_frames frames others a b c e f =
+    e ∙ ap (λ s. concat frames ++ s) f ∙ sym (append_assoc (concat frames) (concat others) c)
+    ∙ ap (λ s. s ++ c) (sym (concat-append frames others))
+
+pub nothing_compared : (c : AbstractComparison) (octets : List ℕ) (t : Tally) → AreCompared c octets t octets [] t
+nothing_compared c octets t =
+    record { frames = []; each = All_none IsFrame; split = refl; are = (refl, refl) }
+
+pub none_passed : (c : AbstractComparison) (octets : List ℕ) (t : Tally) (before : List ℕ)
+    → HasPassed c octets t before 0 t before
+none_passed c octets t before = record {
+  frames = [];
+  each = All_none IsFrame;
+  split = refl;
+  within = omega arith;
+  lines = [];
+  are = (refl, refl);
+  added = sym (append-nil before);
+}
+
+pub one_passed : (c : AbstractComparison) (octets : List ℕ) (old : Tally) (before : List ℕ) (at : ℕ) (t : Tally) (lines : List ℕ)
+    (rest : List ℕ) (frame : Frame) (new : Tally) (more line : List ℕ) → HasPassed c octets old before at t lines
+    → rest ≡ drop at octets → IsFirst rest frame → IsLine c (later t.frames 1) (body_in frame.body.now) line
+    → new ≡ after t line → more ≡ lines ++ line → HasPassed c octets old before (at + length frame.octets.now) new more
+one_passed c octets old before at t lines rest frame new more line h same first is counted added =
+    let f = frame.octets.now in
+    let size = length f in
+    let drops = length-drop at octets in
+    let was = h.within in
+    let within = first.within in
+    let sized = ap length same in
+    let line_is : IsLine c (later t.frames 1) (body_in (drop 4 f)) line =
+    subst (λ (s : List ℕ). IsLine c (later t.frames 1) (body_in s) line) first.body is in
+    let whole : drop at octets ≡ concat (f ∷ []) ++ drop (at + size) octets =
+    sym (take-append-drop size (drop at octets))
+    ∙ ap (λ s. s ++ drop size (drop at octets)) (sym (first.front ∙ ap (take size) same) ∙ sym (append-nil f))
+    ∙ ap (λ s. concat (f ∷ []) ++ s) (drop-drop size at octets) in
+    record {
+      frames = h.frames ++ f ∷ [];
+      each = All_more IsFrame h.frames f h.each first.is;
+      split = joined_frames h.frames (f ∷ []) octets (drop at octets) (drop (at + size) octets) h.split whole;
+      within = omega (arith, within, drops, was, sized);
+      lines = h.lines ++ line;
+      are = lines_then c old t new h.frames (f ∷ []) h.lines line h.are
+          (subst (AreLines c t (f ∷ []) line) (sym counted) (one_line c t f line line_is));
+      added = added ∙ ap (λ s. s ++ line) h.added ∙ append_assoc before h.lines line;
+    }
+
+-- ---- what came in
+
+pub record CameOfLink (link : ℕ) (a b : Option (List ℕ)) (octets : List ℕ) : Type 0 where
+  pub records : List Record
+  pub allowed : All IsAllowed records
+  pub open_still : All (LeavesOpen link) records
+  pub given : Consumes a b (concat (map record_octets records))
+  pub are : octets ≡ concat (map (of_link link) records)
+
+-- these octets so far
+abbrev pub CameSoFar : Origin → Option (List ℕ) → Option (List ℕ) → List ℕ → Type 0
+CameSoFar Stream a b octets = Consumes a b octets
+CameSoFar (Link link) a b octets = CameOfLink link a b octets
+
+came_none : (origin : Origin) (a : Option (List ℕ)) → CameSoFar origin a a []
+came_none Stream a = Consumes_none a
+came_none (Link link) a = record {
+  records = [];
+  allowed = All_none IsAllowed;
+  open_still = All_none (LeavesOpen link);
+  given = Consumes_none a;
+  are = refl;
+}
+
+of_more : (link : ℕ) (records : List Record) (r : Record)
+    → concat (map (of_link link) (records ++ r ∷ [])) ≡ concat (map (of_link link) records) ++ of_link link r
+of_more link records r =
+    ap concat (map-append (of_link link) records (r ∷ []))
+    ∙ concat-append (map (of_link link) records) (of_link link r ∷ [])
+    ∙ ap (λ s. concat (map (of_link link) records) ++ s) (append-nil (of_link link r))
+
+came_more : (origin : Origin) (a b c : Option (List ℕ)) (octets piece : List ℕ) → CameSoFar origin a b octets
+    → AddsPiece origin b c piece → CameSoFar origin a c (octets ++ piece)
+came_more Stream a b c octets piece h p = Consumes_trans a b c octets piece h p
+came_more (Link link) a b c octets piece h (r, ok, stays, read, is) = record {
+  records = h.records ++ r ∷ [];
+  allowed = All_more IsAllowed h.records r h.allowed ok;
+  open_still = All_more (LeavesOpen link) h.records r h.open_still stays;
+  given = subst (λ (s : List ℕ). Consumes a c s) (sym (joined_last h.records r))
+      (Consumes_trans a b c (concat (map record_octets h.records)) (record_octets r) h.given read);
+  are = ap (λ s. s ++ piece) h.are ∙ ap (λ s. concat (map (of_link link) h.records) ++ s) is ∙ sym (of_more link h.records r);
+}
+
+-- with this rest, of a stream none
+gives : (origin : Origin) (a b c : Option (List ℕ)) (y z : ℕ) (failed : Bool) (octets : List ℕ) → CameSoFar origin a b octets
+    → Consumes b c [] → Gives origin (input_of a c y z failed) octets []
+gives Stream a b c y z failed octets h read =
+    (subst (λ (s : List ℕ). Consumes a c s) (append-nil octets) (Consumes_trans a b c octets [] h read), refl)
+gives (Link link) a b c y z failed octets h read = record {
+  records = h.records;
+  allowed = h.allowed;
+  open_still = h.open_still;
+  given = Consumes_trans a b c (concat (map record_octets h.records)) [] h.given read;
+  are = h.are;
+}
+
+gives_rest : (link : ℕ) (a b c : Option (List ℕ)) (y z : ℕ) (failed : Bool) (octets rest : List ℕ) → CameOfLink link a b octets
+    → Consumes b c rest → GivesOfLink link (input_of a c y z failed) octets rest
+gives_rest link a b c y z failed octets rest h read = record {
+  records = h.records;
+  allowed = h.allowed;
+  open_still = h.open_still;
+  given = Consumes_trans a b c (concat (map record_octets h.records)) rest h.given read;
+  are = h.are;
+}
+
+ends : (origin : Origin) (a b c : Option (List ℕ)) (y z : ℕ) (failed : Bool) (octets : List ℕ) → CameSoFar origin a b octets
+    → EndsBehind origin b c
+    → (rest : List ℕ) × Gives origin (input_of a c y z failed) octets rest × Ends origin (input_of a c y z failed) rest
+ends Stream a b c y z failed octets h (read, at_end) = ([], gives Stream a b c y z failed octets h read, at_end)
+ends (Link link) a b c y z failed octets h (inl read) =
+    (record_octets (end link), gives_rest link a b c y z failed octets (record_octets (end link)) h read, inl refl)
+ends (Link link) a b c y z failed octets h (inr (read, at_end)) =
+    ([], gives (Link link) a b c y z failed octets h read, inr (refl, at_end))
+
+-- why no more can be read
+abbrev IsWhy : Uncompared → Origin → Input → List ℕ → Type 0
+IsWhy why.Lost origin input rest = IsFailed origin input rest
+IsWhy why.BadRecord origin input rest = IsBad origin input rest
+IsWhy _ origin input rest = ⊥
+
+reading_stops : (u : Uncompared) (origin : Origin) (a b c : Option (List ℕ)) (y z reads : ℕ) (failed : Bool) (octets : List ℕ)
+    → CameSoFar origin a b octets → StopsReading u origin b c failed reads → (reads ≡ 0 → WentUpBy y (2 ^ 40) z)
+    → (rest : List ℕ) × Gives origin (input_of a c y z failed) octets rest × IsWhy u origin (input_of a c y z failed) rest
+reading_stops why.Lost Stream a b c y z reads failed octets h (read, because) asked =
+    ([], gives Stream a b c y z failed octets h read, elim because [ inl x ↦ inl x | inr x ↦ inr (asked x) ])
+reading_stops why.Lost (Link link) a b c y z reads failed octets h (rest, read, (none, because)) asked = (
+  rest,
+  gives_rest link a b c y z failed octets rest h read,
+  (none, elim because [ inl x ↦ inl x | inr x ↦ inr (asked x) ]),
+)
+reading_stops why.BadRecord Stream a b c y z reads failed octets h stops asked = absurd stops
+reading_stops why.BadRecord (Link link) a b c y z reads failed octets h (rest, read, bad) asked =
+    (rest, gives_rest link a b c y z failed octets rest h read, bad)
+reading_stops why.Torn origin a b c y z reads failed octets h stops asked = absurd stops
+reading_stops why.TooLong origin a b c y z reads failed octets h stops asked = absurd stops
+reading_stops why.WriteFailed origin a b c y z reads failed octets h stops asked = absurd stops
+reading_stops why.NoMemory origin a b c y z reads failed octets h stops asked = absurd stops
+
+is_stopped : (u : Uncompared) (origin : Origin) (input : Input) (g : Progress) (out : Device) → IsWhy u origin input g.rest
+    → IsUnfinished g.left → TookAll g.lines out → IsStopped u origin input g out
+is_stopped why.Lost origin input g out h unfinished took = (h, unfinished, took)
+is_stopped why.BadRecord origin input g out h unfinished took = (h, unfinished, took)
+is_stopped why.Torn origin input g out h unfinished took = absurd h
+is_stopped why.TooLong origin input g out h unfinished took = absurd h
+is_stopped why.WriteFailed origin input g out h unfinished took = absurd h
+is_stopped why.NoMemory origin input g out h unfinished took = absurd h
+
+failed_at : (origin : Origin) (a b : Option (List ℕ)) (y z : ℕ) (failed : Bool) → WentUpBy y (2 ^ 40) z
+    → IsFailed origin (input_of a b y z failed) []
+failed_at Stream a b y z failed asked = inr asked
+failed_at (Link link) a b y z failed asked = (short_none [] (omega arith), inr asked)
+
+-- ---- the frames so far
+
+pub record ComparedSoFar (c : AbstractComparison) (origin : Origin) (a b o o₁ : Option (List ℕ)) (held : List ℕ) (t : Tally) : Type 0 where
+  pub octets : List ℕ
+  pub came : CameSoFar origin a b octets
+  pub frames : List (List ℕ)
+  pub each : All IsFrame frames
+  pub split : octets ≡ concat frames ++ held
+  pub lines : List ℕ
+  pub are : AreLines c no_frames frames lines t
+  pub unfinished : IsUnfinished held
+  pub sent : Appends o o₁ lines
+
+pub none_compared : (c : AbstractComparison) (origin : Origin) (a o : Option (List ℕ)) (held : List ℕ) (t : Tally)
+    → held ≡ [] → t ≡ no_frames → ComparedSoFar c origin a a o o held t
+none_compared c origin a o held t none first = record {
+  octets = [];
+  came = came_none origin a;
+  frames = [];
+  each = All_none IsFrame;
+  split = sym none;
+  lines = [];
+  are = (refl, first);
+  unfinished = subst IsUnfinished (sym none) empty_unfinished;
+  sent = Appends_none o;
+}
+
+module _ (c : AbstractComparison) (origin : Origin) (a b o o₁ : Option (List ℕ)) (held : List ℕ) (t : Tally)
+    (so_far : ComparedSoFar c origin a b o o₁ held t) where
+  -- the progress so far, with this rest
+  abbrev progress : List ℕ → Progress
+  progress rest = record { lines = so_far.lines; tally = t; left = held; rest = rest }
+
+  reaches : (b₁ : Option (List ℕ)) (y z : ℕ) (failed : Bool) (rest : List ℕ)
+      → Gives origin (input_of a b₁ y z failed) so_far.octets rest
+      → Reaches c origin (input_of a b₁ y z failed) (progress rest)
+  reaches b₁ y z failed rest given = record {
+    octets = so_far.octets;
+    given = given;
+    frames = so_far.frames;
+    each = so_far.each;
+    split = so_far.split;
+    compared = so_far.are;
+  }
+
+  -- with one more piece, of which the frames are these
+  compared_more : (b₁ : Option (List ℕ)) (y z : ℕ) (failed : Bool) (piece left lines : List ℕ) (new : Tally)
+      → AddsPiece origin b b₁ piece → AreCompared c (held ++ piece) t left lines new
+      → Reaches c origin (input_of a b₁ y z failed) (record { lines = so_far.lines ++ lines; tally = new; left = left; rest = [] })
+  compared_more b₁ y z failed piece left lines new adds h = record {
+    octets = so_far.octets ++ piece;
+    given = gives origin a b₁ b₁ y z failed (so_far.octets ++ piece)
+        (came_more origin a b b₁ so_far.octets piece so_far.came adds) (Consumes_none b₁);
+    frames = so_far.frames ++ h.frames;
+    each = All-append IsFrame so_far.frames h.frames so_far.each h.each;
+    split = joined_frames so_far.frames h.frames (so_far.octets ++ piece) (held ++ piece) left
+        (ap (λ s. s ++ piece) so_far.split ∙ append_assoc (concat so_far.frames) held piece) h.split;
+    compared = lines_then c no_frames t new so_far.frames h.frames so_far.lines lines so_far.are h.are;
+  }
+
+  pub one_taken : (b₁ o₂ : Option (List ℕ)) (f : Bool) (piece left : List ℕ) (new : Tally) → AddsPiece origin b b₁ piece
+      → HasTaken c (held ++ piece) t left new (device o₁ o₂ f) → ComparedSoFar c origin a b₁ o o₂ left new
+  one_taken b₁ o₂ f piece left new adds (lines, h, unfinished, took) =
+      record {
+        octets = so_far.octets ++ piece;
+        came = came_more origin a b b₁ so_far.octets piece so_far.came adds;
+        frames = so_far.frames ++ h.frames;
+        each = All-append IsFrame so_far.frames h.frames so_far.each h.each;
+        split = joined_frames so_far.frames h.frames (so_far.octets ++ piece) (held ++ piece) left
+            (ap (λ s. s ++ piece) so_far.split ∙ append_assoc (concat so_far.frames) held piece) h.split;
+        lines = so_far.lines ++ lines;
+        are = lines_then c no_frames t new so_far.frames h.frames so_far.lines lines so_far.are h.are;
+        unfinished = unfinished;
+        sent = Appends_trans o o₁ o₂ so_far.lines lines so_far.sent took;
+      }
+
+  -- the next piece isn't taken whole
+  pub stopped_taking : (u : Uncompared) (b₁ o₂ : Option (List ℕ)) (y z : ℕ) (failed f : Bool) (piece : List ℕ)
+      → AddsPiece origin b b₁ piece → StopsTaking c (held ++ piece) t u (device o₁ o₂ f)
+      → (g : Progress) × Reaches c origin (input_of a b₁ y z failed) g
+      × IsStopped u origin (input_of a b₁ y z failed) g (device o o₂ f)
+  stopped_taking why.Torn b₁ o₂ y z failed f piece adds h = absurd h
+  stopped_taking why.TooLong b₁ o₂ y z failed f piece adds (left, lines, new, h, long, took) = (
+    record { lines = so_far.lines ++ lines; tally = new; left = left; rest = [] },
+    compared_more b₁ y z failed piece left lines new adds h,
+    (refl, long, Appends_trans o o₁ o₂ so_far.lines lines so_far.sent took),
+  )
+  stopped_taking why.BadRecord b₁ o₂ y z failed f piece adds h = absurd h
+  stopped_taking why.Lost b₁ o₂ y z failed f piece adds h = absurd h
+  stopped_taking why.WriteFailed b₁ o₂ y z failed f piece adds (left, lines, new, h, (part, inside, sent, broken)) = (
+    record { lines = so_far.lines ++ lines; tally = new; left = left; rest = [] },
+    compared_more b₁ y z failed piece left lines new adds h,
+    (
+      refl,
+      (
+        so_far.lines ++ part,
+        Prefix_second part so_far.lines lines inside,
+        Appends_trans o o₁ o₂ so_far.lines part so_far.sent sent,
+        broken,
+      ),
+    ),
+  )
+  stopped_taking why.NoMemory b₁ o₂ y z failed f piece adds (left, lines, new, h, took) = (
+    record { lines = so_far.lines ++ lines; tally = new; left = left; rest = [] },
+    compared_more b₁ y z failed piece left lines new adds h,
+    Appends_trans o o₁ o₂ so_far.lines lines so_far.sent took,
+  )
+
+  -- no more come
+  all_compared : (b₁ : Option (List ℕ)) (y z : ℕ) (failed f : Bool) → EndsBehind origin b b₁ → held ≡ []
+      → (g : Progress) × Reaches c origin (input_of a b₁ y z failed) g × Ends origin (input_of a b₁ y z failed) g.rest
+      × (g.left ≡ []) × (g.tally ≡ t) × TookAll g.lines (device o o₁ f)
+  all_compared b₁ y z failed f behind none =
+      let e = ends origin a b b₁ y z failed so_far.octets so_far.came behind in
+      (progress e.0, reaches b₁ y z failed e.0 e.1, e.2, none, refl, so_far.sent)
+
+  torn_at_end : (b₁ : Option (List ℕ)) (y z : ℕ) (failed f : Bool) → EndsBehind origin b b₁ → 0 < length held
+      → (g : Progress) × Reaches c origin (input_of a b₁ y z failed) g
+      × IsStopped why.Torn origin (input_of a b₁ y z failed) g (device o o₁ f)
+  torn_at_end b₁ y z failed f behind some =
+      let e = ends origin a b b₁ y z failed so_far.octets so_far.came behind in
+      (progress e.0, reaches b₁ y z failed e.0 e.1, (e.2, some, so_far.unfinished, so_far.sent))
+
+  -- by what is said of the end, of which a slice has the octets that are held
+  pub ended_whole : (b₁ : Option (List ℕ)) (y z : ℕ) (failed f : Bool) (r : Result Tally Uncompared) (slice : List ℕ) → slice ≡ held
+      → IfOk r (λ x. (x ≡ t) × (slice ≡ [])) → EndsBehind origin b b₁
+      → IfOk r (λ x. (g : Progress) × Reaches c origin (input_of a b₁ y z failed) g × Ends origin (input_of a b₁ y z failed) g.rest
+      × (g.left ≡ []) × (g.tally ≡ x) × TookAll g.lines (device o o₁ f))
+  ended_whole b₁ y z failed f (Ok x) slice same (is, none) behind =
+      let h = all_compared b₁ y z failed f behind (sym same ∙ none) in (h.0, h.1, h.2, h.3, h.4 ∙ sym is, h.5)
+  ended_whole b₁ y z failed f (Err u) slice same h behind = tt
+
+  pub ended_torn : (b₁ : Option (List ℕ)) (y z : ℕ) (failed f : Bool) (r : Result Tally Uncompared) (slice : List ℕ) → slice ≡ held
+      → IfErr r (λ u. (u ≡ why.Torn) × (0 < length slice)) → EndsBehind origin b b₁
+      → IfErr r (λ u. (g : Progress) × Reaches c origin (input_of a b₁ y z failed) g
+      × IsStopped u origin (input_of a b₁ y z failed) g (device o o₁ f))
+  ended_torn b₁ y z failed f (Ok x) slice same h behind = tt
+  ended_torn b₁ y z failed f (Err u) slice same (is, some) behind =
+      subst (λ (x : Uncompared). (g : Progress) × Reaches c origin (input_of a b₁ y z failed) g
+      × IsStopped x origin (input_of a b₁ y z failed) g (device o o₁ f)) (sym is)
+      (torn_at_end b₁ y z failed f behind (subst (λ (s : List ℕ). 0 < length s) same some))
+
+  -- no more can be read
+  pub stopped_reading : (u : Uncompared) (b₁ : Option (List ℕ)) (y z reads : ℕ) (failed f : Bool)
+      → StopsReading u origin b b₁ failed reads → (reads ≡ 0 → WentUpBy y (2 ^ 40) z)
+      → (g : Progress) × Reaches c origin (input_of a b₁ y z failed) g
+      × IsStopped u origin (input_of a b₁ y z failed) g (device o o₁ f)
+  stopped_reading u b₁ y z reads failed f stops asked =
+      let e = reading_stops u origin a b b₁ y z reads failed so_far.octets so_far.came stops asked in (
+        progress e.0,
+        reaches b₁ y z failed e.0 e.1,
+        is_stopped u origin (input_of a b₁ y z failed) (progress e.0) (device o o₁ f) e.2
+            so_far.unfinished so_far.sent,
+      )
+
+  -- it was asked too often
+  pub lost_at_last : (y z : ℕ) (failed f : Bool) → WentUpBy y (2 ^ 40) z
+      → (g : Progress) × Reaches c origin (input_of a b y z failed) g
+      × IsStopped why.Lost origin (input_of a b y z failed) g (device o o₁ f)
+  lost_at_last y z failed f asked = (
+    progress [],
+    reaches b y z failed [] (gives origin a b b y z failed so_far.octets so_far.came (Consumes_none b)),
+    (failed_at origin a b y z failed asked, so_far.unfinished, so_far.sent),
+  )
+
+-- ---- the last line
+
+pub total_written : (c : AbstractComparison) (origin : Origin) (input : Input) (t : Tally) (o o₁ o₂ : Option (List ℕ)) (f₁ f : Bool)
+    (err : Device) (status : ℕ)
+    → ((g : Progress) × Reaches c origin input g × Ends origin input g.rest × (g.left ≡ []) × (g.tally ≡ t)
+    × TookAll g.lines (device o o₁ f₁))
+    → Writes (total_line t) (compared_status t) (device o₁ o₂ f) err status ⊎ ((o₂ ≡ o₁) × TellsNoMemory err status)
+    → ComparesFrames c origin input (device o o₂ f) err status
+total_written c origin input t o o₁ o₂ f₁ f err status (g, r, e, none, same, took) (inl w) =
+    inl (
+      g,
+      r,
+      e,
+      none,
+      subst (λ (x : Tally). Writes (g.lines ++ total_line x) (compared_status x) (device o o₂ f) err status) (sym same)
+          (elim w [
+            | inl h ↦ inl (Appends_trans o o₁ o₂ g.lines (total_line t) took h.0, h.1, h.2)
+            | inr h ↦ inr (
+              (
+                g.lines ++ h.0.0,
+                Prefix_second h.0.0 g.lines (total_line t) h.0.1,
+                Appends_trans o o₁ o₂ g.lines h.0.0 took h.0.2,
+                h.0.3,
+              ),
+              h.1,
+            )
+          ]),
+    )
+total_written c origin input t o o₁ o₂ f₁ f err status (g, r, e, none, same, took) (inr (kept, told)) =
+    inr (why.NoMemory, g, r, subst (λ (x : Option (List ℕ)). Appends o x g.lines) (sym kept) took, told)
+
+-- there is no memory to begin with
+pub none_begun : (c : AbstractComparison) (origin : Origin) (a o : Option (List ℕ)) (y : ℕ) (failed f : Bool) (err : Device) (status : ℕ)
+    → TellsNoMemory err status → ComparesFrames c origin (input_of a a y y failed) (device o o f) err status
+none_begun c origin a o y failed f err status told =
+    inr (
+      why.NoMemory,
+      record { lines = []; tally = no_frames; left = []; rest = [] },
+      record {
+        octets = [];
+        given = gives origin a a a y y failed [] (came_none origin a) (Consumes_none a);
+        frames = [];
+        each = All_none IsFrame;
+        split = refl;
+        compared = (refl, refl);
+      },
+      Appends_none o,
+      told,
+    )

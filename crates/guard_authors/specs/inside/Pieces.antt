@@ -1,0 +1,91 @@
+-- What comes in piece by piece, and what is made of it.
+use Rattle.std.specs.Prelude.{◌≡◌, ◌≤◌, ◌⊎◌, ℕ, Bool, true, List, [], ◌++◌, drop, length, Option}
+use Rattle.std.specs.List.{concat, All}
+use Rattle.std.specs.Io.KnownBytes.{Consumes, IsAtEnd}
+use Rattle.guard_frames.specs.Frames.{IsFrame, IsTooLong, IsUnfinished}
+use Rattle.guard_files.specs.declared.stop.Stop.{Stop}
+use Rattle.guard_files.specs.declared.stop.Stop.TheVariants as stop
+use Rattle.guard_files.specs.Devices.{Device}
+use Rattle.guard_files.specs.Headers.{IsNone}
+use Rattle.guard_files.specs.Records.{Record, record_octets, IsAllowed}
+use Rattle.guard_files.specs.Records.Record.{end}
+use Rattle.guard_files.specs.Writing.{TookAll, TookPart}
+use Rattle.guard_authors.specs.declared.comparing.Origin.{Origin}
+use Rattle.guard_authors.specs.declared.comparing.Origin.TheVariants.{Stream, Link}
+use Rattle.guard_authors.specs.declared.comparing.Uncompared.{Uncompared}
+use Rattle.guard_authors.specs.declared.comparing.Uncompared.TheVariants as why
+use Rattle.guard_authors.specs.declared.differing.Tally.{Tally}
+use Rattle.guard_authors.specs.Comparing.{LeavesOpen, of_link}
+use Rattle.guard_authors.specs.Differing.{AbstractComparison, AreLines}
+
+-- why no record could be read
+abbrev pub of_stop : Stop → Uncompared
+of_stop stop.BadRecord = why.BadRecord
+of_stop stop.ReadFailed = why.Lost
+of_stop stop.WriteFailed = why.Lost
+of_stop stop.ErrorFailed = why.Lost
+
+-- ---- one read, by what the source tells before and after it
+
+-- these octets came; of a link, with one record
+abbrev pub AddsPiece : Origin → Option (List ℕ) → Option (List ℕ) → List ℕ → Type 0
+AddsPiece Stream before after octets = Consumes before after octets
+AddsPiece (Link link) before after octets =
+    (r : Record) × IsAllowed r × LeavesOpen link r × Consumes before after (record_octets r) × (octets ≡ of_link link r)
+
+-- no more come
+abbrev pub EndsBehind : Origin → Option (List ℕ) → Option (List ℕ) → Type 0
+EndsBehind Stream before after = Consumes before after [] × IsAtEnd after
+EndsBehind (Link link) before after =
+    Consumes before after (record_octets (end link)) ⊎ (Consumes before after [] × IsAtEnd after)
+
+-- why nothing could be read
+abbrev pub StopsReading : Uncompared → Origin → Option (List ℕ) → Option (List ℕ) → Bool → ℕ → Type 0
+StopsReading why.Lost Stream before after failed reads =
+    Consumes before after [] × ((failed ≡ true) ⊎ (reads ≡ 0))
+StopsReading why.Lost (Link link) before after failed reads =
+    (rest : List ℕ) × Consumes before after rest × IsNone stop.ReadFailed rest (IsAtEnd after) failed reads
+StopsReading why.BadRecord Stream before after failed reads = ⊥
+StopsReading why.BadRecord (Link link) before after failed reads =
+    (rest : List ℕ) × Consumes before after rest × IsNone stop.BadRecord rest (IsAtEnd after) failed reads
+StopsReading why.Torn origin before after failed reads = ⊥
+StopsReading why.TooLong origin before after failed reads = ⊥
+StopsReading why.WriteFailed origin before after failed reads = ⊥
+StopsReading why.NoMemory origin before after failed reads = ⊥
+
+-- ---- octets that are held and the piece behind them
+
+-- the octets up to this place are frames, and their lines were added
+pub record HasPassed (c : AbstractComparison) (octets : List ℕ) (old : Tally) (before : List ℕ) (at : ℕ) (new : Tally)
+    (behind : List ℕ) : Type 0 where
+  pub frames : List (List ℕ)
+  pub each : All IsFrame frames
+  pub split : octets ≡ concat frames ++ drop at octets
+  pub within : at ≤ length octets
+  pub lines : List ℕ
+  pub are : AreLines c old frames lines new
+  pub added : behind ≡ before ++ lines
+
+-- the octets are frames and what is left, and these are the lines
+pub record AreCompared (c : AbstractComparison) (octets : List ℕ) (old : Tally) (left lines : List ℕ) (new : Tally) : Type 0 where
+  pub frames : List (List ℕ)
+  pub each : All IsFrame frames
+  pub split : octets ≡ concat frames ++ left
+  pub are : AreLines c old frames lines new
+
+abbrev pub HasTaken : AbstractComparison → List ℕ → Tally → List ℕ → Tally → Device → Type 0
+HasTaken c octets old left new out =
+    (lines : List ℕ) × AreCompared c octets old left lines new × IsUnfinished left × TookAll lines out
+
+-- A length is too great, standard output failed, or memory ran out, before the lines were written or behind that.
+abbrev pub StopsTaking : AbstractComparison → List ℕ → Tally → Uncompared → Device → Type 0
+StopsTaking c octets old why.TooLong out =
+    (left : List ℕ) × (lines : List ℕ) × (new : Tally) × AreCompared c octets old left lines new × IsTooLong left
+    × TookAll lines out
+StopsTaking c octets old why.WriteFailed out =
+    (left : List ℕ) × (lines : List ℕ) × (new : Tally) × AreCompared c octets old left lines new × TookPart lines out
+StopsTaking c octets old why.NoMemory out =
+    (left : List ℕ) × (lines : List ℕ) × (new : Tally) × AreCompared c octets old left lines new × TookAll lines out
+StopsTaking c octets old why.Torn out = ⊥
+StopsTaking c octets old why.BadRecord out = ⊥
+StopsTaking c octets old why.Lost out = ⊥

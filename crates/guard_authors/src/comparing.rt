@@ -1,0 +1,431 @@
+//! The frames that come in under two policies, an old one and a new one.
+ghost use Rattle.std.specs.Prelude.{◌≡◌, ◌⊎◌, ◌<◌, ◌≤◌, ◌-◌, ◌++◌, ℕ, List, [], None, true, false};
+ghost use Rattle.std.specs.Prelude.{drop, length, option_map, take, IfOk, IfErr, IfSome, OnOk};
+ghost use Rattle.guard_frames.specs.Cutting.{IsRest};
+ghost use Rattle.guard_frames.specs.Totals.{WentUpBy};
+ghost use Rattle.guard_policy.specs.PolicyView.{policy_view};
+ghost use Rattle.guard_files.specs.Devices.{source_of, device_of};
+ghost use Rattle.guard_files.specs.Headers.{record_of, IsGood};
+ghost use Rattle.guard_files.specs.Records.Record.{end};
+ghost use Rattle.guard_files.specs.Writing.{TellsNoMemory, TookAll, Writes};
+ghost use Rattle.guard_authors.specs.Comparing.{comparing_view, Compares, ComparesFrames, ComparesUnder, ComparesWith};
+ghost use Rattle.guard_authors.specs.Comparing.{Ends, IsLink, IsMeant, IsStopped, LeavesOpen, Progress, Reaches};
+ghost use Rattle.guard_authors.specs.Comparing.{of_link, TellsStopped};
+ghost use Rattle.guard_authors.specs.Differing.{comparison_view, compared_status, total_line};
+ghost use Rattle.guard_authors.specs.declared.comparing.Origin.TheVariants.{Stream, Link};
+ghost use Rattle.guard_authors.specs.declared.comparing.Uncompared.TheVariants as why;
+ghost use Rattle.guard_authors.specs.inside.Pieces.{of_stop, AddsPiece, EndsBehind, HasPassed, HasTaken, StopsReading};
+ghost use Rattle.guard_authors.specs.inside.Pieces.{StopsTaking};
+
+use crate::differing::{Comparison, Tally, add_frame};
+use guard_files::{
+    Fault, Files, Header, Stop, add, load, new_room, next_record, tell, tell_bad_record,
+    tell_failed_read, tell_failed_write, tell_no_memory, tell_text, write,
+};
+use guard_frames::{Cut, Failed, MOST_READS, Rest, RunFault, Sink, Source, first_cut, put_all};
+use guard_model::OutOfMemory;
+use guard_policy::Policy;
+use std::alloc::Global;
+
+/// What the words give: the paths of the policies, whether the places of constraints count, and the number of the link
+/// whose frames are compared, where records come in.
+#[derive(Clone, Copy, Debug, PartialEq, Eq)]
+pub struct Comparing<'a> {
+    pub old: &'a str,
+    pub new: &'a str,
+    pub by_place: bool,
+    pub link: Option<&'a str>,
+}
+
+/// Whose frames are compared.
+#[derive(Clone, Copy, Debug, PartialEq, Eq)]
+pub enum Origin {
+    /// All that come in.
+    Stream,
+    /// Those of this link, of the records that come in.
+    Link(u64),
+}
+
+/// What follows the whole frames of some octets.
+#[derive(Clone, Copy)]
+struct Left {
+    /// Where it begins.
+    at: usize,
+    rest: Rest,
+}
+
+/// Why frames aren't compared to the end.
+#[derive(Clone, Copy, Debug, PartialEq, Eq)]
+pub enum Uncompared {
+    /// The end comes inside a frame.
+    Torn,
+    /// A length is above that of a frame.
+    TooLong,
+    /// What comes in is no record, or is cut short by the end.
+    BadRecord,
+    /// Standard input failed, or was asked too often.
+    Lost,
+    /// Standard output failed.
+    WriteFailed,
+    NoMemory,
+}
+
+impl From<OutOfMemory> for Uncompared {
+    ghost from_gives = { λ _ e. e ≡ why.NoMemory };
+
+    fn from(_e: OutOfMemory) -> Uncompared {
+        Uncompared::NoMemory
+    }
+}
+
+impl From<Failed> for Uncompared {
+    ghost from_gives = { λ _ e. e ≡ why.WriteFailed };
+
+    fn from(_e: Failed) -> Uncompared {
+        Uncompared::WriteFailed
+    }
+}
+
+impl From<Stop> for Uncompared {
+    ghost from_gives = { λ s e. e ≡ of_stop s };
+
+    fn from(stop: Stop) -> Uncompared {
+        match stop {
+            Stop::BadRecord => Uncompared::BadRecord,
+            Stop::ReadFailed | Stop::WriteFailed | Stop::ErrorFailed => Uncompared::Lost,
+        }
+    }
+}
+
+/// Writes a line for each frame that has another verdict under the new policy than under the old one, and how many
+/// there were, and answers the status: 0 where none differs, 1 where some do, 2 where the link or a policy isn't there,
+/// 3 where the stream or a device failed. A fault is reported on standard error, behind the lines of the frames before
+/// it.
+pub fn compare<F: Files, S: Source, O: Sink, E: Sink>(
+    alloc: Global,
+    asked: &Comparing,
+    files: &mut F,
+    input: &mut S,
+    out: &mut O,
+    err: &mut E,
+) -> u8
+    ensures { Compares (F.told files.old) (comparing_view asked.now)
+        (source_of S.tells S.takes S.has_failed input.old input.new)
+        (device_of O.taken O.has_failed out.old out.new)
+        (device_of E.taken E.has_failed err.old err.new) result }
+{
+    match origin_of(asked.link) {
+        Some(origin) => compare_under(alloc, asked, origin, files, input, out, err),
+        None => tell_text(alloc, "no such link", 2, err),
+    }
+}
+
+/// Whose frames are meant; none where the word is no number of a link.
+fn origin_of(link: Option<&str>) -> Option<Origin>
+    ensures some { IfSome result (IsMeant (option_map (λ number. number.now) link.entry)) }
+    ensures none { result ≡ None → (origin : Origin) → IsMeant (option_map (λ number. number.now) link.entry) origin
+        → ⊥ }
+{
+    match link {
+        Some(word) => Some(Origin::Link(link_in(word)?)),
+        None => Some(Origin::Stream),
+    }
+}
+
+/// The number of a link that the word writes.
+fn link_in(word: &str) -> Option<u64>
+    ensures number { IfSome result (IsLink word.now) }
+    ensures none { result ≡ None → (k : ℕ) → IsLink word.now k → ⊥ }
+{
+    match word.parse::<u64>() {
+        Ok(link) if link <= 15 => Some(link),
+        _ => None,
+    }
+}
+
+fn compare_under<F: Files, S: Source, O: Sink, E: Sink>(
+    alloc: Global,
+    asked: &Comparing,
+    origin: Origin,
+    files: &mut F,
+    input: &mut S,
+    out: &mut O,
+    err: &mut E,
+) -> u8
+    ensures { ComparesUnder (F.told files.old) (comparing_view asked.now) origin
+        (source_of S.tells S.takes S.has_failed input.old input.new)
+        (device_of O.taken O.has_failed out.old out.new)
+        (device_of E.taken E.has_failed err.old err.new) result }
+{
+    match load(alloc, asked.old, files) {
+        Ok(old) => compare_with(alloc, asked, origin, &old, files, input, out, err),
+        Err(fault) => tell(alloc, &fault, err),
+    }
+}
+
+fn compare_with<F: Files, S: Source, O: Sink, E: Sink>(
+    alloc: Global,
+    asked: &Comparing,
+    origin: Origin,
+    old: &Policy,
+    files: &mut F,
+    input: &mut S,
+    out: &mut O,
+    err: &mut E,
+) -> u8
+    ensures { ComparesWith (policy_view old.now) (F.told files.old) (comparing_view asked.now) origin
+        (source_of S.tells S.takes S.has_failed input.old input.new)
+        (device_of O.taken O.has_failed out.old out.new)
+        (device_of E.taken E.has_failed err.old err.new) result }
+{
+    match load(alloc, asked.new, files) {
+        Ok(new) => {
+            let comparison = Comparison {
+                old,
+                new: &new,
+                by_place: asked.by_place,
+            };
+            compare_frames(alloc, &comparison, origin, input, out, err)
+        }
+        Err(fault) => tell(alloc, &fault, err),
+    }
+}
+
+fn compare_frames<S: Source, O: Sink, E: Sink>(
+    alloc: Global,
+    comparison: &Comparison,
+    origin: Origin,
+    input: &mut S,
+    out: &mut O,
+    err: &mut E,
+) -> u8
+    ensures { ComparesFrames (comparison_view comparison.now) origin
+        (source_of S.tells S.takes S.has_failed input.old input.new)
+        (device_of O.taken O.has_failed out.old out.new)
+        (device_of E.taken E.has_failed err.old err.new) result }
+{
+    let Ok(mut room) = new_room(alloc) else {
+        return tell_no_memory(err);
+    };
+    match compare_all(alloc, comparison, origin, room.as_mut_slice(), input, out) {
+        Ok(tally) => write_total(alloc, tally, out, err),
+        Err(reason) => tell_stopped(alloc, reason, err),
+    }
+}
+
+fn write_total<O: Sink, E: Sink>(alloc: Global, tally: Tally, out: &mut O, err: &mut E) -> u8
+    ensures { Writes (total_line tally) (compared_status tally)
+        (device_of O.taken O.has_failed out.old out.new)
+        (device_of E.taken E.has_failed err.old err.new) result
+        ⊎ ((O.taken out.new ≡ O.taken out.old)
+        × TellsNoMemory (device_of E.taken E.has_failed err.old err.new) result) }
+{
+    match tally.text(alloc) {
+        Ok(text) => write(text.as_bytes(), tally.status(), out, err),
+        Err(_) => tell_no_memory(err),
+    }
+}
+
+/// Reports why frames aren't compared to the end.
+fn tell_stopped<E: Sink>(alloc: Global, reason: Uncompared, err: &mut E) -> u8
+    ensures { TellsStopped reason (device_of E.taken E.has_failed err.old err.new) result }
+{
+    match reason {
+        Uncompared::Torn => tell(alloc, &Fault::Run(RunFault::TornFrame), err),
+        Uncompared::TooLong => tell(alloc, &Fault::Run(RunFault::FrameTooLong), err),
+        Uncompared::BadRecord => tell_bad_record(err),
+        Uncompared::Lost => tell_failed_read(err),
+        Uncompared::WriteFailed => tell_failed_write(err),
+        Uncompared::NoMemory => tell_no_memory(err),
+    }
+}
+
+// ---- the frames
+
+/// Compares each frame that comes, writes the lines of those that differ, and answers how many there were. Of the
+/// octets no more is held than a frame and a piece.
+fn compare_all<S: Source, O: Sink>(
+    alloc: Global,
+    comparison: &Comparison,
+    origin: Origin,
+    room: &mut [u8],
+    input: &mut S,
+    out: &mut O,
+) -> Result<Tally, Uncompared>
+    requires { length room.old ≡ 1048576 }
+    ensures all { IfOk result (λ tally. (g : Progress) × Reaches (comparison_view comparison.now) origin
+        (source_of S.tells S.takes S.has_failed input.old input.new) g
+        × Ends origin (source_of S.tells S.takes S.has_failed input.old input.new) g.rest
+        × (g.left ≡ []) × (g.tally ≡ tally)
+        × TookAll g.lines (device_of O.taken O.has_failed out.old out.new)) }
+    ensures stopped { IfErr result (λ reason. (g : Progress) × Reaches (comparison_view comparison.now) origin
+        (source_of S.tells S.takes S.has_failed input.old input.new) g
+        × IsStopped reason origin (source_of S.tells S.takes S.has_failed input.old input.new) g
+        (device_of O.taken O.has_failed out.old out.new)) }
+{
+    let mut held = Vec::new(alloc);
+    let mut tally = Tally::none();
+    let mut reads = MOST_READS;
+    for _ in 0..MOST_READS {
+        let Some(size) = next_piece(input, origin, room, &mut reads)? else {
+            return ended(&held, tally);
+        };
+        take_piece(alloc, comparison, &room[..size], &mut held, &mut tally, out)?;
+    }
+    Err(Uncompared::Lost)
+}
+
+/// What comes of the end: nothing may be left of a frame.
+fn ended(held: &[u8], tally: Tally) -> Result<Tally, Uncompared>
+    ensures whole { IfOk result (λ t. (t ≡ tally) × (held.now ≡ [])) }
+    ensures torn { IfErr result (λ u. (u ≡ why.Torn) × (0 < length held.now)) }
+{
+    if held.is_empty() {
+        Ok(tally)
+    } else {
+        Err(Uncompared::Torn)
+    }
+}
+
+/// Takes a piece: compares each frame that is whole then, and writes the lines of those that differ in one call.
+fn take_piece<O: Sink>(
+    alloc: Global,
+    comparison: &Comparison,
+    piece: &[u8],
+    held: &mut Vec<u8>,
+    tally: &mut Tally,
+    out: &mut O,
+) -> Result<(), Uncompared>
+    ensures taken { OnOk result (HasTaken (comparison_view comparison.now) (held.old.items ++ piece.now) tally.old
+        held.new.items tally.new (device_of O.taken O.has_failed out.old out.new)) }
+    ensures stopped { IfErr result (λ u. StopsTaking (comparison_view comparison.now) (held.old.items ++ piece.now)
+        tally.old u (device_of O.taken O.has_failed out.old out.new)) }
+{
+    add(held, piece)?;
+    let mut lines = Vec::new(alloc);
+    let left = pass(alloc, comparison, held.as_slice(), tally, &mut lines)?;
+    put_all(out, &lines)?;
+    match left.rest {
+        Rest::Unfinished => drop_front(alloc, held, left.at)?,
+        Rest::TooLong => return Err(Uncompared::TooLong),
+    }
+    Ok(())
+}
+
+/// Compares each whole frame that the octets begin with, adds the lines, and answers what is left.
+fn pass(
+    alloc: Global,
+    comparison: &Comparison,
+    octets: &[u8],
+    tally: &mut Tally,
+    lines: &mut Vec<u8>,
+) -> Result<Left, OutOfMemory>
+    ensures { IfOk result (λ left. HasPassed (comparison_view comparison.now) octets.now tally.old lines.old.items
+        left.at tally.new lines.new.items × IsRest (drop left.at octets.now) left.rest) }
+{
+    let mut at = 0;
+    loop {
+        let frame = match first_cut(&octets[at..]) {
+            Cut::Frame(frame) => frame,
+            Cut::Rest(rest) => return Ok(Left { at, rest }),
+        };
+        add_frame(alloc, comparison, frame.body, tally, lines)?;
+        at += frame.octets.len();
+    }
+}
+
+/// Drops so many octets at the front.
+fn drop_front(alloc: Global, octets: &mut Vec<u8>, count: usize) -> Result<(), OutOfMemory>
+    requires { count ≤ length octets.old.items }
+    ensures { OnOk result (octets.new.items ≡ drop count octets.old.items) }
+{
+    if count > 0 {
+        *octets = Vec::from_slice(alloc, &octets[count..])?;
+    }
+    Ok(())
+}
+
+// ---- the octets
+
+/// How many octets come next, which are the first ones in the room then; none at the end.
+fn next_piece<S: Source>(
+    input: &mut S,
+    origin: Origin,
+    room: &mut [u8],
+    reads: &mut u64,
+) -> Result<Option<usize>, Uncompared>
+    requires { length room.old ≡ 1048576 }
+    ensures piece { IfOk result (λ found. IfSome found (λ n. (n ≤ 1048576) × (reads.new < reads.old)
+        × AddsPiece origin (S.tells input.old) (S.tells input.new) (take n room.new))) }
+    ensures end { IfOk result (λ found. found ≡ None → EndsBehind origin (S.tells input.old) (S.tells input.new)) }
+    ensures none { IfErr result (λ u. StopsReading u origin (S.tells input.old) (S.tells input.new)
+        (S.has_failed input.new) reads.new) }
+    ensures counted { WentUpBy (S.takes input.old) (reads.old - reads.new) (S.takes input.new) }
+    ensures fewer { reads.new ≤ reads.old }
+{
+    match origin {
+        Origin::Stream => next_octets(input, room, reads),
+        Origin::Link(link) => next_of_link(input, link, room, reads),
+    }
+}
+
+fn next_octets<S: Source>(
+    input: &mut S,
+    room: &mut [u8],
+    reads: &mut u64,
+) -> Result<Option<usize>, Uncompared>
+    requires { length room.old ≡ 1048576 }
+    ensures piece { IfOk result (λ found. IfSome found (λ n. (n ≤ 1048576) × (reads.new < reads.old)
+        × AddsPiece Stream (S.tells input.old) (S.tells input.new) (take n room.new))) }
+    ensures end { IfOk result (λ found. found ≡ None → EndsBehind Stream (S.tells input.old) (S.tells input.new)) }
+    ensures none { IfErr result (λ u. StopsReading u Stream (S.tells input.old) (S.tells input.new)
+        (S.has_failed input.new) reads.new) }
+    ensures counted { WentUpBy (S.takes input.old) (reads.old - reads.new) (S.takes input.new) }
+    ensures fewer { reads.new ≤ reads.old }
+{
+    if *reads == 0 {
+        return Err(Uncompared::Lost);
+    }
+    *reads -= 1;
+    match input.take(room) {
+        Ok(0) => Ok(None),
+        Ok(size) => Ok(Some(size)),
+        Err(_) => Err(Uncompared::Lost),
+    }
+}
+
+/// The octets of the link in the next record, of which others have none; the end of the link is the end.
+fn next_of_link<S: Source>(
+    input: &mut S,
+    link: u64,
+    room: &mut [u8],
+    reads: &mut u64,
+) -> Result<Option<usize>, Uncompared>
+    requires { length room.old ≡ 1048576 }
+    ensures piece { IfOk result (λ found. IfSome found (λ n. (n ≤ 1048576) × (reads.new < reads.old)
+        × AddsPiece (Link link) (S.tells input.old) (S.tells input.new) (take n room.new))) }
+    ensures end { IfOk result (λ found. found ≡ None → EndsBehind (Link link) (S.tells input.old) (S.tells input.new)) }
+    ensures none { IfErr result (λ u. StopsReading u (Link link) (S.tells input.old) (S.tells input.new)
+        (S.has_failed input.new) reads.new) }
+    ensures counted { WentUpBy (S.takes input.old) (reads.old - reads.new) (S.takes input.new) }
+    ensures fewer { reads.new ≤ reads.old }
+{
+    let Some(header) = next_record(input, room, reads)? else {
+        return Ok(None);
+    };
+    Ok(size_of_link(header, link))
+}
+
+/// How many octets of the link come with this header; none where it is the end of the link.
+fn size_of_link(header: Header, link: u64) -> Option<usize>
+    requires { IsGood header }
+    ensures piece { IfSome result (λ n. (n ≤ 1048576) × ((room : List ℕ) → LeavesOpen link (record_of header room)
+        × (take n room ≡ of_link link (record_of header room)))) }
+    ensures end { result ≡ None → (room : List ℕ) → record_of header room ≡ end link }
+{
+    match header {
+        Header::Piece(other, size) if u64::from(other) == link => Some(size),
+        Header::End(other) if u64::from(other) == link => None,
+        Header::Piece(_, _) | Header::End(_) | Header::Reload => Some(0),
+    }
+}

@@ -6,7 +6,6 @@ pub mod Sent
 -- ---- faults
 pub mod Faults
 -- ---- messages
-pub mod Saying
 pub mod Naming
 -- ---- links
 pub mod Within

@@ -9,3 +9,5 @@ pub mod Asking
 pub mod Policies
 -- ---- links
 pub mod Links
+-- ---- what only private contracts and proofs cite
+pub mod inside

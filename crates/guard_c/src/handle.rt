@@ -1,8 +1,9 @@
 //! What C keeps of a policy or a link: a pointer, null where there is none.
-ghost use Rattle.std.specs.Prelude.{◌≡◌, Option, Some, None, MatchResult, option_map};
+ghost use Rattle.std.specs.Prelude.{◌≡◌, Option, Some, None, MatchResult};
 ghost use Rattle.std.specs.Coded.{coded_option};
 ghost use Rattle.guard_c.specs.declared.held.Held.{Held};
 ghost use Rattle.guard_c.specs.Owning.{held_row, handle_owns};
+ghost use Rattle.guard_c.specs.inside.Taken.{kept_of};
 
 use crate::held::Held;
 use crate::parted::Parted;
@@ -55,12 +56,10 @@ impl Handle {
             })
         }
     }
-}
 
-impl Handle {
     /// What the handle holds, which is empty then; None where it held nothing.
     pub(crate) fn take(&mut self, alloc: Global) -> Option<Box<Held>>
-        ensures held { option_map (λ b. b.value) result ≡ self.old.kept }
+        ensures held { kept_of result ≡ self.old.kept }
         ensures empty { self.new.kept ≡ None }
     {
         match replace(self, Handle::empty(alloc)).parted() {
@@ -74,6 +73,16 @@ impl Handle {
         ensures { self.new.kept ≡ Some held.value }
     {
         *self = sent(Handle::of(Parted::of(held)));
+    }
+
+    /// Has the handle hold again what was taken out of it.
+    pub(crate) fn give_back(&mut self, taken: Option<Box<Held>>)
+        requires { self.old.kept ≡ None }
+        ensures { self.new.kept ≡ kept_of taken }
+    {
+        if let Some(held) = taken {
+            self.fill(held);
+        }
     }
 }
 

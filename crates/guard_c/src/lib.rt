@@ -11,13 +11,12 @@
 //! | How is a box a pointer, and a box again? | `parted.rt` | `also_owns` of `Parted` |
 //! | What is loaded from texts? | `loading.rt` | `specs/Policies.antt` (`HasLoaded`) |
 //! | What is a policy asked? | `asking.rt` | `specs/Asking.antt` |
-//! | What does a piece do to a link? | `linking.rt` | `specs/Links.antt` (`HasFed`) |
+//! | What does a piece do to a link? | `links.rt` (`feed`) | `specs/Links.antt` (`HasFed`) |
 #![tactic(auto)]
 
 mod asking;
 mod handle;
 mod held;
-mod linking;
 mod links;
 mod loading;
 mod parted;

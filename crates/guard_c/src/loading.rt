@@ -1,6 +1,7 @@
 //! Policies come into handles.
 ghost use Rattle.guard_c.specs.Holding.{policy_in};
 ghost use Rattle.guard_c.specs.Policies.{IsRefusal, IsUnshared};
+ghost use Rattle.guard_c.specs.inside.Taken.{policy_under};
 ghost use Rattle.guard_frames.specs.Texts.{SayPolicy, SayNone, named};
 ghost use Rattle.guard_policy.specs.Policies.{AbstractPolicy};
 ghost use Rattle.guard_policy.specs.PolicyView.{policy_view};
@@ -85,17 +86,18 @@ fn is_named(why: &TextsFault) -> bool
     }
 }
 
-/// One more owner of the policy that is held; NoPolicy where none is, OutOfMemory where memory runs out.
-pub(crate) fn share(alloc: Global, held: &Held) -> Result<Box<Held>, Status>
-    ensures { MatchResult result (λ b. (policy_in held.now ≢ None) × (policy_in b.value ≡ policy_in held.now))
-        (IsUnshared (policy_in held.now)) }
+/// One more owner of a policy; NoPolicy where there is none, OutOfMemory where memory runs out.
+pub(crate) fn share(alloc: Global, owner: Option<&Arc<Policy>>) -> Result<Box<Held>, Status>
+    ensures { MatchResult result
+        (λ b. (policy_under owner.entry ≢ None) × (policy_in b.value ≡ policy_under owner.entry))
+        (IsUnshared (policy_under owner.entry)) }
 {
-    match held {
-        Held::Policy(owner) => match another(alloc, owner) {
-            Ok(held) => Ok(held),
-            Err(OutOfMemory) => Err(Status::OutOfMemory),
-        },
-        Held::Link(_) => Err(Status::NoPolicy),
+    let Some(owner) = owner else {
+        return Err(Status::NoPolicy);
+    };
+    match another(alloc, owner) {
+        Ok(held) => Ok(held),
+        Err(OutOfMemory) => Err(Status::OutOfMemory),
     }
 }
 

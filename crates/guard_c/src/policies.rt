@@ -1,18 +1,19 @@
 //! What C calls with a handle that holds a policy.
 ghost use Rattle.guard_c.specs.Asking.{Passes, PassesOn, SaidBy, SaidOn};
-ghost use Rattle.guard_c.specs.Holding.{policy_in, policy_of};
-ghost use Rattle.guard_c.specs.Policies.{HasLoaded, HasShared, IsUnshared};
+ghost use Rattle.guard_c.specs.Holding.{policy_of};
+ghost use Rattle.guard_c.specs.Policies.{HasLoaded, HasShared};
 ghost use Rattle.guard_c.specs.Statuses.{Answers, number};
-ghost use Rattle.guard_c.specs.Telling.{Tells, said_view};
+ghost use Rattle.guard_c.specs.Telling.{Tells};
 ghost use Rattle.guard_c.specs.declared.status.Status.TheVariants.{OutOfMemory};
+ghost use Rattle.guard_c.specs.inside.Asked.{Says};
 ghost use Rattle.guard_frames.specs.Texts.{SayPolicy};
 ghost use Rattle.guard_policy.specs.Policies.{AbstractPolicy};
 ghost use Rattle.guard_policy.specs.PolicyView.{route_view};
-ghost use Rattle.std.specs.Prelude.{◌≡◌, ◌≢◌, ◌↔◌, IsTrue, List, MatchResult, ℕ, None, Result, Some, map};
+ghost use Rattle.std.specs.Prelude.{◌≡◌, ◌≢◌, ◌↔◌, IsTrue, List, ℕ, None, Result, Some, map, option_map};
 
-use crate::asking::{passes, passes_on, say_by, say_on};
+use crate::asking::{passes, passes_by, route_in, route_of, say};
 use crate::handle::Handle;
-use crate::held::Held;
+use crate::held::{owner_in, policy_in};
 use crate::loading::{load, refuse, share};
 use crate::status::Status;
 use crate::telling::{put, tell};
@@ -61,11 +62,9 @@ pub extern "C" fn derguard_passes(
     ensures answer { IsTrue result ↔ Passes (policy_of policy.old.kept) names.now message.now }
     ensures same { policy.new.kept ≡ policy.old.kept }
 {
-    let Some(held) = policy.take(alloc) else {
-        return false;
-    };
-    let answer = passes(&held, names, message);
-    policy.fill(held);
+    let taken = policy.take(alloc);
+    let answer = passes_by(policy_in(&taken), names, message);
+    policy.give_back(taken);
     answer
 }
 
@@ -84,16 +83,9 @@ pub extern "C" fn derguard_passes_from(
         (record { from = sender.now; to = receiver.now; message = name.now }) message.now }
     ensures same { policy.new.kept ≡ policy.old.kept }
 {
-    let Some(held) = policy.take(alloc) else {
-        return false;
-    };
-    let route = Route {
-        from: sender,
-        to: receiver,
-        message: name,
-    };
-    let answer = passes_on(&held, &route, message);
-    policy.fill(held);
+    let taken = policy.take(alloc);
+    let answer = passes(policy_in(&taken), route_of(sender, receiver, name), message);
+    policy.give_back(taken);
     answer
 }
 
@@ -114,30 +106,11 @@ pub extern "C" fn derguard_verdict(
         × Tells said out.old out.new needed.new status) }
     ensures same { policy.new.kept ≡ policy.old.kept }
 {
-    let said = said_by(alloc, policy, names, message);
-    tell(said, out, needed).number()
+    verdict_on(alloc, policy, route_in(names), message, out, needed).number()
 }
 
-fn said_by(
-    alloc: Global,
-    policy: &mut Handle,
-    names: &[u8],
-    message: &[u8],
-) -> Result<Vec<u8>, Status>
-    ensures said { SaidBy (policy_of policy.old.kept) names.now message.now (said_view result) }
-    ensures same { policy.new.kept ≡ policy.old.kept }
-{
-    let Some(held) = policy.take(alloc) else {
-        return Err(Status::NoPolicy);
-    };
-    let said = say_by(alloc, &held, names, message);
-    policy.fill(held);
-    said
-}
-
-/// Puts the text of the verdict on a message from a sender to a receiver under a name into the buffer, as much of it as
-/// fits, and its length into `needed`. The answer is the number of a `Status`: Done, TooSmall, NoPolicy, BadNames or
-/// OutOfMemory.
+/// Puts the text of the verdict on a message from a sender to a receiver under a name into the buffer, and answers, as
+/// `derguard_verdict` does.
 #[unsafe(no_mangle)]
 pub extern "C" fn derguard_verdict_from(
     alloc: Global,
@@ -155,30 +128,28 @@ pub extern "C" fn derguard_verdict_from(
         × Tells said out.old out.new needed.new status) }
     ensures same { policy.new.kept ≡ policy.old.kept }
 {
-    let route = Route {
-        from: sender,
-        to: receiver,
-        message: name,
-    };
-    let said = said_on(alloc, policy, &route, message);
-    tell(said, out, needed).number()
+    let route = route_of(sender, receiver, name);
+    verdict_on(alloc, policy, route, message, out, needed).number()
 }
 
-fn said_on(
+/// Puts the text of the verdict on a message of this route into the buffer, or says why there is none.
+fn verdict_on(
     alloc: Global,
     policy: &mut Handle,
-    route: &Route,
+    route: Option<Route>,
     message: &[u8],
-) -> Result<Vec<u8>, Status>
-    ensures said { SaidOn (policy_of policy.old.kept) (route_view route.now) message.now (said_view result) }
+    out: &mut [u8],
+    needed: &mut usize,
+) -> Status
+    ensures told { (said : Result (List ℕ) Status)
+        × Says (policy_of policy.old.kept) (option_map route_view route.entry) message.now said
+        × Tells said out.old out.new needed.new result }
     ensures same { policy.new.kept ≡ policy.old.kept }
 {
-    let Some(held) = policy.take(alloc) else {
-        return Err(Status::NoPolicy);
-    };
-    let said = say_on(alloc, &held, route, message);
-    policy.fill(held);
-    said
+    let taken = policy.take(alloc);
+    let said = say(alloc, policy_in(&taken), route, message);
+    policy.give_back(taken);
+    tell(said, out, needed)
 }
 
 /// Has `other` hold the policy that `policy` holds, in place of what it held. The policy is freed with the last of its
@@ -189,27 +160,16 @@ pub extern "C" fn derguard_share(alloc: Global, policy: &mut Handle, other: &mut
     ensures answer { Answers result (HasShared (policy_of policy.old.kept) other.old.kept other.new.kept) }
     ensures same { policy.new.kept ≡ policy.old.kept }
 {
-    match more_of(alloc, policy) {
+    let taken = policy.take(alloc);
+    let shared = share(alloc, owner_in(&taken));
+    policy.give_back(taken);
+    match shared {
         Ok(more) => {
             other.fill(more);
             Status::Done.number()
         }
         Err(status) => status.number(),
     }
-}
-
-/// One more owner of the policy that a handle holds; NoPolicy where it holds none, OutOfMemory where memory runs out.
-fn more_of(alloc: Global, policy: &mut Handle) -> Result<Box<Held>, Status>
-    ensures shared { MatchResult result (λ b. (policy_of policy.old.kept ≢ None)
-        × (policy_in b.value ≡ policy_of policy.old.kept)) (IsUnshared (policy_of policy.old.kept)) }
-    ensures same { policy.new.kept ≡ policy.old.kept }
-{
-    let Some(held) = policy.take(alloc) else {
-        return Err(Status::NoPolicy);
-    };
-    let shared = share(alloc, &held);
-    policy.fill(held);
-    shared
 }
 
 /// Empties a handle. The policy that it held is freed, unless other handles hold it.

@@ -4,15 +4,15 @@ use Rattle.guard_frames.specs.Bodies.{body_view}
 use Rattle.guard_c.proofs.Naming.{no_names, names_alone, are_names, empty_list}
 use Rattle.guard_c.proofs.asking.route_in.Goals as goal
 
-pub returns-in_err-body-clause-none : goal.returns-in_err-body-clause-none
-returns-in_err-body-clause-none c none route are = no_names c.args.names.now c.in_err-body.ensures route are
+pub returns-in_err-body : goal.returns-in_err-body
+returns-in_err-body c = rw c.from_residual.ensures (no_names c.args.names.now c.in_err-body.ensures)
 
-pub returns-then-not-is_empty-clause-none : goal.returns-then-not-is_empty-clause-none
-returns-then-not-is_empty-clause-none c none route are =
+pub returns-then-not-is_empty : goal.returns-then-not-is_empty
+returns-then-not-is_empty c route are =
     let alone = names_alone c.args.names.now (body_view c.in_ok-body.body) c.in_ok-body.ensures route are in
     false≢true (sym c.if-not-is_empty.true ∙ c.is_empty.ensures ∙ ap (λ (xs : List ℕ). length xs == 0) alone)
 
-pub returns-clause-there : goal.returns-clause-there
-returns-clause-there c =
+pub returns : goal.returns
+returns c =
     let none : length c.in_ok-body.body.message_octets.now ≡ 0 = search rules in
     are_names c.args.names.now (body_view c.in_ok-body.body) c.in_ok-body.ensures (empty_list c.in_ok-body.body.message_octets.now none)

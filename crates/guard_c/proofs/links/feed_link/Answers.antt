@@ -7,7 +7,7 @@ use Rattle.guard_frames.proofs.Own.AtSeats.{fed_of}
 use Rattle.guard_c.specs.Holding.{held_link_view}
 use Rattle.guard_c.specs.declared.held.HeldLink.{HeldLink}
 use Rattle.guard_c.proofs.Pieces.{took}
-use Rattle.guard_c.proofs.linking.feed_link.Goals as goal
+use Rattle.guard_c.proofs.links.feed_link.Goals as goal
 
 pub returns : goal.returns
 returns c =

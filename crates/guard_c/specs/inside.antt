@@ -1,0 +1,3 @@
+-- What only private contracts and proofs cite.
+pub mod Taken
+pub mod Asked

@@ -1,19 +1,35 @@
 """What an author says in TOML: types for holes, what is left out, depths of recursions, signatures of changes."""
 
-from __future__ import annotations
-
 import re
 import tomllib
+from collections.abc import Callable
 from dataclasses import dataclass, field
+from pathlib import Path
+from typing import Any
 
 from job import Change, Place
 from library import Library
-from reading_modules import ModuleReader
+from reading_modules import Reader
 from tokens import Fault, Source, cut
 from tree import Definition, Type
 
 LEAVE_OUT = "leave-out"
-KEYS = ("depth", "looser", "bind", "depths")
+
+
+def is_list(held: object) -> bool:
+    return isinstance(held, list) and all(isinstance(text, str) for text in held)
+
+
+def is_bound(held: object) -> bool:
+    return isinstance(held, str) or bool(held) and is_list(held)
+
+
+KINDS: dict[str, Callable[[Any], bool]] = {
+    "depth": lambda held: type(held) is int and 0 <= held <= 8,
+    "looser": is_list,
+    "bind": lambda held: isinstance(held, dict) and all(map(is_bound, held.values())),
+    "depths": lambda held: isinstance(held, dict) and all(map(KINDS["depth"], held.values())),
+}
 
 
 @dataclass
@@ -28,14 +44,11 @@ class Bindings:
     trees: dict[str, Type] = field(default_factory=dict)
 
     def at(self, place: Place) -> str | list[str] | None:
-        """What stands at a place: `leave-out`, or types."""
         full = str(place)
         key = full if full in self.bind else full.removeprefix(place.definition.module.name + ".")
-        if key not in self.bind:
-            return None
-        self.used.add(key)
-        found = self.bind[key]
-        return found if found == LEAVE_OUT or isinstance(found, list) else [found]
+        found = self.bind.get(key)
+        self.used |= {key} if found is not None else set()
+        return found if found is None or found == LEAVE_OUT or isinstance(found, list) else [found]
 
     def leaves_out(self, place: Place) -> bool:
         return self.at(place) == LEAVE_OUT
@@ -47,12 +60,11 @@ class Bindings:
         return self.depths[names[0]] if names else otherwise if self.depth is None else self.depth
 
     def parsed(self, place: Place, text: str) -> Type:
-        """A type of the bindings as a tree."""
         if text not in self.trees:
             try:
-                reader = ModuleReader(cut(self.path, text))
+                reader = Reader(cut(self.path, text))
                 self.trees[text] = reader.type()
-                if reader.token().kind != "end":
+                if reader.text():
                     raise reader.fault(f"{reader.text()} can't stand here")
             except Fault as fault:
                 raise self.fault(place, f"{text!r} is no type: {fault.why}") from fault
@@ -73,45 +85,33 @@ class Bindings:
         return any(name == change.step or any(p.startswith(f"{name}.") for p in places) for name in self.looser)
 
     def check(self, library: Library) -> None:
-        """A fault where a name is nobody's, or that of more than one module."""
         for name in (*self.bind, *self.depths):
-            first, _, rest = name.partition(".")
-            if first in library.modules and rest.split(".")[0] in library.modules[first].named:
-                continue
-            modules = [module.name for module in library.modules.values() if first in module.named]
-            if len(modules) != 1:
-                many = f"{first} is in more than one module: {', '.join(modules)}"
-                raise self.fault(name, many if modules else f"nothing has the name {name}")
+            self.way(library, name)
 
-    def unused(self) -> list[str]:
-        return [name for name in (*self.bind, *self.depths) if name not in self.used]
+    def way(self, library: Library, name: str) -> Place:
+        """The place that a name says; a fault where it begins with nobody's name, or that of more than one module."""
+        first, *path = name.split(".")
+        if path and first in library.modules and path[0] in library.modules[first].named:
+            return Place(library.modules[first].named[path[0]], tuple(path[1:]))
+        modules = [module for module in library.modules.values() if first in module.named]
+        if len(modules) != 1:
+            many = f"{first} is in more than one module: {', '.join(module.name for module in modules)}"
+            raise self.fault(name, many if modules else f"nothing has the name {name}")
+        return Place(modules[0].named[first], tuple(path))
 
 
 def read_bindings(path: str) -> Bindings:
     """Bindings from a file; a Fault where it is none."""
     try:
-        with open(path, encoding="utf-8") as file:
-            text = file.read()
+        text = Path(path).read_text(encoding="utf-8")
         table = tomllib.loads(text)
     except OSError as error:
         raise Fault(f"cannot read {path}: {error.strerror}") from error
     except (UnicodeDecodeError, tomllib.TOMLDecodeError) as error:
         raise Fault(f"{path}: {error}") from error
     for key, held in table.items():
-        if key not in KEYS:
-            raise Fault(f"{path}: {key} is no key of bindings: they are {', '.join(KEYS)}")
-        if not fits(key, held):
+        if key not in KINDS:
+            raise Fault(f"{path}: {key} is no key of bindings: they are {', '.join(KINDS)}")
+        if not KINDS[key](held):
             raise Fault(f"{path}: what {key} has is of the wrong kind")
     return Bindings(path, text, **table)
-
-
-def fits(key: str, held: object) -> bool:
-    """Whether what a key has is of its kind."""
-    if key == "depth":
-        return type(held) is int and 0 <= held <= 8
-    if key == "looser":
-        return isinstance(held, list) and all(isinstance(name, str) for name in held)
-    entries = list(held.values()) if isinstance(held, dict) else [None]
-    if key == "depths":
-        return all(fits("depth", depth) for depth in entries)
-    return all(isinstance(entry, str) or entry and fits("looser", entry) for entry in entries)

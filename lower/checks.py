@@ -1,39 +1,24 @@
 """Looks at lowered texts by rules of the guard that lowering alone doesn't keep: limits, names, numbers, tags."""
 
-from __future__ import annotations
-
-from dataclasses import dataclass, replace
-
 from bindings import Bindings
 from job import Output, Scope
 from library import Library, children
 from lowering import Job, Tags
+from meaning import Recursion
 from reading_modules import read_modules
-from recursion import Recursion
+from report import Text
 from tokens import Fault, cut
 from tree import Component, Constrained, Definition, Element, ListOf, Node, Plain, Reference, Set, Structure, Tagged
 from tree import Type
-from writing import Text
 
 MOST_NODES, MOST_COMPONENTS, DEEPEST, LARGEST_TAG, LAST_BIT, MOST_MODULES = 100_000, 64, 32, 268_435_455, 65_535, 64
-
-
-@dataclass(frozen=True)
-class Finding:
-    """What the guard would refuse, in an output; `size` says that less depth may help."""
-
-    out: Output
-    why: str
-    size: bool = False
-
-
-@dataclass
-class Measure:
-    """How large a type is, as the guard counts."""
-
-    nodes: int = 0
-    constraints: int = 0
-    depth: int = 0
+# What the guard would refuse: an output, why, whether less depth may help (and how deep it is nested, if that is why),
+# and the place of the innermost part without which the deepest path isn't too deep.
+Finding = tuple[Output, str, int, str]
+# The path to the deepest part of a type: names, how deep each is by itself, and its place where it can be left out.
+Path = tuple[tuple[str, int, str], ...]
+# How large a type is, as the guard counts: types, constraints, how deep it is nested, and that path.
+Measure = tuple[int, int, int, Path]
 
 
 class Checker:
@@ -41,74 +26,78 @@ class Checker:
 
     def __init__(self, texts: list[Text]) -> None:
         self.library = Library()
-        self.job = Job(self.library, Bindings(), Recursion(self.library, Bindings(), [], 0))
+        self.job = Job(Recursion(self.library, Bindings(), [], 0), False, {})
         self.outputs = {(text.name, out.name): out for text in texts for out in text.outputs}
         self.measured: dict[Definition, Measure] = {}
         self.findings: list[Finding] = []
         self.here: Output | None = None
 
-    def find(self, wrong: object, why: str, size: bool = False) -> None:
+    def find(self, wrong: object, why: str, size: int = 0, cut: str = "") -> None:
         if wrong and self.here is not None:
-            self.findings.append(Finding(self.here, why, size))
+            self.findings.append((self.here, why, size, cut))
 
     def definition(self, definition: Definition) -> Measure:
-        if definition in self.measured:
-            return self.measured[definition]
-        before, self.here = self.here, self.outputs.get((definition.module.name, definition.name))
-        found = self.measured[definition] = Measure()
-        self.find(definition.kind == "unread", f"the lowered text can't be read: {definition.why}")
-        if definition.type is not None:
-            found = self.measured[definition] = self.type(Scope(definition.module), definition.type)
-            why = f"it is nested {found.depth} deep, and the guard takes {DEEPEST}"
-            self.find(found.depth > DEEPEST, why, True)
-            why = f"it has {found.nodes} types, and the guard takes {MOST_NODES}"
-            self.find(found.nodes > MOST_NODES, why, True)
-        self.here = before
-        return found
+        if definition not in self.measured:
+            before, self.here = self.here, self.outputs.get((definition.module.name, definition.name))
+            self.measured[definition] = (0, 0, 0, ())
+            self.find(definition.kind == "unread", f"the lowered text can't be read: {definition.why}")
+            if definition.type is not None:
+                place = str(self.here.place) if self.here else ""
+                self.measured[definition] = self.type(Scope(definition.module), definition.type, place)
+            nodes, _, depth, path = self.measured[definition]
+            why = f"it is nested {depth} deep, and the guard takes {DEEPEST}; deepest: {'.'.join(p[0] for p in path)}"
+            cuts = [place for _, its, place in path if place and depth - its <= DEEPEST]
+            self.find(depth > DEEPEST, why, depth, *cuts[-1:])
+            self.find(nodes > MOST_NODES, f"it has {nodes} types, and the guard takes {MOST_NODES}", 1)
+            self.here = before
+        return self.measured[definition]
 
-    def type(self, scope: Scope, node: Type) -> Measure:
+    def type(self, scope: Scope, node: Type, place: str) -> Measure:
+        if isinstance(node, Tagged | Constrained | ListOf):
+            inner = f"{place}.*" if isinstance(node, ListOf) else place
+            nodes, constraints, depth, path = self.type(scope, node.inner, inner)
         if isinstance(node, Tagged):
-            held, number = self.type(scope, node.inner), int(node.number.text())
+            number = int(node.number.text())
             self.find(number > LARGEST_TAG, f"the tag {number} is above {LARGEST_TAG}")
-            return replace(held, depth=held.depth + self.job.is_explicit(scope, node))
+            return nodes, constraints, depth + self.job.is_explicit(scope, node), path
         if isinstance(node, Constrained):
-            held = self.type(scope, node.inner)
-            return replace(held, constraints=held.constraints + sum(map(weigh, node.constraints)))
+            return nodes, constraints + sum(map(weigh, node.constraints)), depth, path
         if isinstance(node, ListOf):
-            held, size = self.type(scope, node.inner), 0 if node.size is None else weigh(node.size)
-            return Measure(held.nodes + 1, held.constraints + size, held.depth + 1)
+            constraints += weigh(node.size) if node.size else 0
+            return nodes + 1, constraints, depth + 1, (("*", depth, ""), *path)
         if isinstance(node, Structure):
-            return self.structure(scope, node)
+            return self.structure(scope, node, place)
         if isinstance(node, Plain):
             numbers = [item.number.text() for item in node.items if item.number]
             is_clear = is_set([item.name for item in node.items]) and is_set(numbers)
             self.find(not is_clear, "two of its names or numbers are equal")
             large = node.word == "BIT STRING" and any(n.isdigit() and int(n) > LAST_BIT for n in numbers)
             self.find(large, f"a named bit is above {LAST_BIT}")
-            return Measure(1, 0, 1)
+            return 1, 0, 1, ()
         definition = self.library.find(scope.module, node.name) if isinstance(node, Reference) else ""
         if isinstance(definition, Definition):
             return self.definition(definition)
         self.find(definition, definition)
-        return Measure()
+        return 0, 0, 0, ()
 
-    def structure(self, scope: Scope, node: Structure) -> Measure:
-        found, automatic = Measure(1), self.job.is_automatic(scope, node)
-        components = self.flat(scope, node)
+    def structure(self, scope: Scope, node: Structure, place: str) -> Measure:
+        automatic, total, all_constraints, deepest = self.job.is_automatic(scope, node), 1, 0, 0
         tags: list[tuple[Component, Tags]] = []
-        for number, (item, there) in enumerate(components):
-            part = self.type(there, item.type)
-            found.nodes += part.nodes
-            found.constraints += part.constraints + 2 * (item.default is not None)
-            found.depth = max(found.depth, part.depth + (automatic and self.job.untagged(there, item.type)))
+        path: Path = ()
+        for number, (item, there) in enumerate(self.flat(scope, node)):
+            here = f"{place}.{item.name}"
+            nodes, constraints, depth, inner = self.type(there, item.type, here)
+            total, all_constraints = total + nodes, all_constraints + constraints + 2 * (item.default is not None)
+            depth += automatic and self.job.untagged(there, item.type)
+            if depth > deepest:
+                can_go = item in node.items and (item.presence or node.word == "CHOICE")
+                deepest, path = depth, ((item.name, depth, here if can_go else ""), *inner)
             tags.append((item, {("", number)} if automatic else self.job.first_tags(there, item.type) or set()))
-        found.depth += 1
-        why = f"it has {len(tags)} components, and the guard takes {MOST_COMPONENTS}"
-        self.find(len(tags) > MOST_COMPONENTS, why)
+        self.find(len(tags) > MOST_COMPONENTS, f"it has {len(tags)} components, and the guard takes {MOST_COMPONENTS}")
         self.find(not is_set([item.name for item, _ in tags]), "two components have one name")
         clash = clashing(node.word, tags)
         self.find(clash, f"the tags of {' and '.join(clash)} can't be told apart")
-        return found
+        return total, all_constraints, deepest + 1, path
 
     def flat(self, scope: Scope, node: Structure, deep: int = 0) -> list[tuple[Component, Scope]]:
         """The components, with those of COMPONENTS OF in their places."""
@@ -123,15 +112,15 @@ class Checker:
 
     def too_large(self) -> list[Finding]:
         """The largest definitions, where all together are too large: as many as have to go."""
-        held = sorted(self.measured.items(), key=lambda pair: -pair[1].nodes - pair[1].constraints)
-        total, constraints = sum(one.nodes for _, one in held), sum(one.constraints for _, one in held)
+        held = sorted(self.measured.items(), key=lambda pair: -pair[1][0] - pair[1][1])
+        total, constraints = sum(size[0] for _, size in held), sum(size[1] for _, size in held)
         modules, found = len(self.library.modules), list[Finding]()
         why = f"the definitions have {total} types, {constraints} constraints and {modules} modules together, and"
         why = f"{why} the guard takes {MOST_NODES} and {MOST_MODULES}; this is among the largest of them"
-        for definition, one in held if max(total, constraints) > MOST_NODES or modules > MOST_MODULES else []:
-            if not found or max(total, constraints) > MOST_NODES:
-                found.append(Finding(self.outputs[definition.module.name, definition.name], why, True))
-                total, constraints = total - one.nodes, constraints - one.constraints
+        for definition, (nodes, its, *_) in held:
+            if max(total, constraints) > MOST_NODES or modules > MOST_MODULES and not found:
+                found.append((self.outputs[definition.module.name, definition.name], why, 1, ""))
+                total, constraints = total - nodes, constraints - its
         return found
 
 
@@ -145,8 +134,7 @@ def weigh(node: Node) -> int:
     if isinstance(node, Set):
         own = (len(node.unions) > 1) + (node.all_except is not None) + sum(len(parts) > 1 for parts in node.unions)
     elif isinstance(node, Element):
-        own = 0 if node.form == "group" else 2 if node.form in ("single", "type") else 1
-        own += node.minus is not None
+        own = {"group": 0, "single": 2, "type": 2}.get(node.form, 1) + (node.minus is not None)
     return own + sum(map(weigh, children(node)))
 
 
@@ -162,15 +150,13 @@ def clashing(word: str, parts: list[tuple[Component, Tags]]) -> list[str]:
 
 
 def check(texts: list[Text]) -> list[Finding]:
-    """What the guard would refuse of some texts."""
     checker = Checker(texts)
     for text in texts:
         try:
             for module in read_modules(cut(f"{text.name}.asn1", text.text)):
                 checker.library.add(module)
         except Fault as fault:
-            return [Finding(text.outputs[0], f"lowered text: {fault.shown()}")]
-    for module in checker.library.modules.values():
-        for definition in module.definitions:
-            checker.definition(definition)
+            return [(text.outputs[0], f"lowered text: {fault.shown()}", 0, "")]
+    for definition in (definition for module in checker.library.modules.values() for definition in module.definitions):
+        checker.definition(definition)
     return checker.findings or checker.too_large()

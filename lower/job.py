@@ -4,21 +4,14 @@ from __future__ import annotations
 
 from collections.abc import Iterable
 from dataclasses import dataclass, field
+from typing import NamedTuple
 
-from tree import Constrained, Definition, Module, Node, Parameter, Span, Type
+from tree import Constrained, Definition, Module, Node, Span, Type
 
-SAME, TIGHTER, LOOSER, NEITHER, CANT = "same", "tighter", "looser", "neither", "can't"
-
-
-def join(first: str, second: str) -> str:
-    """The mark of two changes together."""
-    if first == SAME or first == second:
-        return second
-    return first if second == SAME else NEITHER
+SAME, TIGHTER, LOOSER, NEITHER, CANT = MARKS = "same", "tighter", "looser", "neither", "can't"
 
 
-@dataclass(frozen=True)
-class Place:
+class Place(NamedTuple):
     """A definition, and the way to a part of it: components by name, `*` for elements."""
 
     definition: Definition
@@ -32,40 +25,41 @@ class Place:
 
 
 @dataclass(eq=False)
-class Cause:
-    """The root of what can't go, and the places that go with it."""
+class Change:
+    """A change; or the root of what can't go, with the places that it takes, and the types that objects have there."""
 
     place: Place
     node: Node
-    kind: str
+    step: str
     why: str
+    mark: str = CANT
+    original: str = ""
+    replacement: str = ""
     takes: dict[str, None] = field(default_factory=dict)
+    candidates: list[str] = field(default_factory=list)
+    number: int = 0
+    signed: bool = False
 
 
 class CannotGo(Exception):
     """A type that can't be lowered. `ends` says that a recursion ends here: what stands round it may leave it out."""
 
-    def __init__(self, causes: list[Cause], ends: bool = False) -> None:
+    def __init__(self, causes: list[Change], ends: bool = False) -> None:
         self.causes, self.ends = list(dict.fromkeys(causes)), ends
+        self.step = "recursion" if ends else "left-out"
         super().__init__(self.causes[0].why)
 
 
 class NoValue(Exception):
-    """A value that the profile has no notation for."""
+    """A value, or a part of what EXCEPT takes away, that the profile has no notation for."""
 
 
-@dataclass(frozen=True)
-class Actual:
-    """What stands for a dummy parameter: tokens, in the scope that they were written in."""
+class Actual(NamedTuple):
+    """What stands for a dummy parameter, by its governor: tokens, in the scope that they were written in."""
 
-    parameter: Parameter
-    a: int
-    b: int
+    governor: Type | None
+    span: Span
     scope: Scope
-
-    @property
-    def span(self) -> Span:
-        return self.scope.module.source, self.a, self.b
 
 
 @dataclass(eq=False)
@@ -79,28 +73,17 @@ class Scope:
     governor: Type | None = None
 
     def actual(self, name: str, module: str | None) -> Actual | None:
-        """What stands for a name, where it is that of a dummy parameter."""
         return self.actuals.get(name) if module is None else None
+
+    def key(self) -> tuple[object, ...]:
+        """What tells the outputs of a definition apart: its level, and what stands for its parameters."""
+        held = [(scope, source.between(a, b)) for _, (source, a, b), scope in self.actuals.values()]
+        return self.level, *((scope.module.name, text, scope.key()) for scope, text in held)
 
 
 Typed = tuple[Scope, Type]
-
-
-@dataclass(eq=False)
-class Change:
-    place: Place
-    node: Node
-    step: str
-    original: str
-    replacement: str
-    mark: str
-    why: str
-    number: int = 0
-    signed: bool = False
-
-    @property
-    def key(self) -> tuple[object, ...]:
-        return self.place, self.node.source, self.node.a, self.step, self.original
+# How a SEQUENCE, SET or CHOICE was lowered: presence words of the components that stay, and those that went with why.
+Shape = tuple[dict[str, str], dict[str, list[Change]]]
 
 
 @dataclass(eq=False)
@@ -114,17 +97,13 @@ class Output:
     text: str = ""
     scope: Scope | None = None
     choice: bool = False
-    uses: list[Output] = field(default_factory=list)
-    changes: list[Change] = field(default_factory=list)
-    stop: CannotGo | None = None
+    uses: dict[Output, None] = field(default_factory=dict)
+    changes: dict[object, Change] = field(default_factory=dict)
     imports: dict[str, Output] = field(default_factory=dict)
-    after: list[Output] = field(default_factory=list)
+    stop: CannotGo | None = None
 
-    def take(self, changes: list[Change], uses: list[Output]) -> None:
-        """Writes down what it changes and uses, each once."""
-        known = {change.key for change in self.changes}
-        self.changes += [change for change in changes if change.key not in known]
-        self.uses += [used for used in uses if used not in self.uses]
+    def costs(self) -> set[tuple[Place, str, str]]:
+        return {(change.place, change.step, change.mark) for change in self.changes.values() if change.mark != SAME}
 
 
 def reached(roots: Iterable[Output]) -> list[Output]:
@@ -138,31 +117,19 @@ def reached(roots: Iterable[Output]) -> list[Output]:
     return list(found)
 
 
-@dataclass(frozen=True)
-class Lowered:
+class Lowered(NamedTuple):
     """A type's text, and whether it is an untagged CHOICE."""
 
     text: str
     choice: bool = False
 
 
-@dataclass(frozen=True)
-class Site:
+class Site(NamedTuple):
     """Where a type stands: its place, and whether an implicit tag takes the place of its own; `free` for bindings."""
 
     place: Place
     implicit: bool = False
     free: bool = True
-
-
-@dataclass(eq=False)
-class Shape:
-    """The list of a SEQUENCE, SET or CHOICE as it was lowered: the components that stay, and those that went with why;
-    `ended` where a recursion did."""
-
-    presence: dict[str, str] = field(default_factory=dict)
-    gone: dict[str, list[Cause]] = field(default_factory=dict)
-    ended: bool = False
 
 
 def strip(node: Type) -> Type:

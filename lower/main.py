@@ -1,26 +1,24 @@
 """The command line of derguard-lower."""
 
-from __future__ import annotations
-
 import argparse
+import json
 import sys
 import threading
 from pathlib import Path
 
 import checks
 import report
-import writing
 from bindings import Bindings, read_bindings
 from job import CannotGo
-from library import Library
+from library import Library, spelled
 from lowering import Job
+from meaning import Recursion
 from reading_modules import read_modules
-from recursion import Recursion
 from report import Message, Result
 from tokens import Fault, read_file
 from tree import Definition
 
-DEPTH, MOST_RUNS = 3, 40
+DEPTH, MOST_RUNS, MOST_CUTS = 3, 40, 20
 
 
 def parser() -> argparse.ArgumentParser:
@@ -46,7 +44,8 @@ def wanted(library: Library, names: list[str]) -> dict[str, Definition]:
         if module and module not in library.modules:
             raise Fault(f"no module has the name {module}")
         if last == "*":
-            found += [d for m in modules for d in m.definitions if is_type(library, d)]
+            first = [d for m in modules for d in m.definitions if m.named[d.name] is d and d.name[0].isupper()]
+            found += [d for d in first if d.parameters is None and library.is_type(d)]
             continue
         held = [m.named[last] for m in modules if last in m.named]
         if not held:
@@ -55,32 +54,12 @@ def wanted(library: Library, names: list[str]) -> dict[str, Definition]:
             where = ", ".join(definition.module.name for definition in held)
             raise Fault(f"{name} is in more than one module: {where}; write Module.{name}")
         if held[0].kind not in ("type", "set", "unread") or held[0].parameters is not None:
-            raise held[0].source.fault(held[0].a, f"{name} is no type without parameters")
+            hint = f": write a module with Mine ::= {name}{{..}}, and name Mine" if held[0].parameters else ""
+            raise held[0].source.fault(held[0].a, f"{name} is no type without parameters{hint}")
         found += held
     found = list(dict.fromkeys(found))
     short = [definition.name for definition in found]
     return {d.name if short.count(d.name) == 1 else f"{d.module.name}.{d.name}": d for d in found}
-
-
-def is_type(library: Library, definition: Definition) -> bool:
-    """Whether a definition is a type or value set without parameters that its name stands for."""
-    is_first = definition.module.named[definition.name] is definition and definition.name[0].isupper()
-    if definition.kind not in ("type", "set") or definition.parameters is not None or not is_first:
-        return False
-    is_object_set = definition.kind == "set" and library.governs(definition.module, definition.type) is not None
-    return not (is_object_set or library.is_class(definition))
-
-
-def attempt(job: Job, wanted: dict[str, Definition]) -> Result:
-    """Lowers the messages once."""
-    messages = [Message(name, definition) for name, definition in wanted.items()]
-    for message in messages:
-        try:
-            message.out = job.output(message.definition)
-        except CannotGo as stop:
-            message.causes = stop.causes
-    roots = dict.fromkeys(message.out for message in messages if message.out is not None)
-    return Result(job, messages, writing.texts(list(job.library.modules.values()), list(roots)))
 
 
 def lower(library: Library, bindings: Bindings, wanted: dict[str, Definition], leave: bool) -> Result:
@@ -88,19 +67,27 @@ def lower(library: Library, bindings: Bindings, wanted: dict[str, Definition], l
     refused: dict[str, str] = {}
     recursion = Recursion(library, bindings, list(wanted.values()), DEPTH)
     for _ in range(MOST_RUNS):
-        job = Job(library, bindings, recursion, leave)
-        job.refused = refused
-        result = attempt(job, wanted)
+        job = Job(recursion, leave, refused)
+        messages = [Message(name, definition) for name, definition in wanted.items()]
+        for message in messages:
+            try:
+                message.out = job.output(message.definition)
+            except CannotGo as stop:
+                message.causes = stop.causes
+        roots = dict.fromkeys(message.out for message in messages if message.out is not None)
+        result = Result(job, messages, report.texts(list(library.modules.values()), list(roots)))
         findings = checks.check(result.texts)
         if not findings:
-            result.unread = [d for module in library.modules.values() for d in module.definitions if d.kind == "unread"]
             result.collect()
             return result
         shorter = bindings.depth is None and recursion.depth > 0 and recursion.members
-        if shorter and any(finding.size for finding in findings):
+        deepest, why, size, cut = max(findings, key=lambda finding: finding[2])
+        if shorter and size:
             recursion.depth -= 1
+        elif leave and cut and spelled(cut) not in refused and len(refused) < MOST_CUTS:
+            refused[spelled(cut)] = f"{deepest.origin.name}: {why}"
         else:
-            refused |= {str(finding.out.place): finding.why for finding in findings}
+            refused |= {str(out.place): why for out, why, _, _ in findings}
     raise Fault("the guard's limits aren't met after many attempts")
 
 
@@ -108,6 +95,16 @@ def write(result: Result, folder: Path, many: bool) -> None:
     files = {f"{text.name}.asn1": text.text for text in result.texts}
     files |= {"policy.toml": result.policy(many), "lowering.md": report.as_markdown(result)}
     folder.mkdir(parents=True, exist_ok=True)
+    try:
+        listed = json.loads((folder / "lowering.json").read_text("utf-8"))["modules"]
+        earlier = {folder / Path(str(module["output"])).name for module in listed if module["output"] not in files}
+    except (OSError, ValueError, KeyError, TypeError):
+        earlier = set()
+    read = {Path(module.source.path).resolve() for module in result.job.library.modules.values()}
+    for path in sorted(path for path in earlier if path.is_file() and path.suffix == ".asn1"):
+        if path.resolve() not in read:
+            path.unlink()
+            print(f"derguard-lower: {path}, which an earlier call wrote, is removed", file=sys.stderr)
     for name, text in (files | {"lowering.json": report.as_json(result)}).items():
         (folder / name).write_text(text, encoding="utf-8")
 
@@ -124,25 +121,24 @@ def run(words: argparse.Namespace) -> int:
     bindings.check(library)
     messages, status = wanted(library, words.message), 0
     if words.draft:
-        draft = lower(library, bindings, messages, True)
-        Path(words.draft).write_text(report.as_draft(draft), encoding="utf-8")
+        Path(words.draft).write_text(report.as_draft(lower(library, bindings, messages, True)), encoding="utf-8")
     if words.output:
         result = lower(library, bindings, messages, False)
         write(result, Path(words.output), any(name.rpartition(".")[2] == "*" for name in words.message))
-        tell(result)
+        for message in result.messages:
+            print(f"{message.name}: {message.mark}{message.unsigned}")
+        for name, cause in ((message.name, cause) for message in result.messages for cause in message.causes[:3]):
+            fault = cause.node.source.fault(cause.node.a, f"{cause.place}: {cause.why}")
+            print(f"derguard-lower: {name} can't go: {fault.shown()}", file=sys.stderr)
+        for name in (name for name in (*bindings.bind, *bindings.depths) if name not in bindings.used):
+            way = bindings.way(library, name)
+            place = result.job.place_of(way)
+            why = f"no message reaches {name}, which the bindings name"
+            why += "" if place == way else ": a place begins at the definition that has the component"
+            why += "" if place in (way, None) else f": {place}"
+            print(f"derguard-lower: {why}", file=sys.stderr)
         status = result.status
     return status
-
-
-def tell(result: Result) -> None:
-    for message in result.messages:
-        print(f"{message.name}: {message.mark}{'' if message.fits else ', not signed'}")
-    for message in result.messages:
-        for cause in message.causes[:3]:
-            fault = cause.node.source.fault(cause.node.a, f"{cause.place}: {cause.why}")
-            print(f"derguard-lower: {message.name} can't go: {fault.shown()}", file=sys.stderr)
-    for name in result.job.bindings.unused():
-        print(f"derguard-lower: no message reaches {name}, which the bindings name", file=sys.stderr)
 
 
 def main() -> int:

@@ -1,42 +1,43 @@
-"""What types, fields of classes, objects and object sets stand for (X.680, X.681, X.683), and which tags they have."""
+"""What names stand for, and what goes out for definitions: recursions, types, objects, tags, outputs, changes."""
 
-from __future__ import annotations
+import re
+from collections.abc import Callable, Iterable, Iterator
 
-from collections.abc import Iterator
-from dataclasses import dataclass
-
-from job import Actual, Output, Place, Scope, Typed, strip
-from library import BUILT_IN_CLASS, Library
-from reading_modules import ModuleReader, type_at
+from job import SAME, Actual, CannotGo, Change, Lowered, Output, Place, Scope, Shape, Site, Typed, strip
+from library import BUILT_IN_CLASS, spelled
+from reading_modules import Reader, read_modules, type_at
 from recursion import Recursion
-from tokens import Fault, Source
-from tree import ClassField, Constrained, Definition, Node, Reference, Span, Structure, Tagged, Type, Value
+from tokens import Edit, Fault, cut
+from tree import ClassField, Component, Constrained, Definition, Item, ListOf, Module, Node, Reference, Span, Structure
+from tree import Tagged, Type, Value
 
-Key = tuple[object, ...]
 Way = tuple[Scope, Type, Place | None]
+Object = tuple[Scope, dict[str, Span]]
+Objects = list[Object | str]
+Mark = tuple[dict[Output, None], dict[object, Change], dict[str, Output]]
 
 
-@dataclass
-class Object:
-    scope: Scope
-    fields: dict[str, Span]
+class Outputs:
+    """One run over a library. `here` is the output that is made; with `leave_out` all that can be left out is. A
+    definition is read in the scope of what goes out for it, where that is there."""
 
+    definition: Callable[[Output, Scope], Lowered]
+    type: Callable[[Scope, Type, Site], Lowered]
+    here: Output
 
-@dataclass
-class ObjectSet:
-    """The objects of a set; `known` is false where a part of it can't be followed."""
-
-    objects: list[Object]
-    extensible: bool = False
-    known: bool = True
-
-
-class Meaning:
-    """Follows names. The scope of a definition is that of what goes out for it, where there is such an output."""
-
-    def __init__(self, library: Library, recursion: Recursion) -> None:
-        self.library, self.recursion = library, recursion
-        self.outputs: dict[Key, Output] = {}
+    def __init__(self, recursion: Recursion, leave_out: bool, refused: dict[str, str]) -> None:
+        self.library, self.bindings, self.recursion = recursion.library, recursion.bindings, recursion
+        self.leave_out, self.refused = leave_out, refused
+        self.outputs: dict[object, Output] = {}
+        self.building: list[Output] = []
+        self.names: dict[str, set[str]] = {}
+        self.original: dict[str, dict[str, str]] = {}
+        self.local: dict[tuple[Module, Output], Output] = {}
+        self.shapes: dict[tuple[Type, Scope], Shape] = {}
+        self.dropped: set[Item] = set()
+        self.empty: set[tuple[ListOf, Scope]] = set()
+        self.holes: dict[str, Change] = {}
+        self.left: dict[str, dict[Change, None]] = {}
 
     # types
 
@@ -62,46 +63,43 @@ class Meaning:
             return None
         if node.fields:
             found = self.class_field(scope, node)
-            return None if found is None or isinstance(found, str) else (*found, None)
+            return (*found, None) if isinstance(found, tuple) else None
         actual = scope.actual(node.name, node.module)
         if actual is not None:
             held = type_at(actual.span)
-            return None if held is None else (actual.scope, held, None)
-        definition = self.library.find(scope.module, node.name, node.module)
-        if isinstance(definition, str) or definition.kind not in ("type", "set") or definition.type is None:
+            return (actual.scope, held, None) if held else None
+        definition = self.library.known(scope.module, node.name, node.module, "type", "set")
+        if definition is None or definition.type is None:
             return None
-        return self.scope_of(scope, node, definition), definition.type, Place(definition)
+        there = self.entered(scope, node, definition)
+        known = self.outputs.get((definition, *there.key()))
+        return known.scope if known and known.scope else there, definition.type, Place(definition)
 
-    def scope_of(self, scope: Scope, node: Reference, definition: Definition) -> Scope:
-        """The scope of a definition that a reference names; that of its output where it has one."""
-        actuals, group = self.actuals(scope, node, definition), self.recursion.groups.get(definition, -1)
-        level = scope.level + (definition in self.recursion.heads) if 0 <= group == scope.group else 0
-        known = self.outputs.get(self.key(definition, level, actuals))
-        return known.scope if known and known.scope else Scope(definition.module, actuals, level, group)
-
-    def actuals(self, scope: Scope, node: Reference, definition: Definition) -> dict[str, Actual]:
-        """What stands for each dummy parameter; a parameter that is handed on is what it stood for."""
-        found: dict[str, Actual] = {}
-        for parameter, (a, b) in zip(definition.parameters or [], node.arguments or []):
+    def entered(self, scope: Scope, node: Reference, definition: Definition) -> Scope:
+        """The scope of a definition that a reference names: what stands for its parameters, and its level."""
+        actuals: dict[str, Actual] = {}
+        for (name, governor), (a, b) in zip(definition.parameters or [], node.arguments or []):
             words = [token.text for token in node.source.tokens[a:b] if token.text not in "{}"]
             handed = scope.actuals.get(words[0]) if len(words) == 1 else None
-            found[parameter.name] = handed or Actual(parameter, a, b, scope)
-        return found
+            actuals[name] = handed or Actual(governor, (node.source, a, b), scope)
+        group = self.recursion.groups.get(definition, -1)
+        level = scope.level + (definition in self.recursion.heads) if 0 <= group == scope.group else 0
+        return Scope(definition.module, actuals, level, group)
 
-    def key(self, definition: Definition, level: int, actuals: dict[str, Actual]) -> Key:
-        """What tells the outputs of a definition apart: its level, and what stands for its parameters."""
-
-        def of(actual: Actual) -> Key:
-            source, a, b = actual.span
-            nested = (of(other) for other in actual.scope.actuals.values())
-            return (actual.scope.module.name, source.between(a, b), actual.scope.level, *nested)
-
-        return (definition, level, *(of(actual) for actual in actuals.values()))
+    def place_of(self, way: Place) -> Place | None:
+        """The place of what is found where a way goes on through references; None where nothing is."""
+        place, scope = Place(way.definition), Scope(way.definition.module)
+        node = way.definition.type
+        for step in way.path:
+            scope, node, through = self.base(scope, node) if node else (scope, None, None)
+            items = {item.name: item.type for item in node.items} if isinstance(node, Structure) else {}
+            node = node.inner if isinstance(node, ListOf) and step == "*" else items.get(step)
+            place = (through or place).down(step)
+        return place if node else None
 
     # tags
 
-    @staticmethod
-    def is_automatic(scope: Scope, node: Structure) -> bool:
+    def is_automatic(self, scope: Scope, node: Structure) -> bool:
         """Whether a list is tagged automatically (X.680 25.7, 29.5): by its root, as it is written."""
         root = [item for item in node.items if item.markers != 1 and not item.of]
         return scope.module.default == "AUTOMATIC" and not any(isinstance(item.type, Tagged) for item in root)
@@ -125,9 +123,8 @@ class Meaning:
 
     def is_open(self, scope: Scope, node: Type) -> bool:
         inner = strip(node)
-        if isinstance(inner, Reference) and inner.fields:
-            return self.class_field(scope, inner) == "open"
-        return inner.word == "ANY"
+        is_field = isinstance(inner, Reference) and inner.fields
+        return self.class_field(scope, inner) == "open" if is_field else inner.word == "ANY"
 
     # classes and objects
 
@@ -142,150 +139,303 @@ class Meaning:
         """What a field is: its type and scope, `open` where it holds any type, None where it isn't known."""
         if node.name[0].islower():
             setting = self.object_field(scope, node, node.fields[0])
-            tree = type_at(setting[1]) if setting is not None else None
-            return None if setting is None or tree is None else (setting[0], tree)
-        held = self.governs(scope, node)
-        for name in node.fields[:-1]:
-            field = held.fields.get(name) if held is not None else None
-            held = self.library.governs(held.module, field.type) if held is not None and field is not None else None
-        field = held.fields.get(node.fields[-1]) if held is not None else None
-        if field is not None and field.kind in ("type", "variable"):
+            tree = type_at(setting[1]) if setting else None
+            return (setting[0], tree) if setting and tree else None
+        held, field = self.governs(scope, node), None
+        for number, name in enumerate(node.fields):
+            if number:
+                held = self.library.governs(held.module, field.type) if held and field else None
+            field = held.fields.get(name) if held else None
+        if field and field.kind in ("type", "variable"):
             return "open"
         if held is None or field is None or field.type is None or self.library.governs(held.module, field.type):
             return None
         return Scope(held.module), field.type
 
     def object_field(self, scope: Scope, node: Reference | Value, field: str) -> tuple[Scope, Span] | None:
-        """What an object that is named has for a field."""
         actual = scope.actuals.get(node.name)
-        held = self.governs(scope, actual.parameter.governor) if actual is not None else BUILT_IN_CLASS
-        found = self.object_of(scope, held, (node.source, node.a, node.a + 1)) if held is not None else None
-        return None if found is None or field not in found.fields else (found.scope, found.fields[field])
+        held = self.governs(scope, actual.governor) if actual else BUILT_IN_CLASS
+        found = self.object_of(scope, held, (node.source, node.a, node.a + 1)) if held else None
+        return (found[0], found[1][field]) if found and field in found[1] else None
+
+    def named_by(self, scope: Scope, held: Definition, span: Span, kind: str) -> tuple[Scope, Definition, Span] | None:
+        """What a name of an object (a value) or set of objects stands for: its scope, its class and its tokens."""
+        source, a, b = span
+        word, module = source.tokens[b - 1].text, source.tokens[a].text if b == a + 3 else None
+        actual = scope.actual(word, module)
+        if actual is not None:
+            return actual.scope, held, actual.span
+        found = self.library.known(scope.module, word, module, kind)
+        if found is None or found.parameters is not None:
+            return None
+        its = held if kind == "set" else self.library.governs(found.module, found.type)
+        return (Scope(found.module), its, (found.source, *found.body)) if its else None
 
     def object_of(self, scope: Scope, held: Definition, span: Span, deep: int = 0) -> Object | None:
         """The object that tokens stand for: a name, or settings in braces."""
-        source, a, b = span
-        word = source.tokens[a].text
-        if word == "{":
-            found = settings(held, span)
-            return None if found is None else Object(scope, found)
-        if deep > 20:
-            return None
-        actual = scope.actuals.get(word) if b == a + 1 else None
-        if actual is not None:
-            return self.object_of(actual.scope, held, actual.span, deep + 1)
-        definition = self.library.find(scope.module, source.tokens[b - 1].text, word if b == a + 3 else None)
-        if isinstance(definition, str) or definition.kind != "value" or definition.parameters is not None:
-            return None
-        its, body = self.library.governs(definition.module, definition.type), (definition.source, *definition.body)
-        return None if its is None else self.object_of(Scope(definition.module), its, body, deep + 1)
+        if span[0].tokens[span[1]].text == "{":
+            fields = settings(held, span)
+            return None if fields is None else (scope, fields)
+        found = self.named_by(scope, held, span, "value") if deep <= 20 else None
+        return self.object_of(*found, deep + 1) if found else None
 
-    def object_set(self, scope: Scope, held: Definition, span: Span, deep: int = 0) -> ObjectSet:
-        source, a, b = span
-        found = ObjectSet([])
-        reader = ModuleReader(source, a)
-        if reader.take("{"):
-            b -= 1
-        while reader.at < b:
-            other = self.elements(scope, held, (source, *reader.skip_to("|", "UNION", ",", end=b)), deep)
-            found.objects += other.objects
-            found.extensible |= other.extensible
-            found.known &= other.known
+    def object_set(self, scope: Scope, held: Definition, span: Span, deep: int = 0) -> Objects:
+        """The objects of a set, `...` where it is extensible, and nothing in the place of what can't be followed."""
+        reader, end, found = Reader(*span[:2]), span[2], list[Object | str]()
+        end -= bool(reader.take("{"))
+        while reader.at < end:
+            part = (reader.source, *reader.skip_to("|", "UNION", ",", end=end))
+            word, length = reader.text(-1), part[2] - part[1]
             reader.at += 1
+            if length == 1 and word == "...":
+                found.append("...")
+            elif deep > 20 or length <= 0:
+                found.append("")
+            elif word[0].isupper() and length in (1, 3):
+                other = self.named_by(scope, held, part, "set")
+                found += self.object_set(*other, deep + 1) if other else [""]
+            else:
+                found.append(self.object_of(scope, held, part) or "")
         return found
 
-    def elements(self, scope: Scope, held: Definition, span: Span, deep: int) -> ObjectSet:
-        """What one part of an object set has."""
-        source, a, b = span
-        word = source.tokens[b - 1].text
-        if deep > 20 or b <= a or b == a + 1 and word == "...":
-            return ObjectSet([], word == "...", word == "...")
-        actual = scope.actuals.get(word) if b == a + 1 and word[0].isupper() else None
-        if actual is not None:
-            return self.object_set(actual.scope, held, actual.span, deep + 1)
-        if word[0].isupper() and b - a in (1, 3):
-            definition = self.library.find(scope.module, word, source.tokens[a].text if b == a + 3 else None)
-            if isinstance(definition, str) or definition.kind != "set" or definition.parameters is not None:
-                return ObjectSet([], known=False)
-            return self.object_set(Scope(definition.module), held, (definition.source, *definition.body), deep + 1)
-        found = self.object_of(scope, held, span)
-        return ObjectSet([], known=False) if found is None else ObjectSet([found])
-
-    def table_of(self, scope: Scope, node: Type) -> tuple[ObjectSet, str] | None:
+    def table_of(self, scope: Scope, node: Type) -> tuple[Objects, str] | None:
         """The object set that an open type is constrained by, and its field."""
         inner = strip(node)
         if not isinstance(node, Constrained) or not isinstance(inner, Reference) or not inner.fields:
             return None
         held = self.governs(scope, inner)
-        for constraint in node.constraints:
-            element = constraint.root.unions[0][0] if constraint.root.unions else None
-            if held is not None and element is not None and element.step == "table":
-                span = ModuleReader(node.source, element.a).skip_braces()
+        for element in (c.root.unions[0][0] for c in node.constraints if held and c.root.unions):
+            if held and element.step == "table":
+                span = Reader(node.source, element.a).skip_braces()
                 return self.object_set(scope, held, (node.source, *span)), inner.fields[-1]
         return None
 
-    def candidates(self, scope: Scope, node: Type) -> list[str]:
-        """The types that objects of a table have for an open type, as texts that name the modules of definitions."""
-        found, name = self.table_of(scope, node) or (ObjectSet([]), "")
-        held = [(one.scope, type_at(one.fields[name])) for one in found.objects if name in one.fields]
-        return list(dict.fromkeys(self.full_text(there, tree) for there, tree in held if tree is not None))
+    def candidates(self, scope: Scope, node: Type) -> list[Typed]:
+        """The types that objects of a table have for an open type."""
+        found, name = self.table_of(scope, node) or ([], "")
+        known = [one for one in found if isinstance(one, tuple) and name in one[1]]
+        held = [(there, type_at(fields[name])) for there, fields in known]
+        return [(there, tree) for there, tree in held if tree is not None]
 
     def full_text(self, scope: Scope, tree: Type) -> str:
-        """A type's text, with the module of the definition that it names."""
-        found = self.library.find(scope.module, tree.name) if isinstance(tree, Reference) and not tree.module else ""
-        is_known = isinstance(tree, Reference) and not tree.fields and isinstance(found, Definition)
-        return f"{found.module.name}.{tree.text()}" if is_known and isinstance(found, Definition) else tree.text()
+        """A type's text, with the modules of the definitions that it names."""
+        words = [token.text for token in tree.source.tokens[tree.a : tree.b]]
+        for node in self.recursion.references(tree):
+            is_plain = not (node.module or node.name in scope.actuals)
+            found = self.library.find(scope.module, node.name) if is_plain else ""
+            if isinstance(found, Definition):
+                words[node.a - tree.a] = f"{found.module.name}.{found.name}"
+        return " ".join(words).replace(" . ", ".")
+
+    def meant(self, scope: Scope, tree: Type) -> object:
+        """What tells types apart: the text that names lead to, and how that is read where names or tags are in it."""
+        for _ in range(100):
+            scope, tree, *_ = self.step(scope, tree) or (scope, tree)
+        text = self.full_text(scope, tree)
+        own = scope.key()[1:] if set(text.split()) & scope.actuals.keys() else ()
+        return text, *((scope.module, own) if re.search(r"[\[{]|(?<![\w-])[a-z]", text) else ())
+
+    # what goes out
+
+    def output(self, definition: Definition, scope: Scope | None = None) -> Output:
+        """What goes out for a definition, maybe that for other parameters, with an equal text and equal marks; CannotGo
+        where it can't."""
+        scope = scope or Scope(definition.module, group=self.recursion.groups.get(definition, -1))
+        key = (definition, *scope.key())
+        found = self.outputs.get(key)
+        if found is None:
+            out = self.outputs[key] = Output(definition.module, "", definition, Place(definition), scope=scope)
+            self.fill(out, lambda: self.definition(out, scope))
+            others = self.outputs.values() if scope.actuals and not out.stop else ()
+            same = [other for other in others if other.name and (other.origin, other.text) == (definition, out.text)]
+            same = [other for other in same if other.costs() == out.costs()]
+            found = self.outputs[key] = same[0] if same else out
+            found.changes |= {known: change for known, change in out.changes.items() if known not in found.changes}
+            found.uses |= out.uses
+            if not same and not out.stop:
+                out.name = self.free_name(out.module, definition.name, scope)
+            if out.name and not scope.level and not scope.actuals:
+                before, self.here = self.here, out
+                self.renamed(definition, Site(out.place), out.name)
+                self.here = before
+        if found in self.building:
+            raise self.stop(found.place, definition, "recursion", f"{definition.name} contains itself", True)
+        if found.stop is not None:
+            raise found.stop
+        return found
+
+    def fill(self, out: Output, make: Callable[[], Lowered]) -> None:
+        """Runs what makes an output, with that output as the one that changes belong to."""
+        self.building.append(out)
+        self.here = out
+        try:
+            if str(out.place) in self.refused:
+                raise self.stop(out.place, out.origin, "limit", self.refused[str(out.place)])
+            out.text, out.choice = make()
+        except CannotGo as stop:
+            out.stop = stop
+            for cause in stop.causes:
+                cause.takes[str(out.place)] = None
+        finally:
+            self.building.pop()
+            self.here = self.building[-1] if self.building else out
+
+    def extra(self, key: object, home: Module, site: Site, name: str, make: Callable[[], Lowered]) -> Lowered:
+        """A definition of its own in a module, for a type that is written inside another one."""
+        out = self.outputs.get(key)
+        if out is None:
+            out = self.outputs[key] = Output(home, "", self.here.origin, site.place)
+            self.fill(out, make)
+            out.text = f" ::= {out.text}"
+            out.name = "" if out.stop else self.free_name(home, name)
+        if out.stop is not None:
+            raise out.stop
+        return Lowered(self.refer(out), out.choice)
+
+    def helper(self, scope: Scope, node: Type, site: Site, name: str) -> Lowered:
+        """A type by the name of a definition of its own, in the module that it was written in."""
+        inside = Site(site.place, free=False)
+        return self.extra((node, scope), scope.module, site, name, lambda: self.type(scope, node, inside))
+
+    def aside(self, make: Callable[[], Lowered], site: Site, name: str) -> Lowered:
+        """A text without tags of its own; under AUTOMATIC TAGS it goes to a module beside, where nothing tags it."""
+        if self.here.module.default != "AUTOMATIC":
+            return make()
+        home = f"{spelled(self.here.module.name)}-Untagged"
+        if home not in self.library.modules:
+            self.library.add(read_modules(cut("", f"{home} DEFINITIONS EXPLICIT TAGS ::= BEGIN END"))[0])
+        key, name = ("aside", self.here, site.place), f"{self.here.origin.name}-{name}"
+        return self.extra(key, self.library.modules[home], site, name, make)
+
+    # names
+
+    def free_name(self, module: Module, name: str, scope: Scope | None = None) -> str:
+        """A name that nothing else in the module has; a definition's own name comes first."""
+        used, scope = self.names.setdefault(module.name, set()), scope or Scope(module)
+        if module.name not in self.original:
+            self.original[module.name] = {spelled(other): other for other in (*module.named, *module.imported)}
+        original = self.original[module.name]
+        wanted = spelled(name) + (f"-{scope.level}" if scope.level else "")
+
+        def taken(found: str) -> bool:
+            return found in used or original.get(found, name) != name or scope.level > 0 and found in original
+
+        if taken(wanted) and scope.actuals:
+            spans = [actual.span for actual in scope.actuals.values()]
+            words = [token.text for source, a, b in spans for token in source.tokens[a:b] if token.text[0].isalpha()]
+            wanted = spelled(f"{wanted}-{words[0] if len(words) == 1 else self.here.origin.name}")
+        found, number = wanted, 2
+        while taken(found):
+            found, number = f"{wanted}-{number}", number + 1
+        used.add(found)
+        return found
+
+    def refer(self, out: Output) -> str:
+        """The name of an output in the module that is written, which imports it if need be: by another name, that is
+        defined beside it, where the module has its own name already."""
+        module = self.here.module
+        found = out if out.module is module else self.local.get((module, out))
+        if found is None:
+            found, name = out, f"{out.name}-of-{out.module.name}"
+            original = module.imported.get(out.origin.name) and out.origin.name == out.name
+            others = {used.name for (m, o), used in self.local.items() if m is module and o is not out}
+            own = out.name in module.named or out.name in self.names.setdefault(module.name, set())
+            if own and not original or out.name in others:
+                found = Output(out.module, self.free_name(out.module, name), out.origin, out.place)
+                found.text, found.uses, found.choice = f" ::= {out.name}", {out: None}, out.choice
+                self.outputs["alias", out, module] = found
+            self.local[module, out] = found
+        if found.module is not module:
+            self.here.imports[found.name] = found
+        self.here.uses[found] = None
+        return found.name
+
+    # changes, and what can't go
+
+    def note(
+        self, site: Site, node: Node, step: str, why: str, mark: str = SAME, new: str = "", old: str | None = None
+    ) -> None:
+        """Writes a change down for the output that is made; SAME leaves values and encodings as they are."""
+        original = node.text() if old is None else old
+        key = (site.place, node.source, node.a, step, original, mark)
+        self.here.changes.setdefault(key, Change(site.place, node, step, why, mark, original, new))
+
+    def renamed(self, node: Definition | Item | Component, site: Site, name: str) -> list[Edit]:
+        """What writes another name at the beginning of a node, where its own isn't that."""
+        if name == node.name or not node.text().startswith(node.name):
+            return []
+        self.note(site, node, "text", "the profile has no such name", new=name, old=node.name)
+        return [(node.a, node.a + 1, name)]
+
+    def mark(self) -> Mark:
+        """What the output in the making has so far, for `back`, which takes back what came after it."""
+        return dict(self.here.uses), dict(self.here.changes), dict(self.here.imports)
+
+    def back(self, mark: Mark) -> None:
+        self.here.uses, self.here.changes, self.here.imports = mark
+
+    def hole(self, site: Site, node: Node, kind: str, why: str, candidates: Iterable[Typed] = ()) -> CannotGo:
+        cause = self.holes.setdefault(str(site.place), Change(site.place, node, kind, why))
+        texts = [self.full_text(there, tree) for there, tree in candidates]
+        cause.candidates = list(dict.fromkeys(cause.candidates + texts))
+        return CannotGo([cause])
+
+    def stop(self, place: Place, node: Node, kind: str, why: str, ends: bool = False) -> CannotGo:
+        return CannotGo([Change(place, node, kind, why)], ends)
+
+    def unless_left_out(self, site: Site, node: Node, fixed: str, make: Callable[[], Lowered]) -> Lowered | CannotGo:
+        """What is made of a part; or why it is left out, where nothing says that it has to be there (`fixed`)."""
+        mark, place, leaves = self.mark(), str(site.place), site.free and self.bindings.leaves_out(site.place)
+        try:
+            if leaves:
+                raise self.stop(site.place, node, "left-out", "the bindings leave it out")
+            if spelled(place) in self.refused:
+                raise self.stop(site.place, node, "limit", self.refused[spelled(place)])
+            return make()
+        except CannotGo as stop:
+            self.back(mark)
+            if fixed and leaves:
+                raise self.bindings.fault(site.place, fixed) from stop
+            if fixed or not site.free or not (stop.ends or self.leave_out or leaves):
+                raise
+            if not stop.ends:
+                self.left.setdefault(place, {}).update(dict.fromkeys(stop.causes))
+            for cause in stop.causes:
+                cause.takes[place] = None
+            return stop
 
 
 def settings(held: Definition, span: Span) -> dict[str, Span] | None:
     """What an object in braces says of each field, by the default syntax or by that of its class."""
     source, a, b = span
-    found: dict[str, Span] = {}
-    if source.tokens[a + 1].kind == "field":
-        reader = ModuleReader(source, a + 1)
-        while reader.at < b - 1:
-            name = reader.next()
-            found[name] = (source, *reader.skip_to(",", end=b - 1))
-            reader.at += 1
-        return found
-    if held.syntax is None:
-        return found if b == a + 2 else None
-    return found if match((held.source, *held.syntax), held.fields, source, a + 1, found) == b - 1 else None
-
-
-def match(syntax: Span, fields: dict[str, ClassField], source: Source, at: int, found: dict[str, Span]) -> int | None:
-    """Where an object's tokens end that follow a syntax in braces or brackets; None where they don't follow it."""
-    rule = ModuleReader(syntax[0], syntax[1] + 1)
-    while rule.at < syntax[2] - 1:
-        token, tried = rule.token(), dict[str, Span]()
-        group = (syntax[0], *rule.skip_braces())
-        end: int | None = at + 1 if source.tokens[at].text == token.text else None
-        if token.text == "[":
-            end = match(group, fields, source, at, tried)
-            found |= tried if end is not None else {}
-            end = at if end is None else end
-        elif token.kind == "field":
-            end = setting(fields.get(token.text), source, at)
-            found[token.text] = (source, at, end or at)
-        if end is None:
-            return None
-        at = end
-    return at
-
-
-def setting(field: ClassField | None, source: Source, at: int) -> int | None:
-    """Where the setting of a field ends."""
-    reader = ModuleReader(source, at)
-    in_braces = reader.text() == "{"
-    if field is None or field.kind == "set" and not in_braces:
-        return None
+    reader, found = Reader(source, a), dict[str, Span]()
+    if source.tokens[a + 1].text[:1] == "&":
+        return dict(reader.listed(lambda: (reader.next(), (source, *reader.skip_to(",", "}")))))
+    reader.at += 1
     try:
-        if field.kind == "type":
-            reader.type()
-        elif in_braces:
-            reader.skip_braces()
-        else:
-            reader.value()
+        if held.syntax is not None:
+            match(Reader(held.source, held.syntax[0] + 1), held.syntax[1] - 1, held.fields, reader, found)
     except Fault:
         return None
-    return reader.at
+    return found if reader.at == b - 1 else None
+
+
+def match(rule: Reader, end: int, fields: dict[str, ClassField], reader: Reader, found: dict[str, Span]) -> None:
+    """Reads settings by the syntax of a class, up to a token of that; a Fault where they don't follow it."""
+    while rule.at < end:
+        text, begin, (a, b) = rule.text(), reader.at, rule.skip_braces()
+        if text == "[":
+            tried = dict[str, Span]()
+            try:
+                match(Reader(rule.source, a + 1), b - 1, fields, reader, tried)
+                found |= tried
+            except Fault:
+                reader.at = begin
+        elif text[:1] == "&":
+            field, in_braces = fields.get(text), reader.text() == "{"
+            if field is None or field.kind == "set" and not in_braces:
+                raise reader.fault(f"there is no setting of {text}")
+            (reader.type if field.kind == "type" else reader.skip_braces if in_braces else reader.value)()
+            found[text] = (reader.source, begin, reader.at)
+        else:
+            reader.need(text)

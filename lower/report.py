@@ -1,17 +1,99 @@
-"""The reports of a run: for people, for programs, and bindings to start from."""
-
-from __future__ import annotations
+"""What a run made: the texts of modules, the reports for people and programs, bindings to start from."""
 
 import json
 from collections import Counter
 from dataclasses import dataclass, field
 from typing import Any
 
-from job import CANT, LOOSER, NEITHER, SAME, Cause, Change, Output, join, reached
+from job import CANT, LOOSER, MARKS, NEITHER, SAME, Change, Output, reached
 from library import spelled
 from lowering import Job
-from tree import Definition
-from writing import Text
+from tokens import has_comment
+from tree import Definition, Module
+
+@dataclass
+class Text:
+    module: Module
+    name: str
+    outputs: list[Output] = field(default_factory=list)
+    text: str = ""
+
+
+def texts(modules: list[Module], roots: list[Output]) -> list[Text]:
+    """The texts of all modules that some outputs reach; these are exported, since rules are made of them."""
+    held = {module: Text(module, spelled(module.name)) for module in modules}
+    needed: dict[Module, set[str]] = {}
+    for out in roots:
+        needed.setdefault(out.module, set()).add(out.name)
+    for out in reached(roots):
+        held[out.module].outputs.append(out)
+        for used in out.imports.values():
+            needed.setdefault(used.module, set()).add(used.name)
+    found = [text for text in held.values() if text.outputs]
+    for text in found:
+        text.text = whole(text, needed.get(text.module, set()))
+    return found
+
+
+def whole(text: Text, needed: set[str]) -> str:
+    module, tokens = text.module, text.module.source.tokens
+    before = tokens[module.a].space.replace("\ufeff", "").lstrip("\n")
+    edits = [(module.a, module.a + 1, spelled(module.name)), *((a, b, "") for a, b in module.cuts if b > a)]
+    parts = [before, module.source.emit(module.a, module.body, edits), exports(text, needed), imports(text)]
+    left = list(text.outputs)
+    for definition in module.definitions:
+        own = [out for out in left if out.origin is definition]
+        own.sort(key=lambda out: out.name != spelled(definition.name))
+        for number, out in enumerate(own):
+            space = tokens[definition.a].space if not number else "\n\n"
+            parts.append(f"{space if space.strip() or chr(10) in space else chr(10)}{out.name}{out.text}")
+            left.remove(out)
+    parts += [f"\n\n{out.name}{out.text}" for out in left]
+    end = tokens[module.b - 1].space
+    parts.append((end if "\n" in end else "\n") + "END\n")
+    return "".join(parts).replace("\u00a0", " ").replace("\x0c", "\n")
+
+
+def exports(text: Text, needed: set[str]) -> str:
+    if text.module.exports is None:
+        return ""
+    source, (a, b) = text.module.source, text.module.exports
+    if source.tokens[a + 1].text == "ALL":
+        return source.tokens[a].space + source.emit(a, b)
+    names = {out.name for out in text.outputs}
+    symbols = [(token.space, spelled(token.text)) for token in source.tokens[a + 1 : b] if token.text[:1].isalpha()]
+    kept = [(space, name) for space, name in symbols if name in names]
+    kept += [(" ", name) for name in sorted(needed - {name for _, name in kept})]
+    return f"{source.tokens[a].space}EXPORTS{','.join(space + name for space, name in kept)};"
+
+
+def imports(text: Text) -> str:
+    wanted: dict[str, list[str]] = {}
+    for out in text.outputs:
+        for name, used in out.imports.items():
+            held = wanted.setdefault(spelled(used.module.name), [])
+            held += [name] if name not in held else []
+    if not wanted:
+        return ""
+    module, tokens = text.module, text.module.source.tokens
+    parts = [tokens[module.imports[0]].space if module.imports else "\n\n", "IMPORTS"]
+    symbols = [(clause, k, spelled(tokens[k].text)) for clause in module.clauses for k in clause.symbols]
+    stay = {k: name for clause, k, name in symbols if name in wanted.get(spelled(clause.module), [])}
+    for clause in module.clauses:
+        names, kept = wanted.get(spelled(clause.module), []), [k for k in clause.symbols if k in stay]
+        if names and kept:
+            held = [tokens[k].space + stay[k] for k in kept]
+            held += [f" {name}" for name in names if name not in [stay[k] for k in kept]]
+            names.clear()
+            edits = [(clause.module_at, clause.module_at + 1, spelled(clause.module))]
+            edits += [(*clause.cut, "")] if clause.cut[1] > clause.cut[0] else []
+            origin = module.source.emit(clause.module_at - 1, clause.b, edits)
+            parts.append(",".join(held) + tokens[clause.module_at - 1].space + origin)
+            after = tokens[clause.b].space
+            parts.append(after if has_comment(after) and clause.b not in stay else "")
+    parts += [f"\n    {', '.join(names)}\n        FROM {source}" for source, names in wanted.items() if names]
+    return "".join(parts) + ";"
+
 
 HEAD = """# What lowering costs
 
@@ -34,14 +116,19 @@ class Message:
     name: str
     definition: Definition
     out: Output | None = None
-    causes: list[Cause] = field(default_factory=list)
+    causes: list[Change] = field(default_factory=list)
     changes: list[Change] = field(default_factory=list)
     mark: str = CANT
 
     @property
-    def fits(self) -> bool:
-        """Whether each change that widens is signed."""
-        return all(change.signed for change in self.changes if change.mark in (LOOSER, NEITHER))
+    def unsigned(self) -> str:
+        """Which changes that widen aren't signed, by their steps and places; empty where all are."""
+        found: dict[str, dict[str, None]] = {}
+        for change in (one for one in self.changes if one.mark in (LOOSER, NEITHER) and not one.signed):
+            found.setdefault(change.step, {})[str(change.place)] = None
+        shown = {step: [*list(places)[:4], f"{len(places) - 4} more"][: len(places)] for step, places in found.items()}
+        held = "; ".join(f"{step} at {', '.join(places)}" for step, places in shown.items())
+        return f", not signed: {held}" if held else ""
 
     def reasons(self) -> list[str]:
         """Of what a message's mark comes, one line for each kind of change."""
@@ -53,38 +140,40 @@ class Message:
 
 @dataclass
 class Result:
-    """What a run made."""
-
     job: Job
     messages: list[Message]
     texts: list[Text]
     changes: list[Change] = field(default_factory=list)
-    unread: list[Definition] = field(default_factory=list)
 
     @property
     def status(self) -> int:
         if any(message.mark == CANT for message in self.messages):
             return 2
-        return 0 if all(message.fits for message in self.messages) else 1
+        return int(any(message.unsigned for message in self.messages))
+
+    @property
+    def unread(self) -> list[Definition]:
+        modules = self.job.library.modules.values()
+        return [definition for module in modules for definition in module.definitions if definition.kind == "unread"]
 
     def collect(self) -> None:
         """Numbers the changes that messages reach, and joins their marks."""
-        self.changes = [change for text in self.texts for out in text.outputs for change in out.changes]
+        self.changes = [change for text in self.texts for out in text.outputs for change in out.changes.values()]
         self.changes.sort(key=lambda change: tuple(where(change).values()))
         for number, change in enumerate(self.changes, 1):
             change.number, change.signed = number, self.job.bindings.signs(change)
         for message in (message for message in self.messages if message.out is not None):
-            message.mark = SAME
-            roots = [message.out] if message.out is not None else []
-            message.changes = [change for out in reached(roots) for change in out.changes]
+            outputs, mark = reached([message.out] if message.out is not None else []), 0
+            message.changes = [change for out in outputs for change in out.changes.values()]
             for change in message.changes:
-                message.mark = join(message.mark, change.mark)
+                mark |= MARKS.index(change.mark)
+            message.mark = MARKS[mark]
 
-    def roots(self) -> list[Cause]:
+    def roots(self) -> list[Change]:
         """The root causes of all that can't go, each with what it takes along."""
         found = [cause for message in self.messages for cause in message.causes]
         stops = [out.stop for out in self.job.outputs.values() if out.stop is not None]
-        found += [cause for stop in stops for cause in stop.causes if cause.kind != "recursion"]
+        found += [cause for stop in stops for cause in stop.causes if cause.step != "recursion"]
         return list(dict.fromkeys(found + [cause for causes in self.job.left.values() for cause in causes]))
 
     def policy(self, many: bool) -> str:
@@ -99,18 +188,18 @@ class Result:
         return "\n".join(lines) + "\n"
 
 
-def quoted(text: str) -> str:
-    return json.dumps(text, ensure_ascii=False)
+def quoted(held: object) -> str:
+    return json.dumps(held, ensure_ascii=False)
 
 
-def where(found: Change | Cause | Definition) -> dict[str, Any]:
+def where(found: Change | Definition) -> dict[str, Any]:
     """The place in a file of a change, a cause, or what couldn't be read."""
     node, index = (found, found.why_at) if isinstance(found, Definition) else (found.node, found.node.a)
-    line, column = node.source.place(index)
+    line, column = node.source.place_of(node.source.tokens[index].start)
     return {"file": node.source.path, "line": line, "column": column}
 
 
-def at(found: Change | Cause | Definition) -> str:
+def at(found: Change | Definition) -> str:
     return ":".join(map(str, where(found).values()))
 
 
@@ -119,26 +208,26 @@ def as_json(result: Result) -> str:
         {"name": message.name, "module": "" if message.out is None else spelled(message.out.module.name)}
         | {"type": "" if message.out is None else message.out.name}
         | {"source": f"{message.definition.module.name}.{message.definition.name}", "mark": message.mark}
-        | {"signed": message.fits, "changes": [change.number for change in message.changes]}
+        | {"signed": not message.unsigned, "changes": [change.number for change in message.changes]}
         | {"causes": message.reasons()}
         for message in result.messages
     ]
-    changes: list[dict[str, object]] = [
+    words = ("step", "original", "replacement", "mark", "why", "signed")
+    changes = [
         {"id": change.number, **where(change), "module": change.place.definition.module.name}
-        | {"place": str(change.place), "step": change.step, "original": change.original}
-        | {"replacement": change.replacement, "mark": change.mark, "why": change.why, "signed": change.signed}
+        | {"place": str(change.place), **{word: getattr(change, word) for word in words}}
         for change in result.changes
     ]
-    left_out: list[dict[str, object]] = [
+    left_out = [
         {"place": str(cause.place), **where(cause), "cause": cause.why, "takes": list(cause.takes)}
         for cause in result.roots()
     ]
     holes: list[dict[str, object]] = []
-    for cause, found in result.job.holes.values():
+    for cause in result.job.holes.values():
         binding = result.job.bindings.at(cause.place)
         bound = " | ".join(binding) if isinstance(binding, list) else binding
-        holes.append({"place": str(cause.place), **where(cause), "kind": cause.kind, "bound": bound})
-        holes[-1]["candidates"] = found
+        holes.append({"place": str(cause.place), **where(cause), "kind": cause.step, "bound": bound})
+        holes[-1]["candidates"] = cause.candidates
     modules = [
         {"name": text.name, "source": text.module.source.path, "output": f"{text.name}.asn1"} for text in result.texts
     ]
@@ -150,7 +239,7 @@ def as_json(result: Result) -> str:
 def as_markdown(result: Result) -> str:
     lines = [HEAD]
     for message in result.messages:
-        signed = "" if message.mark not in (LOOSER, NEITHER) else ", signed" if message.fits else ", not signed"
+        signed = "" if message.mark not in (LOOSER, NEITHER) else message.unsigned or ", signed"
         lines.append(f"- **{message.name}**: *{message.mark}*{signed}")
         lines += [f"  - {reason}" for reason in message.reasons()]
     lines.append(COLUMNS)
@@ -181,9 +270,9 @@ def as_draft(result: Result) -> str:
     lines += ["", "# changes that widen, to be signed by their place or step:"]
     wide = [f"#   {change.place}  ({change.step})" for change in result.changes if change.mark in (LOOSER, NEITHER)]
     lines += [*dict.fromkeys(wide), f"looser = [{', '.join(map(quoted, kept.looser))}]", "", "[bind]"]
-    lines += [f"{quoted(name)} = {json.dumps(held, ensure_ascii=False)}" for name, held in kept.bind.items()]
+    lines += [f"{quoted(name)} = {quoted(held)}" for name, held in kept.bind.items()]
     gone = [change.place for change in result.changes if change.step == "left-out" and str(change.place) in left]
-    told: set[Cause] = set()
+    told: set[Change] = set()
     for place in dict.fromkeys(str(place) for place in gone if not kept.leaves_out(place)):
         lines += ["", *(line for cause in left[place] for line in hole_lines(result.job, cause))]
         lines.append(f'{quoted(place)} = "leave-out"')
@@ -198,8 +287,7 @@ def as_draft(result: Result) -> str:
     return "\n".join(lines) + "\n"
 
 
-def hole_lines(job: Job, cause: Cause) -> list[str]:
-    lines = [f"# {cause.place} ({at(cause)}): {' '.join(cause.why.split())[:200]}"]
-    _, found = job.holes.get(str(cause.place), (cause, list[str]()))
-    held = ", ".join(quoted(" ".join(text.split())) for text in found)
-    return [*lines, f"# object sets have: {held}"] if found else lines
+def hole_lines(job: Job, cause: Change) -> list[str]:
+    lines = [f"# {cause.place} ({at(cause)}): {' '.join(cause.why.split())[:600]}"]
+    held = ", ".join(quoted(" ".join(text.split())) for text in job.holes.get(str(cause.place), cause).candidates)
+    return [*lines, f"# object sets have: {held}"] if held else lines

@@ -3,28 +3,26 @@
 from __future__ import annotations
 
 import re
-from bisect import bisect
 from collections.abc import Iterable
 from dataclasses import dataclass, field
 from pathlib import Path
 
-RESERVED = frozenset(
-    """ABSENT ABSTRACT-SYNTAX ALL ANY APPLICATION AUTOMATIC BEGIN BIT BMPString BOOLEAN BY CHARACTER CHOICE CLASS
-    COMPONENT COMPONENTS CONSTRAINED CONTAINING DATE DATE-TIME DEFAULT DEFINITIONS DURATION EMBEDDED ENCODED
-    ENCODING-CONTROL END ENUMERATED EXCEPT EXPLICIT EXPORTS EXTENSIBILITY EXTERNAL FALSE FROM GeneralizedTime
-    GeneralString GraphicString IA5String IDENTIFIER IMPLICIT IMPLIED IMPORTS INCLUDES INSTANCE INSTRUCTIONS INTEGER
-    INTERSECTION ISO646String MAX MIN MINUS-INFINITY NOT-A-NUMBER NULL NumericString OBJECT ObjectDescriptor OCTET OF
-    OID-IRI OPTIONAL PATTERN PDV PLUS-INFINITY PRESENT PRIVATE PrintableString REAL RELATIVE-OID RELATIVE-OID-IRI
-    SEQUENCE SET SETTINGS SIZE STRING SYNTAX T61String TAGS TeletexString TIME TIME-OF-DAY TRUE TYPE-IDENTIFIER UNION
-    UNIQUE UNIVERSAL UniversalString UTCTime UTF8String VideotexString VisibleString WITH""".split()
+STRINGS = frozenset(
+    """BMPString GeneralString GraphicString IA5String ISO646String NumericString PrintableString T61String
+    TeletexString UniversalString UTF8String VideotexString VisibleString ObjectDescriptor""".split()
 )
+TIMES = frozenset("GeneralizedTime UTCTime DATE DATE-TIME DURATION TIME TIME-OF-DAY".split())
+RESERVED = STRINGS | TIMES | set(
+    """ABSENT ABSTRACT-SYNTAX ALL ANY APPLICATION AUTOMATIC BEGIN BIT BOOLEAN BY CHARACTER CHOICE CLASS COMPONENT
+    COMPONENTS CONSTRAINED CONTAINING DEFAULT DEFINITIONS EMBEDDED ENCODED ENCODING-CONTROL END ENUMERATED EXCEPT
+    EXPLICIT EXPORTS EXTENSIBILITY EXTERNAL FALSE FROM IDENTIFIER IMPLICIT IMPLIED IMPORTS INCLUDES INSTANCE
+    INSTRUCTIONS INTEGER INTERSECTION MAX MIN MINUS-INFINITY NOT-A-NUMBER NULL OBJECT OCTET OF OID-IRI OPTIONAL
+    PATTERN PDV PLUS-INFINITY PRESENT PRIVATE REAL RELATIVE-OID RELATIVE-OID-IRI SEQUENCE SET SETTINGS SIZE STRING
+    SYNTAX TAGS TRUE TYPE-IDENTIFIER UNION UNIQUE UNIVERSAL WITH""".split()
+)  # fmt: skip
 TOKEN = re.compile(
-    r"""(?P<field>&[A-Za-z](?:-?[A-Za-z0-9_])*)
-      | (?P<word>[A-Za-z](?:-?[A-Za-z0-9_])*)
-      | (?P<number>[0-9]+)
-      | (?P<string>"(?:[^"]|"")*")
-      | (?P<bits>'[0-9A-Fa-f\s]*'[BH])
-      | (?P<mark>::=|\.\.\.|\.\.|\[\[|\]\]|[][{}(),;:|^<>.!@=*+/$\#-])""",
+    r"""&?[A-Za-z](?:-?[A-Za-z0-9_])* | [0-9]+ | "(?:[^"]|"")*" | '[0-9A-Fa-f\s]*'[BH]
+      | ::= | \.\.\. | \.\. | \[\[ | \]\] | [][{}(),;:|^<>.!@=*+/$\#-]""",
     re.VERBOSE,
 )
 SPACE = re.compile(r"[\s\u00a0\ufeff]+|--(?:(?!--)[^\n\r])*(?:--|(?=[\n\r])|\Z)|/\*")
@@ -34,9 +32,8 @@ Edit = tuple[int, int, str]
 
 @dataclass(frozen=True, slots=True)
 class Token:
-    """A piece of text: `kind` is field, word, number, string, bits, mark or end; `space` is what is before it."""
+    """A piece of text, empty at the end; `space` is what is before it."""
 
-    kind: str
     text: str
     space: str
     start: int
@@ -54,9 +51,9 @@ class Fault(Exception):
         if self.source is None:
             return self.why
         line, column = self.source.place_of(self.start)
-        head, number = f"{self.source.path}:{line}:{column}: {self.why}", f"{line:>6} | "
-        text = self.source.text.split("\n")[line - 1].expandtabs(1)
-        return f"{head}\n{number}{text}\n{' ' * (len(number) - 2)}| {' ' * (column - 1)}^"
+        number, text = f"{line:>6} | ", self.source.text.split("\n")[line - 1].expandtabs(1)
+        caret = f"{' ' * (len(number) - 2)}| {' ' * (column - 1)}^"
+        return f"{self.source.path}:{line}:{column}: {self.why}\n{number}{text}\n{caret}"
 
 
 @dataclass(eq=False)
@@ -67,19 +64,11 @@ class Source:
     text: str
     tokens: list[Token] = field(default_factory=list)
 
-    def __post_init__(self) -> None:
-        self.line_starts = [0, *(found.end() for found in re.finditer("\n", self.text))]
-
     def place_of(self, start: int) -> tuple[int, int]:
         """Line and column of a character, from 1."""
-        line = bisect(self.line_starts, start)
-        return line, start - self.line_starts[line - 1] + 1
-
-    def place(self, index: int) -> tuple[int, int]:
-        return self.place_of(self.tokens[index].start)
+        return self.text.count("\n", 0, start) + 1, start - self.text.rfind("\n", 0, start)
 
     def fault(self, index: int, why: str) -> Fault:
-        """A fault at a token."""
         return Fault(why, self, self.tokens[min(index, len(self.tokens) - 1)].start)
 
     def between(self, a: int, b: int) -> str:
@@ -91,8 +80,7 @@ class Source:
         out: list[str] = []
         at = a
         for begin, end, text in [*sorted(edits, key=lambda edit: edit[:2]), (b, b, "")]:
-            tokens = enumerate(self.tokens[at:begin], at)
-            out += [(token.space if k > a else "") + token.text for k, token in tokens]
+            out += [(token.space if k > a else "") + token.text for k, token in enumerate(self.tokens[at:begin], at)]
             space = self.tokens[begin].space if a < begin < b else ""
             if text or has_comment(space):
                 out.append(space + text)
@@ -108,41 +96,41 @@ def read_file(path: str) -> Source:
     """A file's text in UTF-8, or else in Latin-1, cut into tokens."""
     try:
         octets = Path(path).read_bytes()
+        text = octets.decode("utf-8")
     except OSError as error:
         raise Fault(f"cannot read {path}: {error.strerror}") from error
-    try:
-        return cut(path, octets.decode("utf-8"))
     except UnicodeDecodeError:
-        return cut(path, octets.decode("latin-1"))
+        text = octets.decode("latin-1")
+    return cut(path, text)
 
 
 def cut(path: str, text: str) -> Source:
-    """Cuts a text into tokens; the last one is the end, with what is before it."""
+    """Cuts a text into tokens; the last one is the end, with what is before it. Comments in /* and */ may have others
+    inside."""
     text = text.replace("\r\n", "\n").replace("\r", "\n").replace("\x1a", " ")
     source, at = Source(path, text), 0
-    while not source.tokens or source.tokens[-1].kind != "end":
-        begin, at = at, past_space(source, at)
+    while not source.tokens or source.tokens[-1].text:
+        begin, opened = at, list[int]()
+        while found := NESTED.search(text, at) if opened else SPACE.match(text, at):
+            if found.group() == "/*":
+                opened.append(found.start())
+            elif opened:
+                opened.pop()
+            at = found.end()
+        if opened:
+            raise Fault("the comment that is opened here isn't closed", source, opened[0])
         found = TOKEN.match(text, at)
         if found is None and at < len(text):
             what = "string isn't closed" if text[at] in "\"'" else f"character {text[at]!r} can't stand here"
             raise Fault(what, source, at)
-        kind, word = (str(found.lastgroup), found.group()) if found else ("end", "")
-        source.tokens.append(Token(kind, word, text[begin:at], at))
-        at += len(word)
+        source.tokens.append(Token(found.group() if found else "", text[begin:at], at))
+        at += len(source.tokens[-1].text)
     return source
 
 
-def past_space(source: Source, at: int) -> int:
-    """Where white space and comments that begin at a place end; comments in /* and */ may have others inside."""
-    opened: list[int] = []
-    while True:
-        found = NESTED.search(source.text, at) if opened else SPACE.match(source.text, at)
-        if found is None and opened:
-            raise Fault("the comment that is opened here isn't closed", source, opened[0])
-        if found is None:
-            return at
-        if found.group() == "/*":
-            opened.append(found.start())
-        elif opened:
-            opened.pop()
-        at = found.end()
+def unquoted(text: str) -> str:
+    return text[1:-1].replace('""', '"')
+
+
+def quoted(text: str) -> str:
+    return '"' + text.replace('"', '""') + '"'

@@ -1,19 +1,26 @@
-"""The trees of modules. Each node knows its source and its tokens: those from `a` up to `b`."""
+"""The trees of modules."""
 
 from __future__ import annotations
 
 from dataclasses import dataclass, field
+from typing import dataclass_transform
 
 from tokens import Edit, Source
 
 Span = tuple[Source, int, int]
 
 
+@dataclass_transform(kw_only_default=True)
 @dataclass(eq=False, kw_only=True)
 class Node:
+    """What is made of the tokens of a source from `a` up to `b`; each kind of it is a dataclass too."""
+
     source: Source
     a: int
     b: int
+
+    def __init_subclass__(cls) -> None:
+        dataclass(eq=False, kw_only=True)(cls)
 
     def text(self) -> str:
         return self.source.between(self.a, self.b)
@@ -26,7 +33,6 @@ class Node:
         return self.a, self.b, text
 
 
-@dataclass(eq=False, kw_only=True)
 class Value(Node):
     """`form` is number, real, string, bits, word, name, braces, chosen, field, parameters or typed."""
 
@@ -36,7 +42,6 @@ class Value(Node):
     inner: Value | None = None
 
 
-@dataclass(eq=False, kw_only=True)
 class Element(Node):
     """A part of a set of values. `form` is group, size, from, component, components, single, range, type or dropped."""
 
@@ -52,7 +57,6 @@ class Element(Node):
     minus: Element | None = None
 
 
-@dataclass(eq=False, kw_only=True)
 class Part(Node):
     """A component in WITH COMPONENTS."""
 
@@ -61,7 +65,6 @@ class Part(Node):
     word: str
 
 
-@dataclass(eq=False, kw_only=True)
 class Set(Node):
     """A union of intersections, or ALL EXCEPT an element."""
 
@@ -69,7 +72,6 @@ class Set(Node):
     all_except: Element | None = None
 
 
-@dataclass(eq=False, kw_only=True)
 class Constraint(Node):
     """A constraint in parentheses, or a SIZE without them (`bare`); `more` is the set after `...`."""
 
@@ -79,14 +81,12 @@ class Constraint(Node):
     bare: bool = False
 
 
-@dataclass(eq=False, kw_only=True)
 class Type(Node):
     """`word` is that of a type by words, of a SEQUENCE, SET or CHOICE, and of a list; else it is empty."""
 
     word: str = ""
 
 
-@dataclass(eq=False, kw_only=True)
 class Tagged(Type):
     kind: str
     number: Value
@@ -94,13 +94,11 @@ class Tagged(Type):
     inner: Type
 
 
-@dataclass(eq=False, kw_only=True)
 class Constrained(Type):
     inner: Type
     constraints: list[Constraint]
 
 
-@dataclass(eq=False, kw_only=True)
 class Item(Node):
     """A named number, bit or item; or `...` where the name is empty."""
 
@@ -108,14 +106,12 @@ class Item(Node):
     number: Value | None
 
 
-@dataclass(eq=False, kw_only=True)
 class Plain(Type):
     """A type by its words alone, with the list of names that follows it; also ANY and INSTANCE OF."""
 
     items: list[Item] = field(default_factory=list)
 
 
-@dataclass(eq=False, kw_only=True)
 class Component(Node):
     """A component or alternative; COMPONENTS OF where `of` says so.
 
@@ -131,23 +127,17 @@ class Component(Node):
     group: int
 
 
-@dataclass(eq=False, kw_only=True)
 class Structure(Type):
-    """A SEQUENCE, SET or CHOICE with its list and the `...` in it; `open` is the token of its brace."""
-
-    open: int
     items: list[Component]
     marks: list[Node]
 
 
-@dataclass(eq=False, kw_only=True)
 class ListOf(Type):
     inner: Type
     size: Constraint | None
     name: int | None
 
 
-@dataclass(eq=False, kw_only=True)
 class Reference(Type):
     """A type by name, with a module, arguments, or fields of a class or object."""
 
@@ -157,16 +147,9 @@ class Reference(Type):
     arguments: list[tuple[int, int]] | None = None
 
 
-@dataclass(eq=False, kw_only=True)
 class Selection(Type):
     alternative: str
     inner: Type
-
-
-@dataclass(eq=False)
-class Parameter:
-    name: str
-    governor: Type | None
 
 
 @dataclass(eq=False)
@@ -178,14 +161,14 @@ class ClassField:
     type: Type | None = None
 
 
-@dataclass(eq=False, kw_only=True)
 class Definition(Node):
-    """An assignment. `kind` is type, value, set, class, macro or unread; objects are values of a class."""
+    """An assignment. `kind` is type, value, set, class, macro or unread; objects are values of a class. A parameter has
+    a name and a governor."""
 
     module: Module
     name: str
     kind: str = "type"
-    parameters: list[Parameter] | None = None
+    parameters: list[tuple[str, Type | None]] | None = None
     type: Type | None = None
     value: Value | None = None
     body: tuple[int, int] = (0, 0)
@@ -195,29 +178,27 @@ class Definition(Node):
     why_at: int = 0
 
 
-@dataclass(eq=False, kw_only=True)
 class Import(Node):
-    """A clause of IMPORTS: the tokens of its symbols and of its module, and what follows its name."""
+    """A clause of IMPORTS: the tokens of its symbols and of its module, and what has to be cut behind that."""
 
     symbols: list[int]
     module: str
     module_at: int
-    extra: tuple[int, int]
+    cut: tuple[int, int]
 
 
-@dataclass(eq=False, kw_only=True)
 class Module(Node):
+    """`cuts` are parts of its head that the profile doesn't have."""
+
     name: str
     default: str = "EXPLICIT"
     implied: bool = False
-    identifier: tuple[int, int] | None = None
     cuts: list[tuple[int, int]] = field(default_factory=list)
     body: int = 0
     exports: tuple[int, int] | None = None
     imports: tuple[int, int] | None = None
     clauses: list[Import] = field(default_factory=list)
     definitions: list[Definition] = field(default_factory=list)
-    end: int = 0
     named: dict[str, Definition] = field(default_factory=dict)
     twice: dict[str, Definition] = field(default_factory=dict)
     imported: dict[str, str] = field(default_factory=dict)

@@ -10,7 +10,7 @@ from wire import EXAMPLES, PASSES, PROGRAM, STAYS, TOP, Answer, has_sanitizer
 
 ROUTE = ["--from", "north", "--to", "south", "--message", "order"]
 ZERO = "/dev/zero"
-COMMANDS = ("", "check", "decide", "show", "encode", "test", "run", "ask", "mux")
+COMMANDS = ("", "check", "decide", "show", "encode", "test", "compare", "run", "ask", "mux")
 BUILT_IN = "pass\nnot-allowed low First:3:18 $\npass\nundecodable BooleanContents at 5 $.urgent\n"
 BOTH_FAIL = "not-allowed small Orders:8:45 $.qty, wide Orders:9:44 $.qty\n"
 

@@ -38,19 +38,20 @@ _derguard() {
         --from | --to | --message | --frame | --link) return ;;
     esac
     case $command in
-        '') mapfile -t COMPREPLY < <(compgen -W 'check decide show encode test run ask mux help --help --version' -- "$current") ;;
-        help) [ -n "$policy" ] || mapfile -t COMPREPLY < <(compgen -W 'check decide show encode test run ask mux' -- "$current") ;;
-        check | run | ask | mux | decide | show | encode | test)
+        '') mapfile -t COMPREPLY < <(compgen -W 'check decide show encode test compare run ask mux help --help --version' -- "$current") ;;
+        help) [ -n "$policy" ] || mapfile -t COMPREPLY < <(compgen -W 'check decide show encode test compare run ask mux' -- "$current") ;;
+        check | run | ask | mux | decide | show | encode | test | compare)
             if [[ $current == -* ]]; then
                 word=--help
-                if [ "$command" = check ]; then word='--explain --strict --help'; fi
+                if [ "$command" = check ]; then word='--explain --strict --digest --help'; fi
                 if [ "$command" = run ] || [ "$command" = mux ]; then word='--verbose --help'; fi
                 if [ "$command" = decide ]; then word='--from --to --message --der --frame --link --explain --help'; fi
-                if [ "$command" = show ]; then word='--message --der --frame --link --capture --help'; fi
+                if [ "$command" = show ]; then word='--message --der --frame --link --capture --explain --help'; fi
                 if [ "$command" = encode ]; then word='--message --from --to --der --help'; fi
                 if [ "$command" = test ]; then word='--cover --explain --help'; fi
+                if [ "$command" = compare ]; then word='--by-place --link --help'; fi
                 mapfile -t COMPREPLY < <(compgen -W "$word" -- "$current")
-            elif [ -z "$policy" ] || [ "$command" = test ]; then
+            elif [ -z "$policy" ] || [ "$command" = test ] || [ "$command" = compare ]; then
                 compopt -o filenames 2> /dev/null
                 mapfile -t COMPREPLY < <(
                     compgen -f -X '!*.toml' -- "$current"

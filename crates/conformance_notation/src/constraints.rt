@@ -2,7 +2,7 @@
 use crate::types::below;
 use crate::unread::Unread;
 use crate::words::Words;
-use guard_model::{Comp, Cons, Kind, Limit, Part, Rule, Site, Ty, Word};
+use guard_model::{Comp, Cons, Kind, Limit, NamedList, Part, Rule, Site, Ty, Word};
 use std::alloc::Global;
 use std::sync::{Arc, ArcSlice};
 
@@ -94,10 +94,11 @@ impl Words<'_> {
     #[cycle(notation)]
     fn rule(&mut self, alloc: Global, kind: &Kind, depth: u32) -> Result<Rule, Unread> {
         if self.take("INCLUDES") {
-            return Ok(Rule::Inside(self.ty(alloc, depth)?));
+            let contained = Box::into_inner(self.ty(alloc, depth)?);
+            return Ok(Rule::Inside(Arc::new(alloc, contained)?));
         }
         if self.take("SIZE") {
-            let size = Kind::Int(ArcSlice::from_vec(Vec::new(alloc))?);
+            let size = Kind::Int(NamedList::shared(alloc, Vec::new(alloc))?);
             return Ok(Rule::Size(self.constraint(alloc, &size, depth)?));
         }
         if self.take("ALL EXCEPT") {

@@ -4,7 +4,7 @@ ghost use Rattle.std.specs.Prelude.{◌≡◌, ◌+◌, IfOk};
 use crate::tags::Prefix;
 use crate::unread::Unread;
 use crate::words::Words;
-use guard_model::{CharKind, Class, Comp, Kind, Named, Presence, Tag, Ty};
+use guard_model::{CharKind, Class, Comp, Kind, Named, NamedList, Presence, Tag, Ty};
 use std::alloc::Global;
 use std::sync::{Arc, ArcSlice, ArcStr};
 
@@ -223,10 +223,10 @@ impl Words<'_> {
     }
 
     /// Named numbers, items or named bits in braces. One without a number has its place as number.
-    fn named(&mut self, alloc: Global) -> Result<ArcSlice<Named>, Unread> {
+    fn named(&mut self, alloc: Global) -> Result<Arc<NamedList>, Unread> {
         let mut named = Vec::new(alloc);
         if !self.take("{") {
-            return Ok(ArcSlice::from_vec(named)?);
+            return Ok(NamedList::shared(alloc, named)?);
         }
         for place in 0..u32::MAX {
             let name = String::from_str(alloc, self.word())?;
@@ -237,7 +237,7 @@ impl Words<'_> {
             }
         }
         self.expect("}")?;
-        Ok(ArcSlice::from_vec(named)?)
+        Ok(NamedList::shared(alloc, named)?)
     }
 
     fn number_in_parentheses(&mut self, otherwise: i128) -> Result<i128, Unread> {

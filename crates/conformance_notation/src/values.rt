@@ -103,8 +103,11 @@ impl Words<'_> {
             Kind::Bool if self.take("TRUE") => Ok(Value::Bool(true)),
             Kind::Bool if self.take("FALSE") => Ok(Value::Bool(false)),
             Kind::Null if self.take("NULL") => Ok(Value::Null),
-            Kind::Int(named) => Ok(Value::Int(self.number_of(named)?)),
-            Kind::Enumerated(items) => Ok(Value::Enumerated(number_of(items, self.word())?)),
+            Kind::Int(named) => Ok(Value::Int(self.number_of(named.as_slice())?)),
+            Kind::Enumerated(items) => Ok(Value::Enumerated(number_of(
+                items.as_slice(),
+                self.word(),
+            )?)),
             Kind::Bits(_) => Ok(Value::Bits(self.bits(alloc)?)),
             Kind::Octets => Ok(Value::Octets(ArcSlice::from_vec(self.octets(alloc)?)?)),
             Kind::Oid => Ok(Value::Oid(ArcSlice::from_vec(self.arcs(alloc)?)?)),

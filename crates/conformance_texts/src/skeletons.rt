@@ -6,6 +6,7 @@ ghost use Rattle.guard_tagging.specs.Spelled.{IsSpelledModule};
 use guard_names::Names;
 use guard_tagging::{Done, TagFault, skeleton_after};
 use std::alloc::Global;
+use std::sync::Arc;
 
 /// How many types all definitions are made of, where what is known of those before each is kept.
 pub fn number_of_types(alloc: Global, names: &Names) -> Result<usize, TagFault>
@@ -23,7 +24,8 @@ pub fn number_of_types(alloc: Global, names: &Names) -> Result<usize, TagFault>
         let next = skeleton_after(alloc, names, &done, *id)?;
         nodes = next.nodes;
         automatic.push(next.is_automatic)?;
-        types.push(next.ty)?;
+        let shared = Arc::new(alloc, next.ty)?;
+        types.push(shared)?;
     }
     Ok(nodes)
 }

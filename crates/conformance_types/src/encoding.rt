@@ -1,4 +1,5 @@
-//! `encode`: the octets of the encoding of a long value; `decode` answers the value again.
+//! `encode`: the octets of the encoding of a long value; `encoded_length` counts them, and `decode` answers the value
+//! again.
 ghost use Rattle.std.specs.Prelude.{IsTrue};
 ghost use Rattle.guard_model.specs.TypeView.{type_view};
 ghost use Rattle.guard_model.specs.ValueView.{value_view};
@@ -8,7 +9,7 @@ ghost use Rattle.guard_der.specs.Sound.{is_sound};
 use crate::type_row::set_type;
 use conformance_notation::{read, value_of};
 use conformance_rows::{Layer, not_read, text_of};
-use guard_der::{EncodeFault, decode, encode, fits, sound};
+use guard_der::{EncodeFault, decode, encode, encoded_length, fits, sound};
 use guard_model::{Ty, Value};
 use std::alloc::{AllocError, Global};
 
@@ -22,11 +23,16 @@ fn encoded(alloc: Global, ty: &Ty, value: &Value) -> Result<String, AllocError>
     requires sound { IsTrue (is_sound (type_view ty.now)) }
     requires fits { IsTrue (fits (type_view ty.now) (value_view value.now)) }
 {
+    let counted = encoded_length(ty, value);
     let octets = match encode(alloc, ty, value) {
         Ok(octets) => octets,
         Err(EncodeFault::OutOfMemory) => return Err(AllocError),
-        Err(fault) => return format!(in alloc; "{fault}"),
+        Err(fault) if counted.is_none() => return format!(in alloc; "{fault}"),
+        Err(_) => return String::from_str(alloc, "encoded_length counts octets"),
     };
+    if counted != Some(octets.len()) {
+        return String::from_str(alloc, "encoded_length counts another number of octets");
+    }
     if !decode(alloc, ty, &octets).is_ok_and(|found| found.same(value)) {
         return String::from_str(alloc, "decode takes the octets for another value");
     }

@@ -6,3 +6,4 @@ pub mod TypeParts
 pub mod KeptTrees
 pub mod JoinedConstraints
 pub mod AlphabetForms
+pub mod AgreedPlaces

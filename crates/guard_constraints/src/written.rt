@@ -16,6 +16,7 @@ ghost use Rattle.guard_constraints.specs.Denotes.{Denotes};
 ghost use Rattle.guard_constraints.specs.Conditions.{IsConstraintFaultIn};
 ghost use Rattle.guard_constraints.specs.declared.fault.ConsFault.{ConsFault};
 ghost use Rattle.guard_constraints.specs.FirstFault.{IsFirstConstraintFault};
+ghost use Rattle.guard_constraints.specs.inside.Agreed.{AreAgreed};
 ghost use Rattle.guard_constraints.specs.inside.Reading as reading;
 ghost use Rattle.guard_constraints.specs.Views.{named, visible_at, visible_in, AreKnownSound};
 
@@ -34,6 +35,7 @@ use guard_syntax::{
 };
 use guard_values::{Known, Scope};
 use std::alloc::{AllocError, Global};
+use std::collections::BTreeSet;
 
 /// The constraint that a tree denotes on a type (X.680 49 to 51), written in the definition `id`: names mean what they
 /// mean in the module of that definition, as far as `known` has it.
@@ -81,25 +83,34 @@ fn on_type(alloc: Global, scope: Scope, tree: &ConsTree, ty: &Ty) -> Result<Cons
     ensures { Gives constraint_view named result
         (reading.read (visible_in scope.entry) (type_view ty.now) (views.constraint_view tree.now)) }
 {
-    set(alloc, scope, &tree.set, ty)
+    let mut agreed = BTreeSet::new(alloc);
+    set(alloc, scope, &tree.set, ty, &mut agreed)
 }
 
 #[cycle(sets)]
 #[tactic(auto, unfolding(crate::specs::inside::Reading::read))]
-fn set(alloc: Global, scope: Scope, tree: &SetTree, ty: &Ty) -> Result<Cons, ConsFault>
+fn set(
+    alloc: Global,
+    scope: Scope,
+    tree: &SetTree,
+    ty: &Ty,
+    agreed: &mut BTreeSet<usize>,
+) -> Result<Cons, ConsFault>
     requires sound { IsTrue (is_sound (type_view ty.now)) }
     requires fitting { AreKnownFitting scope.known.now }
-    ensures { Gives constraint_view named result
+    requires agreed { AreAgreed scope.known.now (type_view ty.now) agreed.old }
+    ensures given { Gives constraint_view named result
         (reading.read_set (visible_in scope.entry) (type_view ty.now) (views.set_view tree.now)) }
+    ensures agreed { AreAgreed scope.entry.known.now (type_view ty.now) agreed.new }
 {
     match &tree.form {
         SetForm::AllExcept(other) => {
-            let other = element(alloc, scope, other, ty)?;
+            let other = element(alloc, scope, other, ty, agreed)?;
             Ok(all_except(alloc, tree.site, other)?)
         }
         SetForm::Union(first, others) => {
-            let first = intersection(alloc, scope, first, ty)?;
-            let others = united(alloc, scope, others, ty)?;
+            let first = intersection(alloc, scope, first, ty, agreed)?;
+            let others = united(alloc, scope, others, ty, agreed)?;
             Ok(joined(alloc, Join::Union, tree.site, first, others)?)
         }
     }
@@ -176,15 +187,18 @@ fn united(
     scope: Scope,
     others: &[JoinedIntersection],
     ty: &Ty,
+    agreed: &mut BTreeSet<usize>,
 ) -> Result<Vec<Cons>, ConsFault>
     requires sound { IsTrue (is_sound (type_view ty.now)) }
     requires fitting { AreKnownFitting scope.known.now }
-    ensures { Gives (λ v. map constraint_view v.items) named result (reading.joined_intersections
+    requires agreed { AreAgreed scope.known.now (type_view ty.now) agreed.old }
+    ensures given { Gives (λ v. map constraint_view v.items) named result (reading.joined_intersections
         (visible_in scope.entry) (type_view ty.now) (map views.joined_intersection_view others.now)) }
+    ensures agreed { AreAgreed scope.entry.known.now (type_view ty.now) agreed.new }
 {
     let mut all = Vec::new(alloc);
     for other in others {
-        all.push(intersection(alloc, scope, &other.part, ty)?)?;
+        all.push(intersection(alloc, scope, &other.part, ty, agreed)?)?;
     }
     Ok(all)
 }
@@ -196,15 +210,18 @@ fn intersection(
     scope: Scope,
     tree: &IntersectionTree,
     ty: &Ty,
+    agreed: &mut BTreeSet<usize>,
 ) -> Result<Cons, ConsFault>
     requires sound { IsTrue (is_sound (type_view ty.now)) }
     requires fitting { AreKnownFitting scope.known.now }
-    ensures { Gives constraint_view named result
+    requires agreed { AreAgreed scope.known.now (type_view ty.now) agreed.old }
+    ensures given { Gives constraint_view named result
         (reading.read_intersection (visible_in scope.entry) (type_view ty.now) (views.intersection_view tree.now)) }
+    ensures agreed { AreAgreed scope.entry.known.now (type_view ty.now) agreed.new }
 {
     let site = tree.first.element.site;
-    let first = difference(alloc, scope, &tree.first, ty)?;
-    let others = met(alloc, scope, &tree.others, ty)?;
+    let first = difference(alloc, scope, &tree.first, ty, agreed)?;
+    let others = met(alloc, scope, &tree.others, ty, agreed)?;
     Ok(joined(alloc, Join::Intersection, site, first, others)?)
 }
 
@@ -215,15 +232,18 @@ fn met(
     scope: Scope,
     others: &[JoinedDifference],
     ty: &Ty,
+    agreed: &mut BTreeSet<usize>,
 ) -> Result<Vec<Cons>, ConsFault>
     requires sound { IsTrue (is_sound (type_view ty.now)) }
     requires fitting { AreKnownFitting scope.known.now }
-    ensures { Gives (λ v. map constraint_view v.items) named result (reading.joined_differences (visible_in scope.entry)
+    requires agreed { AreAgreed scope.known.now (type_view ty.now) agreed.old }
+    ensures given { Gives (λ v. map constraint_view v.items) named result (reading.joined_differences (visible_in scope.entry)
         (type_view ty.now) (map views.joined_difference_view others.now)) }
+    ensures agreed { AreAgreed scope.entry.known.now (type_view ty.now) agreed.new }
 {
     let mut all = Vec::new(alloc);
     for other in others {
-        all.push(difference(alloc, scope, &other.part, ty)?)?;
+        all.push(difference(alloc, scope, &other.part, ty, agreed)?)?;
     }
     Ok(all)
 }
@@ -236,17 +256,20 @@ fn difference(
     scope: Scope,
     tree: &DifferenceTree,
     ty: &Ty,
+    agreed: &mut BTreeSet<usize>,
 ) -> Result<Cons, ConsFault>
     requires sound { IsTrue (is_sound (type_view ty.now)) }
     requires fitting { AreKnownFitting scope.known.now }
-    ensures { Gives constraint_view named result
+    requires agreed { AreAgreed scope.known.now (type_view ty.now) agreed.old }
+    ensures given { Gives constraint_view named result
         (reading.read_difference (visible_in scope.entry) (type_view ty.now) (views.difference_view tree.now)) }
+    ensures agreed { AreAgreed scope.entry.known.now (type_view ty.now) agreed.new }
 {
-    let all = element(alloc, scope, &tree.element, ty)?;
+    let all = element(alloc, scope, &tree.element, ty, agreed)?;
     match &tree.except {
         None => Ok(all),
         Some(less) => {
-            let less = element(alloc, scope, less, ty)?;
+            let less = element(alloc, scope, less, ty, agreed)?;
             Ok(except(alloc, tree.element.site, all, less)?)
         }
     }
@@ -268,17 +291,25 @@ fn except(alloc: Global, site: Site, all: Cons, less: Cons) -> Result<Cons, Allo
 
 #[cycle(sets)]
 #[tactic(auto, unfolding(crate::specs::inside::Reading::read))]
-fn element(alloc: Global, scope: Scope, tree: &ElementTree, ty: &Ty) -> Result<Cons, ConsFault>
+fn element(
+    alloc: Global,
+    scope: Scope,
+    tree: &ElementTree,
+    ty: &Ty,
+    agreed: &mut BTreeSet<usize>,
+) -> Result<Cons, ConsFault>
     requires sound { IsTrue (is_sound (type_view ty.now)) }
     requires fitting { AreKnownFitting scope.known.now }
-    ensures { Gives constraint_view named result
+    requires agreed { AreAgreed scope.known.now (type_view ty.now) agreed.old }
+    ensures given { Gives constraint_view named result
         (reading.read_element (visible_in scope.entry) (type_view ty.now) (views.element_view tree.now)) }
+    ensures agreed { AreAgreed scope.entry.known.now (type_view ty.now) agreed.new }
 {
     let site = tree.site;
     match &tree.form {
-        ElementForm::Parentheses(inner) => set(alloc, scope, inner, ty),
+        ElementForm::Parentheses(inner) => set(alloc, scope, inner, ty, agreed),
         ElementForm::Value(tree) => single_value(alloc, scope, tree, site, ty),
-        ElementForm::Contained(_, name) => contained(alloc, scope, name.name, site, ty),
+        ElementForm::Contained(_, name) => contained(scope, name.name, site, ty, agreed),
         ElementForm::Range(tree) => range(alloc, scope, tree, site, ty),
         ElementForm::Size(inner) => size(alloc, scope, inner, site, ty),
         ElementForm::From(inner) => alphabet(alloc, inner, site, ty),

@@ -16,3 +16,4 @@ pub mod Sameness
 pub mod SameTypes
 mod Compared
 mod DifferentLengths
+mod NamedOrders

@@ -6,6 +6,7 @@ use Rattle.std.proofs.Crossing.{crosses}
 use Rattle.guard_model.specs.contracts.ty.Ty as ty
 use Rattle.guard_model.specs.contracts.value.Value as value
 use Rattle.guard_model.proofs.ty.Kind.TheLaws.TheKnot as types
+use Rattle.guard_model.proofs.named_list.NamedList.TheSendSync as names
 use Rattle.guard_model.proofs.value.Bits.TheSendSync as bits
 use Rattle.guard_model.proofs.value.Value.TheLaws.TheKnot as values
 
@@ -16,7 +17,7 @@ pub value_sync : IsSync (value.the_field).row
 value_sync = search (values.crosses, bits.the_field_sync, crosses, sendable) depth 30 fits 20000
 
 pub ty_send : IsSend ty.the_row
-ty_send = as_row_send ty.the_field (search (types.crosses, value_send, value_sync, crosses, sendable) depth 30 fits 20000)
+ty_send = as_row_send ty.the_field (search (types.crosses_both, names.the_send, names.the_sync, value_send, value_sync, crosses, sendable) depth 30 fits 20000)
 
 pub ty_sync : IsSync ty.the_row
-ty_sync = as_row_sync ty.the_field (search (types.crosses, value_send, value_sync, crosses, sendable) depth 30 fits 20000)
+ty_sync = as_row_sync ty.the_field (search (types.crosses_both, names.the_send, names.the_sync, value_send, value_sync, crosses, sendable) depth 30 fits 20000)

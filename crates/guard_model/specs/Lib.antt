@@ -4,6 +4,7 @@ pub mod Answer
 pub mod Tags
 pub mod AbstractValue
 pub mod AbstractType
+pub mod NamedLists
 pub mod Components
 pub mod Counts
 pub mod Kinds

@@ -1,8 +1,10 @@
 -- The abstract type of a type of the code.
 use Rattle.std.specs.Arc.{arc_value, arc_slice_items, arc_str_bytes}
-use Rattle.std.specs.Prelude.{ℕ, List, [], ◌∷◌, map, string_bytes, Option, Some, None}
+use Rattle.std.specs.Global.{Global}
+use Rattle.std.specs.declared.sync.Arc.{Arc}
+use Rattle.std.specs.Prelude.{ℕ, List, [], ◌∷◌, Option, Some, None}
 use Rattle.guard_model.specs.AbstractType as abstract
-use Rattle.guard_model.specs.AbstractType.{AbstractType, AbstractKind, AbstractPresence, Components, Constraint, Constraints, Element, NamedNumber, Parts}
+use Rattle.guard_model.specs.AbstractType.{AbstractType, AbstractKind, AbstractPresence, Components, Constraint, Constraints, Element, Parts}
 use Rattle.guard_model.specs.ValueView.{value_view}
 use Rattle.guard_model.specs.declared.ty.Kind.TheFolds.{fold-Ty, fold-Kind, fold-Comp, fold-Cons, fold-Rule, fold-Part}
 use Rattle.guard_model.specs.declared.ty.Kind.TheOpen.{Kind-F, Rule-F, Comp-F, Cons-F, Part-F, Ty-F}
@@ -12,7 +14,7 @@ use Rattle.guard_model.specs.declared.ty.Comp.{Comp}
 use Rattle.guard_model.specs.declared.ty.Cons.{Cons}
 use Rattle.guard_model.specs.declared.ty.Rule.{Rule}
 use Rattle.guard_model.specs.declared.ty.Part.{Part}
-use Rattle.guard_model.specs.declared.ty.Named.{Named}
+pub use Rattle.guard_model.specs.NamedLists.{named_view}
 use Rattle.guard_model.specs.declared.ty.Presence.{Presence}
 use Rattle.guard_model.specs.declared.ty.Presence.TheVariants as presence
 use Rattle.guard_model.specs.declared.ty.Word.{Word}
@@ -28,9 +30,6 @@ pub record OnePart : Type 0 where
   pub place : ℕ
   pub within : Option Constraint
   pub word : Option Word
-
-abbrev pub named_view : Named → NamedNumber
-named_view n = record { name = string_bytes n.name; number = n.number }
 
 abbrev pub presence_view : Presence → AbstractPresence
 presence_view presence.Mandatory = abstract.mandatory
@@ -57,12 +56,12 @@ parts_of (p ∷ ps) = part_before p.site p.place p.within p.word (parts_of ps)
 -- The steps make one level of a kind, a rule, a component and so on abstract, where the parts are abstract already.
 abbrev pub kind_step : Kind-F AbstractKind Element OneComponent Constraint OnePart AbstractType → AbstractKind
 kind_step Kind-F.Bool = abstract.boolean
-kind_step (Kind-F.Int ns) = abstract.integer (map named_view (arc_slice_items ns))
-kind_step (Kind-F.Bits ns) = abstract.bit_string (map named_view (arc_slice_items ns))
+kind_step (Kind-F.Int ns) = abstract.integer (arc_value ns)
+kind_step (Kind-F.Bits ns) = abstract.bit_string (arc_value ns)
 kind_step Kind-F.Octets = abstract.octet_string
 kind_step Kind-F.Null = abstract.null
 kind_step Kind-F.Oid = abstract.object_identifier
-kind_step (Kind-F.Enumerated ns) = abstract.enumerated (map named_view (arc_slice_items ns))
+kind_step (Kind-F.Enumerated ns) = abstract.enumerated (arc_value ns)
 kind_step (Kind-F.Chars k) = abstract.characters k
 kind_step (Kind-F.Sequence cs) = abstract.sequence (components_of cs.items)
 kind_step (Kind-F.Set cs) = abstract.set (components_of cs.items)
@@ -72,7 +71,7 @@ kind_step (Kind-F.SetOf t) = abstract.set_of t.value
 
 abbrev pub rule_step : Rule-F AbstractKind Element OneComponent Constraint OnePart AbstractType → Element
 rule_step (Rule-F.One v) = abstract.single_value (value_view (arc_value v))
-rule_step (Rule-F.Inside t) = abstract.contained_subtype t.value
+rule_step (Rule-F.Inside t) = abstract.contained_subtype (arc_value t)
 rule_step (Rule-F.Range low high) = abstract.range low high
 rule_step (Rule-F.Size c) = abstract.size c.value
 rule_step (Rule-F.Alphabet ranges) = abstract.permitted_alphabet (arc_slice_items ranges)
@@ -99,6 +98,10 @@ abbrev pub type_view : Ty → AbstractType
 type_view =
     fold-Ty AbstractKind Element OneComponent Constraint OnePart AbstractType
     kind_step rule_step comp_step cons_step part_step ty_step
+
+-- of a type that is shared
+abbrev pub shared_type_view : Arc Ty Global → AbstractType
+shared_type_view t = type_view (arc_value t)
 
 abbrev pub kind_view : Kind → AbstractKind
 kind_view =

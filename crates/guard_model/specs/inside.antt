@@ -2,3 +2,4 @@
 pub mod Each
 pub mod Octets
 pub mod Compared
+pub mod NamedOrders

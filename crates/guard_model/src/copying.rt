@@ -161,7 +161,7 @@ impl Presence {
     }
 }
 
-#[cycle(type_copies)]
+#[cycle(constraint_copies)]
 fn copy_of_constraints(alloc: Global, constraints: &[Cons]) -> Result<Vec<Cons>, OutOfMemory>
     ensures { IfOk result (λ copy. map constraint_view copy.items ≡ map constraint_view constraints.now) }
 {
@@ -173,7 +173,7 @@ fn copy_of_constraints(alloc: Global, constraints: &[Cons]) -> Result<Vec<Cons>,
 }
 
 impl Cons {
-    #[cycle(type_copies)]
+    #[cycle(constraint_copies)]
     fn copy(&self, alloc: Global) -> Result<Cons, OutOfMemory>
         ensures { IfOk result (λ copy. constraint_view copy ≡ constraint_view self.now) }
     {
@@ -183,7 +183,7 @@ impl Cons {
         })
     }
 
-    #[cycle(type_copies)]
+    #[cycle(constraint_copies)]
     fn boxed_copy(&self, alloc: Global) -> Result<Box<Cons>, OutOfMemory>
         ensures { IfOk result (λ copy. constraint_view copy.value ≡ constraint_view self.now) }
     {
@@ -192,13 +192,13 @@ impl Cons {
 }
 
 impl Rule {
-    #[cycle(type_copies)]
+    #[cycle(constraint_copies)]
     fn copy(&self, alloc: Global) -> Result<Rule, OutOfMemory>
         ensures { IfOk result (λ copy. element_view copy ≡ element_view self.now) }
     {
         match self {
             Rule::One(value) => Ok(Rule::One(value.clone()?)),
-            Rule::Inside(ty) => Ok(Rule::Inside(ty.boxed_copy(alloc)?)),
+            Rule::Inside(ty) => Ok(Rule::Inside(ty.clone()?)),
             Rule::Range(low, high) => Ok(Rule::Range(*low, *high)),
             Rule::Size(size) => Ok(Rule::Size(size.boxed_copy(alloc)?)),
             Rule::Alphabet(ranges) => Ok(Rule::Alphabet(ranges.clone()?)),
@@ -215,7 +215,7 @@ impl Rule {
     }
 }
 
-#[cycle(type_copies)]
+#[cycle(constraint_copies)]
 fn copy_of_parts(alloc: Global, parts: &[Part]) -> Result<Vec<Part>, OutOfMemory>
     ensures { IfOk result (λ copy. map part_view copy.items ≡ map part_view parts.now) }
 {
@@ -227,7 +227,7 @@ fn copy_of_parts(alloc: Global, parts: &[Part]) -> Result<Vec<Part>, OutOfMemory
 }
 
 impl Part {
-    #[cycle(type_copies)]
+    #[cycle(constraint_copies)]
     fn copy(&self, alloc: Global) -> Result<Part, OutOfMemory>
         ensures { IfOk result (λ copy. part_view copy ≡ part_view self.now) }
     {

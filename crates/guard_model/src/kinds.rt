@@ -6,10 +6,10 @@ ghost use Rattle.guard_model.specs.Kinds.{is_integer, is_string, part_of, type_o
 ghost use Rattle.guard_model.specs.TypeView.{component_view, components_of, kind_view, type_view};
 
 use crate::memory::OutOfMemory;
+use crate::named_list::NamedList;
 use crate::tag::{Class, Tag};
 use crate::ty::{Comp, Kind, Ty};
 use std::alloc::Global;
-use std::sync::ArcSlice;
 
 impl Ty {
     /// The type INTEGER, with its universal tag and no constraint. What stands inside SIZE constrains this type (X.680
@@ -24,7 +24,7 @@ impl Ty {
         })?;
         Ok(Ty {
             tags,
-            kind: Kind::Int(ArcSlice::from_vec(Vec::new(alloc))?),
+            kind: Kind::Int(NamedList::shared(alloc, Vec::new(alloc))?),
             cons: Vec::new(alloc),
         })
     }

@@ -9,6 +9,7 @@
 //! | when are two values the same | `same.rt`, `specs/Same.antt` |
 //! | when are two types the same | `same_base.rt`, `specs/SameType.antt` |
 //! | when have they the same base | `same_base.rt`, `specs/SameBase.antt` |
+//! | which number has a name in a list | `named_list.rt`, `specs/NamedLists.antt` |
 //! | what is inside a kind | `kinds.rt`, `specs/Kinds.antt`, `specs/Components.antt` |
 //! | which elements of constraints apply to a kind | `kinds.rt`, `specs/Kinds.antt` |
 //! | how is a value or type copied | `copying.rt` |
@@ -27,6 +28,7 @@ mod copying;
 mod kinds;
 mod limits;
 mod memory;
+mod named_list;
 mod same;
 mod same_base;
 mod site;
@@ -37,6 +39,7 @@ mod value;
 
 pub use limits::{DEEPEST_NESTING, GREATEST_TAG_NUMBER, MOST_COMPONENTS};
 pub use memory::OutOfMemory;
+pub use named_list::NamedList;
 pub use site::{Path, PathText, Site, Step};
 pub use slots::{absent_fields, set_field};
 pub use tag::{Class, Tag, are_same_tags};

@@ -57,12 +57,22 @@ impl Kind {
     {
         match (self, other) {
             (Kind::Bool, Kind::Bool) => true,
-            (Kind::Int(one), Kind::Int(two)) => are_same_names(one, two, whole),
-            (Kind::Bits(one), Kind::Bits(two)) => are_same_bits(one, two, whole),
+            (Kind::Int(one), Kind::Int(two)) => are_same_names(
+                one.as_slice(),
+                two.as_slice(),
+                whole,
+            ),
+            (Kind::Bits(one), Kind::Bits(two)) => are_same_bits(
+                one.as_slice(),
+                two.as_slice(),
+                whole,
+            ),
             (Kind::Octets, Kind::Octets) => true,
             (Kind::Null, Kind::Null) => true,
             (Kind::Oid, Kind::Oid) => true,
-            (Kind::Enumerated(one), Kind::Enumerated(two)) => are_same_items(one, two),
+            (Kind::Enumerated(one), Kind::Enumerated(two)) => {
+                are_same_items(one.as_slice(), two.as_slice())
+            }
             (Kind::Chars(one), Kind::Chars(two)) => one == two,
             (Kind::Sequence(one), Kind::Sequence(two)) => are_same_components(one, two, whole),
             (Kind::Set(one), Kind::Set(two)) => are_same_components(one, two, whole),

@@ -1,5 +1,6 @@
-//! Types with their tags and constraints, references followed. Names, lists of named numbers, alphabets and values are
-//! shared between a type and its copies.
+//! Types with their tags and constraints, references followed. Names, lists of named numbers, alphabets, values and
+//! contained types are shared between a type and its copies.
+use crate::named_list::NamedList;
 use crate::site::Site;
 use crate::tag::Tag;
 use crate::value::Value;
@@ -24,9 +25,9 @@ pub enum Kind {
     /// BOOLEAN.
     Bool,
     /// INTEGER with its named numbers.
-    Int(ArcSlice<Named>),
+    Int(Arc<NamedList>),
     /// BIT STRING with its named bits. Where there are some, a value has no trailing zero bit (X.680 22.7).
-    Bits(ArcSlice<Named>),
+    Bits(Arc<NamedList>),
     /// OCTET STRING.
     Octets,
     /// NULL.
@@ -34,7 +35,7 @@ pub enum Kind {
     /// OBJECT IDENTIFIER.
     Oid,
     /// ENUMERATED with its items in written order.
-    Enumerated(ArcSlice<Named>),
+    Enumerated(Arc<NamedList>),
     /// A character string of this kind.
     Chars(CharKind),
     /// SEQUENCE with its components in written order.
@@ -101,8 +102,8 @@ pub struct Cons {
 pub enum Rule {
     /// This value alone (51.2).
     One(Arc<Value>),
-    /// The values of a contained subtype (51.3).
-    Inside(Box<Ty>),
+    /// The values of a contained subtype (51.3). It is shared by all constraints that contain it.
+    Inside(Arc<Ty>),
     /// The integers between two ends (51.4). A low end above the high one leaves none.
     Range(Limit, Limit),
     /// The values whose size this constraint on INTEGER (0..MAX) allows (51.5).

@@ -189,7 +189,7 @@ fn items_known(ty: Option<&Ty>) -> &[Named]
 {
     let Some(ty) = ty else { return &[] };
     match &ty.kind {
-        Kind::Enumerated(items) => items,
+        Kind::Enumerated(items) => items.as_slice(),
         _ => &[],
     }
 }
@@ -200,7 +200,7 @@ fn bits_known(ty: Option<&Ty>) -> &[Named]
 {
     let Some(ty) = ty else { return &[] };
     match &ty.kind {
-        Kind::Bits(names) => names,
+        Kind::Bits(names) => names.as_slice(),
         _ => &[],
     }
 }

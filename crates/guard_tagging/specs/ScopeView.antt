@@ -1,7 +1,7 @@
 -- What a scope of the code says.
 use Rattle.std.specs.Prelude.{Bool, List, [], ◌∷◌, map, option_and_then, slice_get}
 use Rattle.guard_model.specs.AbstractType.{AbstractType}
-use Rattle.guard_model.specs.TypeView.{type_view}
+use Rattle.guard_model.specs.TypeView.{shared_type_view, type_view}
 use Rattle.guard_names.specs.NamesView.{modules_of, order_of}
 use Rattle.guard_names.specs.Meanings.{number_meant_from}
 use Rattle.guard_names.specs.Places.{place_in}
@@ -20,7 +20,7 @@ known_list (t ∷ types) [] = []
 known_list (t ∷ types) (b ∷ automatic) = record { ty = t; is_automatic = b } ∷ known_list types automatic
 
 abbrev pub done_view : Done → List Meaning
-done_view d = known_list (map type_view d.types.now) d.automatic.now
+done_view d = known_list (map shared_type_view d.types.now) d.automatic.now
 
 abbrev pub scope_view : Scope → Surroundings
 scope_view s = record {

@@ -20,10 +20,9 @@ use crate::names::{Placed, first_repeated, item_places, named_places};
 use crate::node::{new_type, tags_of, whole_with};
 use crate::numbering::{items, named_bits, named_numbers};
 use crate::parts::check_list;
-use guard_model::{Kind, Ty};
+use guard_model::{Kind, NamedList, Ty};
 use guard_syntax::{Collection, ItemTree, NamedTree, PlainType};
 use std::alloc::Global;
-use std::sync::ArcSlice;
 
 /// A type that is written with words alone.
 #[tactic(auto, unfolding(crate::specs::inside::ReadBases::plain_type))]
@@ -53,7 +52,7 @@ pub fn integer_type(
 {
     let places = named_places(alloc, trees)?;
     let whole = numbered_whole(alloc, node, 2, &places, before)?;
-    let numbers = ArcSlice::from_vec(named_numbers(alloc, trees)?)?;
+    let numbers = NamedList::shared(alloc, named_numbers(alloc, trees)?)?;
     Ok(new_type(alloc, whole, Kind::Int(numbers))?)
 }
 
@@ -70,7 +69,7 @@ pub fn bits_type(
 {
     let places = named_places(alloc, trees)?;
     let whole = numbered_whole(alloc, node, 3, &places, before)?;
-    let bits = ArcSlice::from_vec(named_bits(alloc, trees)?)?;
+    let bits = NamedList::shared(alloc, named_bits(alloc, trees)?)?;
     Ok(new_type(alloc, whole, Kind::Bits(bits))?)
 }
 
@@ -87,7 +86,7 @@ pub fn enumerated_type(
 {
     let places = item_places(alloc, trees)?;
     let whole = numbered_whole(alloc, node, 10, &places, before)?;
-    let numbered = ArcSlice::from_vec(items(alloc, trees)?)?;
+    let numbered = NamedList::shared(alloc, items(alloc, trees)?)?;
     Ok(new_type(alloc, whole, Kind::Enumerated(numbered))?)
 }
 

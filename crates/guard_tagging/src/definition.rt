@@ -1,7 +1,7 @@
 //! The type of a definition, from its tree and the types of the definitions before it.
 ghost use Rattle.std.specs.Prelude.{◌≡◌, ◌↔◌, true, ◌≤◌, ◌+◌, IsTrue, Some, IfOk, IfErr};
 ghost use Rattle.std.specs.Prelude.{IfSome, map, length, min, slice_get, All};
-ghost use Rattle.guard_model.specs.TypeView.{type_view};
+ghost use Rattle.guard_model.specs.TypeView.{shared_type_view, type_view};
 ghost use Rattle.guard_names.specs.Declarations.{Definition, definitions};
 ghost use Rattle.guard_names.specs.NamesView.{modules_of, order_of};
 ghost use Rattle.guard_syntax.specs.ModuleViews.{module_view};
@@ -25,6 +25,7 @@ use guard_model::Ty;
 use guard_names::{Id, Names};
 use guard_syntax::{Module, TagDefault};
 use std::alloc::{AllocError, Global};
+use std::sync::Arc;
 
 /// The type of a definition, and what a build keeps of it beside the type.
 #[derive(Drop)]
@@ -46,19 +47,19 @@ pub struct TaggedType {
 ///
 /// The error is one of the faults G1 to G12 of [`TagFault`]: parts come before the whole, in written order, and of one
 /// type's faults the first by number counts. OutOfMemory may come in place of any answer.
-pub fn skeleton(alloc: Global, names: &Names, done: &[Ty], id: Id) -> Result<Ty, TagFault>
+pub fn skeleton(alloc: Global, names: &Names, done: &[Arc<Ty>], id: Id) -> Result<Ty, TagFault>
     requires next { slice_get (order_of names.now) (length done.now) ≡ Some id }
-    requires few { nodes_of_all (map type_view done.now) ≤ faults.most_nodes }
-    requires limits { All (λ t. IsTrue (is_within_limits (type_view t))) done.now }
+    requires few { nodes_of_all (map shared_type_view done.now) ≤ faults.most_nodes }
+    requires limits { All (λ t. IsTrue (is_within_limits (shared_type_view t))) done.now }
     requires spelled { All IsSpelledModule (modules_of names.now) }
     ensures tagged { IfOk result
-        (λ ty. IsTypeOf (modules_of names.now) (order_of names.now) (map type_view done.now) id (type_view ty)) }
+        (λ ty. IsTypeOf (modules_of names.now) (order_of names.now) (map shared_type_view done.now) id (type_view ty)) }
     ensures refused { IfErr result
-        (λ f. IfSome (named f) (IsFaultOf (modules_of names.now) (order_of names.now) (map type_view done.now) id)) }
+        (λ f. IfSome (named f) (IsFaultOf (modules_of names.now) (order_of names.now) (map shared_type_view done.now) id)) }
     // So the tags can be checked, and the next definition follows.
     ensures limits { IfOk result (λ ty. IsTrue (is_within_limits (type_view ty))) }
     ensures few { IfOk result
-        (λ ty. nodes_of_all (map type_view done.now) + faults.nodes (type_view ty) ≤ faults.most_nodes) }
+        (λ ty. nodes_of_all (map shared_type_view done.now) + faults.nodes (type_view ty) ≤ faults.most_nodes) }
 {
     let automatic = automatic_lists(alloc, names, done)?;
     let before = Done {
@@ -82,16 +83,16 @@ pub fn skeleton_after(
     id: Id,
 ) -> Result<TaggedType, TagFault>
     requires next { slice_get (order_of names.now) (length done.now.types.now) ≡ Some id }
-    requires known { AreMeanings (modules_of names.now) (order_of names.now) (map type_view done.now.types.now)
+    requires known { AreMeanings (modules_of names.now) (order_of names.now) (map shared_type_view done.now.types.now)
         (done_view done.now) }
-    requires counted { done.now.nodes ≡ nodes_of_all (map type_view done.now.types.now) }
+    requires counted { done.now.nodes ≡ nodes_of_all (map shared_type_view done.now.types.now) }
     requires few { done.now.nodes ≤ faults.most_nodes }
-    requires limits { All (λ t. IsTrue (is_within_limits (type_view t))) done.now.types.now }
+    requires limits { All (λ t. IsTrue (is_within_limits (shared_type_view t))) done.now.types.now }
     requires spelled { All IsSpelledModule (modules_of names.now) }
     ensures tagged { IfOk result (λ s. IsTypeOf (modules_of names.now) (order_of names.now)
-        (map type_view done.now.types.now) id (type_view s.ty)) }
+        (map shared_type_view done.now.types.now) id (type_view s.ty)) }
     ensures refused { IfErr result (λ f. IfSome (named f)
-        (IsFaultOf (modules_of names.now) (order_of names.now) (map type_view done.now.types.now) id)) }
+        (IsFaultOf (modules_of names.now) (order_of names.now) (map shared_type_view done.now.types.now) id)) }
     ensures limits { IfOk result (λ s. IsTrue (is_within_limits (type_view s.ty))) }
     // What is kept for the next one: how many types there are with it, and whether it is a list that is tagged
     // automatically.
@@ -135,10 +136,10 @@ fn scope_in<'s, 'm, 'a, 'd>(
 
 /// Whether each of the first definitions in their order, as many as there are types, is a list that is tagged
 /// automatically.
-fn automatic_lists(alloc: Global, names: &Names, types: &[Ty]) -> Result<Vec<bool>, AllocError>
+fn automatic_lists(alloc: Global, names: &Names, types: &[Arc<Ty>]) -> Result<Vec<bool>, AllocError>
     requires { length types.now ≤ length (order_of names.now) }
-    ensures { IfOk result (λ v. AreMeanings (modules_of names.now) (order_of names.now) (map type_view types.now)
-        (known_list (map type_view types.now) v.items)) }
+    ensures { IfOk result (λ v. AreMeanings (modules_of names.now) (order_of names.now) (map shared_type_view types.now)
+        (known_list (map shared_type_view types.now) v.items)) }
 {
     let mut automatic = Vec::with_capacity(alloc, types.len())?;
     for place in 0..types.len() {
@@ -166,8 +167,8 @@ fn is_automatic_definition(names: &Names, done: Done, id: Id) -> bool
 }
 
 /// How many types these are made of; 100,001 where there are more than 100,000.
-fn nodes_of(types: &[Ty]) -> usize
-    ensures { result ≡ min (nodes_of_all (map type_view types.now)) 100001 }
+fn nodes_of(types: &[Arc<Ty>]) -> usize
+    ensures { result ≡ min (nodes_of_all (map shared_type_view types.now)) 100001 }
 {
     let mut so_far = 0;
     for ty in types {

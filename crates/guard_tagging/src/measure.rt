@@ -60,6 +60,9 @@ pub fn nodes_inside(kind: &Kind, before: usize) -> usize
 pub fn nodes(ty: &Ty, before: usize) -> usize
     ensures { result ≡ min (before + faults.nodes (type_view ty.now)) 100001 }
 {
+    if before > MOST_NODES {
+        return MOST_NODES + 1;
+    }
     let nodes = nodes_inside(&ty.kind, before) + 1;
     nodes.min(MOST_NODES + 1)
 }

@@ -4,12 +4,13 @@ ghost use Rattle.std.specs.Prelude.{◌≡◌, option_map, slice_get};
 use guard_model::Ty;
 use guard_names::{Id, Names};
 use guard_syntax::TagDefault;
+use std::sync::Arc;
 
 /// The definitions that are built: the first ones in the order of definitions.
 #[derive(Clone, Copy)]
 pub struct Done<'d> {
     /// The type of each definition, of a value its governor.
-    pub types: &'d [Ty],
+    pub types: &'d [Arc<Ty>],
     /// Whether each of these types is a list of components or alternatives that is tagged automatically.
     pub automatic: &'d [bool],
     /// How many types these are made of.
@@ -41,9 +42,12 @@ impl<'d> Done<'d> {
     fn at(&self, place: usize) -> Option<Known<'d>>
         ensures { option_map meaning_view result ≡ slice_get (done_view self.now) place }
     {
-        let ty = self.types.get(place)?;
+        let shared = self.types.get(place)?;
         let is_automatic = *self.automatic.get(place)?;
-        Some(Known { ty, is_automatic })
+        Some(Known {
+            ty: shared,
+            is_automatic,
+        })
     }
 }
 

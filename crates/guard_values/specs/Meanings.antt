@@ -1,17 +1,13 @@
 -- What lower-case names say: names of the type's own list, and visible names.
-use Rattle.std.specs.Prelude.{ℕ, ℤ, List, [], ◌∷◌, Option, Some, None, if◌then◌else◌, bytes_eq, IsTrue, IfSome}
+use Rattle.std.specs.Prelude.{ℕ, ℤ, List, Option, None, IsTrue, IfSome}
 use Rattle.guard_model.specs.AbstractType as type
-use Rattle.guard_model.specs.AbstractType.{AbstractType, AbstractKind, NamedNumber}
+use Rattle.guard_model.specs.AbstractType.{AbstractType, AbstractKind}
 use Rattle.guard_model.specs.AbstractValue as value
 use Rattle.guard_model.specs.AbstractValue.{AbstractValue}
+use Rattle.guard_model.specs.NamedLists.{number_named}
 use Rattle.guard_der.specs.Fits.{fits}
 
 -- ---- a type's own list
-
--- the number with this name
-abbrev pub number_named : List ℕ → List NamedNumber → Option ℤ
-number_named name [] = None
-number_named name (n ∷ ns) = if bytes_eq name n.name then Some n.number else number_named name ns
 
 -- A named number of an INTEGER (X.680 clause 19), or an item of an ENUMERATED (clause 20). Other kinds have none:
 -- the name of a bit is for braces alone (22.5).

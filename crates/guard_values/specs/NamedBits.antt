@@ -5,7 +5,7 @@ use Rattle.guard_model.specs.AbstractType.{NamedNumber}
 use Rattle.guard_model.specs.Limits.{greatest_bit}
 use Rattle.guard_syntax.specs.Trees as written
 use Rattle.guard_syntax.specs.Trees.{WrittenValue, value_node, WrittenEntries, no_entries, entry}
-use Rattle.guard_values.specs.Meanings.{number_named}
+use Rattle.guard_model.specs.NamedLists.{number_named}
 
 -- ---- names in braces
 

@@ -7,7 +7,7 @@ use Rattle.std.specs.Global.{Global}
 use Rattle.std.specs.declared.sync.Arc.{Arc}
 use Rattle.guard_model.specs.AbstractType.{AbstractType}
 use Rattle.guard_model.specs.AbstractValue.{AbstractValue}
-use Rattle.guard_model.specs.TypeView.{type_view}
+use Rattle.guard_model.specs.TypeView.{shared_type_view, type_view}
 use Rattle.guard_model.specs.ValueView.{value_view}
 use Rattle.guard_model.specs.declared.ty.Ty.{Ty}
 use Rattle.guard_model.specs.declared.value.Value.{Value}
@@ -48,15 +48,15 @@ encoded_view e = record { octets = e.octets.items; value = value_view e.value }
 -- ---- what is known
 
 -- a value and its type, where both are known
-abbrev pub known_pair : Option Ty → Option (Option (Arc Value Global)) → Option Governed
-known_pair (Some t) (Some (Some v)) = Some (record { ty = type_view t; value = shared_view v })
+abbrev pub known_pair : Option (Arc Ty Global) → Option (Option (Arc Value Global)) → Option Governed
+known_pair (Some t) (Some (Some v)) = Some (record { ty = shared_type_view t; value = shared_view v })
 known_pair _ _ = None
 
 abbrev pub known_at : Known → ℕ → Option Governed
 known_at known place = known_pair (slice_get known.types.items place) (slice_get known.values.items place)
 
 abbrev pub type_at : Known → ℕ → Option AbstractType
-type_at known place = option_map type_view (slice_get known.types.items place)
+type_at known place = option_map shared_type_view (slice_get known.types.items place)
 
 -- of the definition at this place in the order
 abbrev pub known_definition : Known → Option ℕ → Option Governed

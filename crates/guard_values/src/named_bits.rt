@@ -12,9 +12,8 @@ ghost use Rattle.guard_values.specs.inside.Reading.{read_named_bits, read_place}
 ghost use Rattle.guard_values.specs.Views.{named};
 
 use crate::fault::ValueFault;
-use crate::names::number_named;
 use crate::strings::bit_string;
-use guard_model::{Named, Site, Value};
+use guard_model::{Named, NamedList, Site, Value};
 use guard_syntax::{EntryTree, ValueForm};
 use std::alloc::{AllocError, Global};
 
@@ -22,12 +21,12 @@ use std::alloc::{AllocError, Global};
 /// there is no such form.
 pub fn value_of_names(
     alloc: Global,
-    names: &[Named],
+    names: &NamedList,
     site: Site,
     entries: &[EntryTree],
 ) -> Result<Value, ValueFault>
     ensures { Gives value_view named result
-        (read_named_bits site (map named_view names.now) (entries_of (map entry_view entries.now))) }
+        (read_named_bits site names.now (entries_of (map entry_view entries.now))) }
 {
     if names.is_empty() {
         return Err(ValueFault::WrongNotation(site));
@@ -38,9 +37,8 @@ pub fn value_of_names(
 }
 
 /// The bits that entries name, in written order.
-fn places(alloc: Global, names: &[Named], entries: &[EntryTree]) -> Result<Vec<u16>, ValueFault>
-    ensures { Gives (λ v. v.items) named result
-        (each (read_place (map named_view names.now)) (map entry_view entries.now)) }
+fn places(alloc: Global, names: &NamedList, entries: &[EntryTree]) -> Result<Vec<u16>, ValueFault>
+    ensures { Gives (λ v. v.items) named result (each (read_place names.now) (map entry_view entries.now)) }
 {
     let mut places = Vec::with_capacity(alloc, entries.len())?;
     for entry in entries {
@@ -51,8 +49,8 @@ fn places(alloc: Global, names: &[Named], entries: &[EntryTree]) -> Result<Vec<u
 }
 
 /// The bit that an entry names.
-fn place(names: &[Named], entry: &EntryTree) -> Result<u16, ValueFault>
-    ensures { Gives (λ n. n) named result (read_place (map named_view names.now) (entry_view entry.now)) }
+fn place(names: &NamedList, entry: &EntryTree) -> Result<u16, ValueFault>
+    ensures { Gives (λ n. n) named result (read_place names.now (entry_view entry.now)) }
 {
     let Some(name) = name_alone(entry) else {
         return Err(ValueFault::WrongNotation(entry.site));
@@ -73,10 +71,10 @@ fn name_alone<'a>(entry: &EntryTree<'a>) -> Option<&'a [u8]>
 }
 
 /// The place of the bit with this name, from 0.
-fn named_bit(name: &[u8], names: &[Named]) -> Option<u16>
-    ensures { result ≡ named_bits.named_bit (map named_view names.now) name.now }
+fn named_bit(name: &[u8], names: &NamedList) -> Option<u16>
+    ensures { result ≡ named_bits.named_bit names.now name.now }
 {
-    match number_named(name, names) {
+    match names.number_named(name) {
         Some(number) => u16::try_from(number).ok(),
         None => None,
     }

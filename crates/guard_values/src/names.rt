@@ -1,7 +1,7 @@
 //! What names say: those of a type's own list, and visible ones.
-ghost use Rattle.std.specs.Prelude.{◌≡◌, map, option_map};
+ghost use Rattle.std.specs.Prelude.{◌≡◌, option_map};
 ghost use Rattle.guard_model.specs.Answer.{Gives};
-ghost use Rattle.guard_model.specs.TypeView.{type_view, kind_view, named_view};
+ghost use Rattle.guard_model.specs.TypeView.{type_view, kind_view};
 ghost use Rattle.guard_model.specs.ValueView.{value_view};
 ghost use Rattle.guard_model.specs.Limits.{fits_128_bits};
 ghost use Rattle.guard_values.specs.Meanings as meanings;
@@ -11,7 +11,7 @@ ghost use Rattle.guard_values.specs.Views.{named, shared_view, visible_view, val
 
 use crate::fault::ValueFault;
 use crate::scope::{ModuleScope, VisibleValue};
-use guard_model::{Kind, Named, Site, Ty, Value};
+use guard_model::{Kind, Site, Ty, Value};
 use std::alloc::Global;
 use std::sync::Arc;
 
@@ -53,22 +53,10 @@ fn own_number(kind: &Kind, name: &[u8]) -> Option<i128>
     ensures { result ≡ meanings.own_number (kind_view kind.now) name.now }
 {
     match kind {
-        Kind::Int(numbers) => number_named(name, numbers),
-        Kind::Enumerated(items) => number_named(name, items),
+        Kind::Int(numbers) => numbers.number_named(name),
+        Kind::Enumerated(items) => items.number_named(name),
         _ => None,
     }
-}
-
-/// The number with this name in a list.
-pub fn number_named(name: &[u8], numbers: &[Named]) -> Option<i128>
-    ensures { result ≡ meanings.number_named name.now (map named_view numbers.now) }
-{
-    for number in numbers {
-        if name == number.name.as_bytes() {
-            return Some(number.number);
-        }
-    }
-    None
 }
 
 /// The value of a named number or item. Each number of this type is within the limits.

@@ -1,9 +1,9 @@
 //! Where something is written, and what visible names mean there.
 ghost use Rattle.std.specs.Prelude.{◌≡◌, option_map, option_and_then};
-ghost use Rattle.guard_model.specs.TypeView.{type_view};
+ghost use Rattle.guard_model.specs.TypeView.{shared_type_view};
 ghost use Rattle.guard_names.specs.NamesView.{order_of};
 ghost use Rattle.guard_names.specs.Places.{place_in};
-ghost use Rattle.guard_values.specs.Views.{visible_view, known_at, type_at, types_of, values_of};
+ghost use Rattle.guard_values.specs.Views.{visible_view, known_at, place_from, type_at, types_of, values_of};
 
 use guard_model::{Ty, Value};
 use guard_names::{Id, Names};
@@ -13,7 +13,7 @@ use std::sync::Arc;
 /// type of each, of a value its governor, and `values` beside it the value, or None for the definition of a type.
 #[derive(Drop)]
 pub struct Known {
-    pub types: Vec<Ty>,
+    pub types: Vec<Arc<Ty>>,
     pub values: Vec<Option<Arc<Value>>>,
 }
 
@@ -55,8 +55,8 @@ impl Known {
 
     /// The type that is known of the definition at this place in the order, from 0; of a value its governor. None where
     /// no definition that is built has the place.
-    fn type_at(&self, place: usize) -> Option<&Ty>
-        ensures { option_map (λ ty. type_view ty.now) result ≡ type_at self.now place }
+    pub fn type_at(&self, place: usize) -> Option<&Arc<Ty>>
+        ensures { option_map (λ ty. shared_type_view ty.now) result ≡ type_at self.now place }
     {
         self.types.get(place)
     }
@@ -76,15 +76,23 @@ impl<'s, 'm, 'a> ModuleScope<'s, 'm, 'a> {
 }
 
 impl<'s, 'm, 'a> Scope<'s, 'm, 'a> {
-    /// The type that a name means in the module of the definition (X.680 13.1); of a value its governor. None where the
-    /// name isn't visible there, and where what it means isn't built.
-    pub fn type_named(&self, name: &[u8]) -> Option<&'s Ty>
-        ensures { option_map (λ ty. type_view ty.now) result ≡ types_of self.now name.now }
+    /// The type that a name means in the module of the definition (X.680 13.1), to be shared; of a value its governor.
+    /// None where the name isn't visible there, and where what it means isn't built.
+    pub fn type_named(&self, name: &[u8]) -> Option<&'s Arc<Ty>>
+        ensures { option_map (λ ty. shared_type_view ty.now) result ≡ types_of self.now name.now }
     {
-        match place(self.names, self.names.meaning_from(self.id, name)) {
+        match self.place_named(name) {
             Some(place) => self.known.type_at(place),
             None => None,
         }
+    }
+
+    /// The place in the order, from 0, of the definition that a name means in the module of the definition. None where
+    /// the name isn't visible there.
+    pub fn place_named(&self, name: &[u8]) -> Option<usize>
+        ensures { result ≡ place_from self.now.names.now self.now.id name.now }
+    {
+        place(self.names, self.names.meaning_from(self.id, name))
     }
 }
 

@@ -78,8 +78,12 @@ pub fn text(
     ensures { Gives value_view named result (read_text site (kind_view kind.now) string spelling.now) }
 {
     match (kind, string) {
-        (Kind::Bits(names), StringKind::Bits) => bits(alloc, names, spelling),
-        (Kind::Bits(names), StringKind::Hexadecimal) => bits_of_digits(alloc, names, spelling),
+        (Kind::Bits(names), StringKind::Bits) => bits(alloc, names.as_slice(), spelling),
+        (Kind::Bits(names), StringKind::Hexadecimal) => bits_of_digits(
+            alloc,
+            names.as_slice(),
+            spelling,
+        ),
         (Kind::Octets, StringKind::Bits) => octets(alloc, spelling),
         (Kind::Octets, StringKind::Hexadecimal) => hexadecimal_octets(alloc, spelling),
         (Kind::Chars(kind), StringKind::Characters) => characters(alloc, *kind, site, spelling),

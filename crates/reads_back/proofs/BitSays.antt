@@ -10,7 +10,7 @@ use Rattle.guard_model.specs.AbstractValue as value
 use Rattle.guard_model.specs.AbstractValue.{AbstractValue}
 use Rattle.guard_model.specs.Limits.{greatest_bit}
 use Rattle.guard_der.specs.Fits.{all_below, last_octet, has_proper_end, has_zero_end, has_no_trailing_zero, ends_as_named, fits_bits}
-use Rattle.guard_values.specs.Meanings.{number_named}
+use Rattle.guard_model.specs.NamedLists.{number_named}
 use Rattle.guard_values.specs.Strings.{is_binary_digit, is_hexadecimal_digit, digit_value, binary_digits, bits_of_digits, hexadecimal_bits, packed}
 use Rattle.guard_values.specs.NamedBits.{place_of_bit, named_bit, places_named, one_more, ones_at, to_last_one, bits_kept}
 use Rattle.guard_values.specs.Simple.{bits_value}

@@ -7,8 +7,8 @@ use Rattle.std.proofs.lemmas.Option.{same_Some, none-some}
 use Rattle.guard_model.specs.AbstractType.{AbstractType, AbstractPresence, Components, NamedNumber, no_components, component}
 use Rattle.guard_model.specs.AbstractValue.{AbstractValue}
 use Rattle.guard_model.specs.Components.{component_at}
-use Rattle.guard_der.specs.Fits.{fits, is_item, fits_alternative}
-use Rattle.guard_values.specs.Meanings.{number_named}
+use Rattle.guard_der.specs.Fits.{fits, fits_alternative}
+use Rattle.guard_model.specs.NamedLists.{is_item, number_named}
 use Rattle.guard_values.specs.Places.{Located, located, further}
 use Rattle.guard_report.specs.Strings.{name_of}
 use Rattle.reads_back.specs.Names.{IsIdentifier, HaveNames, HasNames, PartsHaveNames}

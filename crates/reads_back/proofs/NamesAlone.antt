@@ -15,7 +15,7 @@ use Rattle.guard_syntax.specs.Trees.{WrittenTag}
 use Rattle.guard_tagging.specs.Tagging.{is_explicit, is_untagged_choice, tag_of, put_tag, with_tags, automatic_tag}
 use Rattle.guard_tagging.specs.Tagging.{with_automatic_tags}
 use Rattle.guard_tagging.specs.Types.{join, parts_of, tagged_where}
-use Rattle.guard_values.specs.Meanings.{number_named}
+use Rattle.guard_model.specs.NamedLists.{number_named}
 use Rattle.guard_values.specs.Places.{Located, further, located}
 use Rattle.reads_back.specs.Names.{HaveNames, HasNames, KindHasNames, PartsHaveNames}
 use Rattle.reads_back.proofs.WrittenNames.{AreIdentifiers}

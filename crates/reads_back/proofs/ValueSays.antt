@@ -14,7 +14,8 @@ use Rattle.guard_model.specs.Limits.{fits_128_bits, most_components}
 use Rattle.guard_tagcheck.specs.Distinct.{component_type}
 use Rattle.guard_tagcheck.specs.Limits.{is_tagged, are_low}
 use Rattle.guard_der.specs.Der.{der, item_encodings, joined, ◌>>=◌}
-use Rattle.guard_der.specs.Fits.{fits, fits_bits, has_proper_end, has_zero_end, ends_as_named, last_octet, all_below, fits_fields, may_be_absent, fits_items, are_few as are_few_items, every_fits, are_ascending, is_item}
+use Rattle.guard_der.specs.Fits.{fits, fits_bits, has_proper_end, has_zero_end, ends_as_named, last_octet, all_below, fits_fields, may_be_absent, fits_items, are_few as are_few_items, every_fits, are_ascending}
+use Rattle.guard_model.specs.NamedLists.{is_item}
 use Rattle.guard_der.specs.Sound.{is_proper, is_proper_kind, are_proper, are_proper_constraints}
 use Rattle.guard_syntax.specs.Trees.{WrittenValue, WrittenEntries, list}
 use Rattle.guard_values.specs.Meanings.{Meaning}

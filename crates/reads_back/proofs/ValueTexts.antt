@@ -11,7 +11,8 @@ use Rattle.guard_model.specs.TypeView.{OneComponent}
 use Rattle.guard_model.specs.Components.{component_at}
 use Rattle.guard_model.specs.Alphabets.{fits_characters}
 use Rattle.guard_model.specs.Limits.{fits_128_bits}
-use Rattle.guard_der.specs.Fits.{fits, fits_bits, has_proper_end, has_zero_end, ends_as_named, all_below, fits_fields, fits_items, are_few, every_fits, are_ascending, is_item}
+use Rattle.guard_der.specs.Fits.{fits, fits_bits, has_proper_end, has_zero_end, ends_as_named, all_below, fits_fields, fits_items, are_few, every_fits, are_ascending}
+use Rattle.guard_model.specs.NamedLists.{is_item}
 use Rattle.guard_der.specs.Der.{der, item_encodings}
 use Rattle.guard_lexer.specs.declared.token.Mark.TheVariants.{Colon, RightBrace}
 use Rattle.guard_lexer.specs.declared.token.TokenKind.TheVariants as kind

@@ -8,7 +8,7 @@ use Rattle.guard_model.specs.AbstractValue as value
 use Rattle.guard_model.specs.AbstractValue.{AbstractValue, Fields, Items}
 use Rattle.guard_lexer.specs.Spans.{IsSpelled}
 use Rattle.guard_lexer.specs.declared.token.TokenKind.TheVariants.{LowerName}
-use Rattle.guard_values.specs.Meanings.{number_named}
+use Rattle.guard_model.specs.NamedLists.{number_named}
 use Rattle.guard_values.specs.NamedBits.{place_of_bit}
 use Rattle.guard_values.specs.Places.{located}
 use Rattle.guard_report.specs.CharacterStrings.{is_hidden}

@@ -1,12 +1,6 @@
 use Rattle.std.proofs.Common.{◌≡◌, take, map}
-use Rattle.guard_model.specs.TypeView.{component_view, constraint_view, part_view}
+use Rattle.guard_model.specs.TypeView.{component_view}
 use Rattle.guard_model.proofs.+type_copies.Given as goal
 
 abbrev pub invariant-copying::copy_of_components-loop-comp : goal.invariant-copying::copy_of_components-loop-comp
 invariant-copying::copy_of_components-loop-comp l = map component_view l.copy.items ≡ map component_view (take l.comp-index l.comps)
-
-abbrev pub invariant-copying::copy_of_constraints-loop-constraint : goal.invariant-copying::copy_of_constraints-loop-constraint
-invariant-copying::copy_of_constraints-loop-constraint l = map constraint_view l.copy.items ≡ map constraint_view (take l.constraint-index l.constraints)
-
-abbrev pub invariant-copying::copy_of_parts-loop-part : goal.invariant-copying::copy_of_parts-loop-part
-invariant-copying::copy_of_parts-loop-part l = map part_view l.copy.items ≡ map part_view (take l.part-index l.parts)

@@ -1,10 +1,12 @@
 -- What is known of a definition is at its place in the order.
 use Rattle.std.proofs.Common.{◌≡◌, ℕ, zero, suc, Bool, true, List, [], ◌∷◌, map, Option, Some, None, option_map, slice_get, refl, sym, ◌∙◌, ap}
+use Rattle.std.specs.Global.{Global}
+use Rattle.std.specs.declared.sync.Arc.{Arc}
 use Rattle.std.specs.Prelude.{IfSome}
 use Rattle.std.specs.Option.{option_and_then, unwrap_or}
 use Rattle.std.proofs.lemmas.Option.{same_Some, slice_get-map}
 use Rattle.guard_model.specs.AbstractType.{AbstractType}
-use Rattle.guard_model.specs.TypeView.{type_view}
+use Rattle.guard_model.specs.TypeView.{shared_type_view}
 use Rattle.guard_model.specs.declared.ty.Ty.{Ty}
 use Rattle.guard_syntax.specs.Trees.{WrittenModule}
 use Rattle.guard_syntax.specs.declared.tree.TagDefault.{TagDefault}
@@ -77,29 +79,29 @@ both_none : (t : Option AbstractType) → both t None ≡ None
 both_none None = refl
 both_none (Some t) = refl
 
-module _ (types : List Ty) (automatic : List Bool) (place : ℕ) where
-  types_at : (t : Option Ty) → t ≡ slice_get types place
-      → slice_get (map type_view types) place ≡ option_map type_view t
-  types_at t h = slice_get-map type_view types place ∙ ap (option_map type_view) (sym h)
+module _ (types : List (Arc Ty Global)) (automatic : List Bool) (place : ℕ) where
+  types_at : (t : Option (Arc Ty Global)) → t ≡ slice_get types place
+      → slice_get (map shared_type_view types) place ≡ option_map shared_type_view t
+  types_at t h = slice_get-map shared_type_view types place ∙ ap (option_map shared_type_view) (sym h)
 
   pub no_type : (r : Option Known) → r ≡ None → None ≡ slice_get types place
-      → option_map meaning_view r ≡ slice_get (known_list (map type_view types) automatic) place
+      → option_map meaning_view r ≡ slice_get (known_list (map shared_type_view types) automatic) place
   no_type r e h =
-      ap (option_map meaning_view) e ∙ sym (known_at (map type_view types) automatic place
+      ap (option_map meaning_view) e ∙ sym (known_at (map shared_type_view types) automatic place
       ∙ ap (λ t. both t (slice_get automatic place)) (types_at None h))
 
   pub no_flag : (r : Option Known) → r ≡ None → None ≡ slice_get automatic place
-      → option_map meaning_view r ≡ slice_get (known_list (map type_view types) automatic) place
+      → option_map meaning_view r ≡ slice_get (known_list (map shared_type_view types) automatic) place
   no_flag r e h =
-      ap (option_map meaning_view) e ∙ sym (known_at (map type_view types) automatic place
-      ∙ ap (both (slice_get (map type_view types) place)) (sym h) ∙ both_none (slice_get (map type_view types) place))
+      ap (option_map meaning_view) e ∙ sym (known_at (map shared_type_view types) automatic place
+      ∙ ap (both (slice_get (map shared_type_view types) place)) (sym h) ∙ both_none (slice_get (map shared_type_view types) place))
 
-  pub type_and_flag : (t : Ty) (b : Bool) → Some t ≡ slice_get types place → Some b ≡ slice_get automatic place
-      → Some (record { ty = type_view t; is_automatic = b })
-      ≡ slice_get (known_list (map type_view types) automatic) place
+  pub type_and_flag : (t : Arc Ty Global) (b : Bool) → Some t ≡ slice_get types place → Some b ≡ slice_get automatic place
+      → Some (record { ty = shared_type_view t; is_automatic = b })
+      ≡ slice_get (known_list (map shared_type_view types) automatic) place
   type_and_flag t b h g =
-      sym (known_at (map type_view types) automatic place
-      ∙ ap (λ x. both x (slice_get automatic place)) (types_at (Some t) h) ∙ ap (both (Some (type_view t))) (sym g))
+      sym (known_at (map shared_type_view types) automatic place
+      ∙ ap (λ x. both x (slice_get automatic place)) (types_at (Some t) h) ∙ ap (both (Some (shared_type_view t))) (sym g))
 
 -- ---- what is known keeps the limits
 

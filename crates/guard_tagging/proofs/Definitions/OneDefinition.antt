@@ -1,10 +1,12 @@
 -- What the walk gives for the tree of a definition is the type of that definition.
 use Rattle.std.proofs.Common.{◌≡◌, ℕ, zero, suc, ◌+◌, ◌≤◌, true, List, [], ◌∷◌, ◌++◌, map, Option, Some, None, Ok, slice_get, sym, subst, arith}
+use Rattle.std.specs.Global.{Global}
+use Rattle.std.specs.declared.sync.Arc.{Arc}
 use Rattle.std.specs.Prelude.{IfSome, All, IsTrue}
 use Rattle.std.proofs.lemmas.Option.{same_Some}
 use Rattle.guard_model.specs.AbstractType.{AbstractType}
 use Rattle.guard_model.specs.Answer.{Refuses}
-use Rattle.guard_model.specs.TypeView.{type_view}
+use Rattle.guard_model.specs.TypeView.{shared_type_view}
 use Rattle.guard_model.specs.declared.ty.Ty.{Ty}
 use Rattle.guard_syntax.specs.Trees.{WrittenAssignment, WrittenModule}
 use Rattle.guard_names.specs.Declarations.{Definition, definitions}
@@ -42,8 +44,8 @@ all_spelled (m ∷ ms) s i d h =
 
 -- ---- types that keep the limits
 
-pub all_kept : (types : List Ty) → All (λ t. IsTrue (is_within_limits (type_view t))) types
-    → (place : ℕ) (t : AbstractType) → slice_get (map type_view types) place ≡ Some t → is_within_limits t ≡ true
+pub all_kept : (types : List (Arc Ty Global)) → All (λ t. IsTrue (is_within_limits (shared_type_view t))) types
+    → (place : ℕ) (t : AbstractType) → slice_get (map shared_type_view types) place ≡ Some t → is_within_limits t ≡ true
 all_kept [] s place t h = absurd cc
 all_kept (u ∷ types) s zero t h = subst (λ x. is_within_limits x ≡ true) (same_Some _ t h) (s zero u (omega arith))
 all_kept (u ∷ types) s (suc place) t h = all_kept types (λ k x l. s (suc k) x (omega (arith, l))) place t h

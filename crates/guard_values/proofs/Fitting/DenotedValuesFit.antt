@@ -16,7 +16,8 @@ use Rattle.guard_model.proofs.Components.{item_count_is}
 use Rattle.guard_tagcheck.specs.Distinct.{component_type}
 use Rattle.guard_der.specs.Der.{der, item_encodings}
 use Rattle.guard_der.specs.Fits as fitting
-use Rattle.guard_der.specs.Fits.{is_item, every_fits, descends, ascend_from, are_ascending, fits_items, fits_set, fits, fits_kind, fits_fields, fits_alternative, may_be_absent}
+use Rattle.guard_der.specs.Fits.{every_fits, descends, ascend_from, are_ascending, fits_items, fits_set, fits, fits_kind, fits_fields, fits_alternative, may_be_absent}
+use Rattle.guard_model.specs.NamedLists.{is_item, number_named}
 use Rattle.guard_model.specs.Alphabets.{fits_characters}
 use Rattle.guard_model.specs.Limits.{fits_128_bits}
 use Rattle.guard_der.specs.ProperConstraints.{is_short}
@@ -28,7 +29,7 @@ use Rattle.guard_syntax.specs.Trees as written
 use Rattle.guard_syntax.specs.Trees.{WrittenNumber, WrittenArc, WrittenValue, WrittenValueForm, WrittenEntries, value_node, no_entries, entry}
 use Rattle.guard_syntax.specs.Numbers.{number_of}
 use Rattle.guard_values.specs.Strings.{binary_digits, hexadecimal_bits, quoted}
-use Rattle.guard_values.specs.Meanings.{Governed, Meaning, AreFitting, number_named, own_number}
+use Rattle.guard_values.specs.Meanings.{Governed, Meaning, AreFitting, own_number}
 use Rattle.guard_model.specs.Kinds.{kind_of}
 use Rattle.guard_values.specs.Simple.{boolean_value, null_value, integer_value, text_value, characters_value, arcs_value, numbered_value, visible_value, named_value}
 use Rattle.guard_values.specs.Places.{entry_places, is_among, FieldDenotes, FieldsDenote}

@@ -1,6 +1,6 @@
 use Rattle.std.proofs.Common.{◌≡◌, ◌≤◌, All, length, map}
 use Rattle.std.specs.Prelude.{IsTrue}
-use Rattle.guard_model.specs.TypeView.{type_view}
+use Rattle.guard_model.specs.TypeView.{shared_type_view}
 use Rattle.guard_names.specs.NamesView.{modules_of, order_of}
 use Rattle.guard_tagcheck.specs.Limits.{is_within_limits}
 use Rattle.guard_tagging.specs.Faults.{most_nodes}
@@ -13,8 +13,8 @@ abbrev pub invariant-loop-id : goal.invariant-loop-id
 invariant-loop-id l = record {
   built : length l.types.items ≡ l.id-index;
   flagged : length l.automatic.items ≡ l.id-index;
-  known : AreMeanings (modules_of l.names) (order_of l.names) (map type_view l.types.items) (known_list (map type_view l.types.items) l.automatic.items);
-  counted : l.nodes ≡ nodes_of_all (map type_view l.types.items);
+  known : AreMeanings (modules_of l.names) (order_of l.names) (map shared_type_view l.types.items) (known_list (map shared_type_view l.types.items) l.automatic.items);
+  counted : l.nodes ≡ nodes_of_all (map shared_type_view l.types.items);
   few : l.nodes ≤ most_nodes;
-  limits : All (λ t. IsTrue (is_within_limits (type_view t))) l.types.items;
+  limits : All (λ t. IsTrue (is_within_limits (shared_type_view t))) l.types.items;
 }

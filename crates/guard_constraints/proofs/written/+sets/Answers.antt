@@ -20,9 +20,9 @@ use Rattle.guard_constraints.proofs.written.+sets.Goals as goal
 
 -- ---- unions
 
-pub set-returns-in_err-others-in-Union : goal.set-returns-in_err-others-in-Union
+pub set-returns-in_err-others-in-Union-clause-given : goal.set-returns-in_err-others-in-Union-clause-given
 unfolding read
-set-returns-in_err-others-in-Union t c =
+set-returns-in_err-others-in-Union-clause-given t c =
     let names = visible_in c.args.scope in
     let ty = type_view c.args.ty.now in
     let site = (out-SetTree c.args.tree.now).site in
@@ -30,14 +30,14 @@ set-returns-in_err-others-in-Union t c =
     let others = map views.joined_intersection_view c.in-Union.others.items in
     let one = constraint_view c.in_ok-first-in-Union.first in
     let e : read_set names ty (views.set_view c.args.tree.now) ≡ read_set_form names ty site (written.union first (united_of others)) = search (rules, tree_lemmas) in
-    let steps = union_steps names ty site first others one (rw c.deref.ensures at c.in_ok-first-in-Union.ensures) in
+    let steps = union_steps names ty site first others one (rw c.deref.ensures at c.in_ok-first-in-Union.ensures.given) in
     let p = err_from_is_err_and c.from_residual-in_err-others-in-Union.result c.from_residual-in_err-others-in-Union.ensures.1 in
     rw (p.1, p.2, e, steps) (joined_refused join.Union site one (named c.in_err-others-in-Union.field-0.0) (joined_intersections names ty others)
-    (rw c.deref-in-Union.ensures.value at c.in_err-others-in-Union.ensures))
+    (rw c.deref-in-Union.ensures.value at c.in_err-others-in-Union.ensures.given))
 
-pub set-returns-in_ok-joined-in-Union : goal.set-returns-in_ok-joined-in-Union
+pub set-returns-in_ok-joined-in-Union-clause-given : goal.set-returns-in_ok-joined-in-Union-clause-given
 unfolding read
-set-returns-in_ok-joined-in-Union t c =
+set-returns-in_ok-joined-in-Union-clause-given t c =
     let names = visible_in c.args.scope in
     let ty = type_view c.args.ty.now in
     let site = (out-SetTree c.args.tree.now).site in
@@ -45,84 +45,92 @@ set-returns-in_ok-joined-in-Union t c =
     let others = map views.joined_intersection_view c.in-Union.others.items in
     let one = constraint_view c.in_ok-first-in-Union.first in
     let e : read_set names ty (views.set_view c.args.tree.now) ≡ read_set_form names ty site (written.union first (united_of others)) = search (rules, tree_lemmas) in
-    let steps = union_steps names ty site first others one (rw c.deref.ensures at c.in_ok-first-in-Union.ensures) in
+    let steps = union_steps names ty site first others one (rw c.deref.ensures at c.in_ok-first-in-Union.ensures.given) in
     rw (e, steps) (joined_made join.Union site one (joined_intersections names ty others) (map constraint_view c.in_ok-others-in-Union.others.items)
-    (rw c.deref-in-Union.ensures.value at c.in_ok-others-in-Union.ensures) ∙ ap Ok (sym c.in_ok-joined-in-Union.ensures))
+    (rw c.deref-in-Union.ensures.value at c.in_ok-others-in-Union.ensures.given) ∙ ap Ok (sym c.in_ok-joined-in-Union.ensures))
 
 pub united-loop-other-preserved : goal.united-loop-other-preserved
 united-loop-other-preserved t c =
     let step = λ (j : WrittenJoinedIntersection). read_intersection (visible_in c.args.scope) (type_view c.args.ty.now) j.joined in
     let total = joined_intersections (visible_in c.args.scope) (type_view c.args.ty.now) (map views.joined_intersection_view c.args.others.now) in
-    pushes step views.joined_intersection_view constraint_view c.loop-other.all.items c.args.others.now c.loop-other.other-index total c.loop-other.invariant
-    c.other-item.result c.loop-other-test.true c.other-item.is c.in_ok-intersection.field-0 _ c.in_ok-push.ensures.items
-    (rw (joined_intersection_is c.other-item.result) c.in_ok-intersection.ensures)
+    record {
+      so_far =
+          pushes step views.joined_intersection_view constraint_view c.loop-other.all.items c.args.others.now c.loop-other.other-index total c.loop-other.invariant.so_far
+          c.other-item.result c.loop-other-test.true c.other-item.is c.in_ok-intersection.field-0 _ c.in_ok-push.ensures.items
+          (rw (joined_intersection_is c.other-item.result) c.in_ok-intersection.ensures.given);
+      agreed = c.in_ok-intersection.ensures.agreed;
+    }
 
-pub united-returns-in_err-intersection : goal.united-returns-in_err-intersection
-united-returns-in_err-intersection t c =
+pub united-returns-in_err-intersection-clause-given : goal.united-returns-in_err-intersection-clause-given
+united-returns-in_err-intersection-clause-given t c =
     let step = λ (j : WrittenJoinedIntersection). read_intersection (visible_in c.args.scope) (type_view c.args.ty.now) j.joined in
     let total = joined_intersections (visible_in c.args.scope) (type_view c.args.ty.now) (map views.joined_intersection_view c.args.others.now) in
     let p = err_from_is_err_and c.from_residual.result c.from_residual.ensures.1 in
-    rw (p.1, p.2) (stops_at step views.joined_intersection_view (map constraint_view c.loop-other.all.items) c.args.others.now c.loop-other.other-index total c.loop-other.invariant
+    rw (p.1, p.2) (stops_at step views.joined_intersection_view (map constraint_view c.loop-other.all.items) c.args.others.now c.loop-other.other-index total c.loop-other.invariant.so_far
     c.other-item.result c.other-item.result c.loop-other-test.true c.other-item.is (named c.in_err-intersection.field-0.0)
-    (rw (joined_intersection_is c.other-item.result) c.in_err-intersection.ensures))
+    (rw (joined_intersection_is c.other-item.result) c.in_err-intersection.ensures.given))
 
-pub united-returns : goal.united-returns
-united-returns t c =
+pub united-returns-clause-given : goal.united-returns-clause-given
+united-returns-clause-given t c =
     let step = λ (j : WrittenJoinedIntersection). read_intersection (visible_in c.args.scope) (type_view c.args.ty.now) j.joined in
     let total = joined_intersections (visible_in c.args.scope) (type_view c.args.ty.now) (map views.joined_intersection_view c.args.others.now) in
-    ends_there step views.joined_intersection_view (map constraint_view c.loop-other.all.items) c.args.others.now c.loop-other.other-index total c.loop-other.invariant c.loop-other-test.false
+    ends_there step views.joined_intersection_view (map constraint_view c.loop-other.all.items) c.args.others.now c.loop-other.other-index total c.loop-other.invariant.so_far c.loop-other-test.false
 
 -- ---- intersections
 
-pub intersection-returns-in_err-others : goal.intersection-returns-in_err-others
-intersection-returns-in_err-others t c =
+pub intersection-returns-in_err-others-clause-given : goal.intersection-returns-in_err-others-clause-given
+intersection-returns-in_err-others-clause-given t c =
     let names = visible_in c.args.scope in
     let ty = type_view c.args.ty.now in
     let i = out-IntersectionTree c.args.tree.now in
     let site = (out-ElementTree (out-DifferenceTree i.first).element).site in
     let others = map views.joined_difference_view i.others.items in
     let one = constraint_view c.in_ok-first.first in
-    let steps = intersection_steps names ty site (views.difference_view i.first) others one c.in_ok-first.ensures in
+    let steps = intersection_steps names ty site (views.difference_view i.first) others one c.in_ok-first.ensures.given in
     let p = err_from_is_err_and c.from_residual-in_err-others.result c.from_residual-in_err-others.ensures.1 in
     rw (p.1, p.2, intersection_view_is c.args.tree.now, difference_site_is i.first, steps)
     (joined_refused join.Intersection site one (named c.in_err-others.field-0.0) (joined_differences names ty others)
-    (rw c.deref.ensures.value at c.in_err-others.ensures))
+    (rw c.deref.ensures.value at c.in_err-others.ensures.given))
 
-pub intersection-returns : goal.intersection-returns
-intersection-returns t c =
+pub intersection-returns-clause-given : goal.intersection-returns-clause-given
+intersection-returns-clause-given t c =
     let names = visible_in c.args.scope in
     let ty = type_view c.args.ty.now in
     let i = out-IntersectionTree c.args.tree.now in
     let site = (out-ElementTree (out-DifferenceTree i.first).element).site in
     let others = map views.joined_difference_view i.others.items in
     let one = constraint_view c.in_ok-first.first in
-    let steps = intersection_steps names ty site (views.difference_view i.first) others one c.in_ok-first.ensures in
+    let steps = intersection_steps names ty site (views.difference_view i.first) others one c.in_ok-first.ensures.given in
     rw (intersection_view_is c.args.tree.now, difference_site_is i.first, steps)
     (joined_made join.Intersection site one (joined_differences names ty others) (map constraint_view c.in_ok-others.others.items)
-    (rw c.deref.ensures.value at c.in_ok-others.ensures) ∙ ap Ok (sym c.in_ok-joined.ensures))
+    (rw c.deref.ensures.value at c.in_ok-others.ensures.given) ∙ ap Ok (sym c.in_ok-joined.ensures))
 
 pub met-loop-other-preserved : goal.met-loop-other-preserved
 met-loop-other-preserved t c =
     let step = λ (j : WrittenJoinedDifference). read_difference (visible_in c.args.scope) (type_view c.args.ty.now) j.joined in
     let total = joined_differences (visible_in c.args.scope) (type_view c.args.ty.now) (map views.joined_difference_view c.args.others.now) in
-    pushes step views.joined_difference_view constraint_view c.loop-other.all.items c.args.others.now c.loop-other.other-index total c.loop-other.invariant
-    c.other-item.result c.loop-other-test.true c.other-item.is c.in_ok-difference.field-0 _ c.in_ok-push.ensures.items
-    (rw (joined_difference_is c.other-item.result) c.in_ok-difference.ensures)
+    record {
+      so_far =
+          pushes step views.joined_difference_view constraint_view c.loop-other.all.items c.args.others.now c.loop-other.other-index total c.loop-other.invariant.so_far
+          c.other-item.result c.loop-other-test.true c.other-item.is c.in_ok-difference.field-0 _ c.in_ok-push.ensures.items
+          (rw (joined_difference_is c.other-item.result) c.in_ok-difference.ensures.given);
+      agreed = c.in_ok-difference.ensures.agreed;
+    }
 
-pub met-returns-in_err-difference : goal.met-returns-in_err-difference
-met-returns-in_err-difference t c =
+pub met-returns-in_err-difference-clause-given : goal.met-returns-in_err-difference-clause-given
+met-returns-in_err-difference-clause-given t c =
     let step = λ (j : WrittenJoinedDifference). read_difference (visible_in c.args.scope) (type_view c.args.ty.now) j.joined in
     let total = joined_differences (visible_in c.args.scope) (type_view c.args.ty.now) (map views.joined_difference_view c.args.others.now) in
     let p = err_from_is_err_and c.from_residual.result c.from_residual.ensures.1 in
-    rw (p.1, p.2) (stops_at step views.joined_difference_view (map constraint_view c.loop-other.all.items) c.args.others.now c.loop-other.other-index total c.loop-other.invariant
+    rw (p.1, p.2) (stops_at step views.joined_difference_view (map constraint_view c.loop-other.all.items) c.args.others.now c.loop-other.other-index total c.loop-other.invariant.so_far
     c.other-item.result c.other-item.result c.loop-other-test.true c.other-item.is (named c.in_err-difference.field-0.0)
-    (rw (joined_difference_is c.other-item.result) c.in_err-difference.ensures))
+    (rw (joined_difference_is c.other-item.result) c.in_err-difference.ensures.given))
 
-pub met-returns : goal.met-returns
-met-returns t c =
+pub met-returns-clause-given : goal.met-returns-clause-given
+met-returns-clause-given t c =
     let step = λ (j : WrittenJoinedDifference). read_difference (visible_in c.args.scope) (type_view c.args.ty.now) j.joined in
     let total = joined_differences (visible_in c.args.scope) (type_view c.args.ty.now) (map views.joined_difference_view c.args.others.now) in
-    ends_there step views.joined_difference_view (map constraint_view c.loop-other.all.items) c.args.others.now c.loop-other.other-index total c.loop-other.invariant c.loop-other-test.false
+    ends_there step views.joined_difference_view (map constraint_view c.loop-other.all.items) c.args.others.now c.loop-other.other-index total c.loop-other.invariant.so_far c.loop-other-test.false
 
 -- ---- WITH COMPONENTS
 

@@ -1,7 +1,7 @@
 use Rattle.std.proofs.Common.{◌≡◌, ◌+◌, ◌<◌, ◌≤◌, [], ◌∷◌, length, map, get_or, slice_get, ap, ◌∙◌, arith}
 use Rattle.std.specs.Prelude.{Bool, List, ℕ}
 use Rattle.std.proofs.lemmas.List.{length-map, length-append}
-use Rattle.guard_model.specs.TypeView.{type_view}
+use Rattle.guard_model.specs.TypeView.{shared_type_view}
 use Rattle.guard_names.specs.Declarations.{definitions}
 use Rattle.guard_names.specs.Faults.{fault_of_names}
 use Rattle.guard_names.specs.NamesView.{modules_of, order_of}
@@ -16,18 +16,18 @@ loop-place-init c = record {
   counted = ap length c.in_ok-automatic.ensures.items;
   known =
       none_flagged (modules_of c.args.names.now) (order_of c.args.names.now)
-      (map type_view c.args.types.now) c.in_ok-automatic.automatic.items c.in_ok-automatic.ensures.items;
+      (map shared_type_view c.args.types.now) c.in_ok-automatic.automatic.items c.in_ok-automatic.ensures.items;
 }
 
 pub loop-place-preserved : goal.loop-place-preserved
 loop-place-preserved c =
     let ms = modules_of c.args.names.now in
     let order = order_of c.args.names.now in
-    let types = map type_view c.args.types.now in
+    let types = map shared_type_view c.args.types.now in
     let flags = c.loop-place.automatic.items in
     let place = c.loop-place.place in
     let flag = c.is_automatic_definition-is_automatic.result in
-    let many : length types ≡ length c.args.types.now = length-map c.args.types.now type_view in
+    let many : length types ≡ length c.args.types.now = length-map c.args.types.now shared_type_view in
     let below : place < length c.args.types.now = c.loop-place-test.true in
     let listed : length c.args.types.now ≤ length order = c.requires in
     let appended : length c.push.new.self.items ≡ length flags + 1 =
@@ -48,8 +48,8 @@ loop-place-preserved c =
 
 pub returns : goal.returns
 returns c =
-    let types = map type_view c.args.types.now in
-    let many : length types ≡ length c.args.types.now = length-map c.args.types.now type_view in
+    let types = map shared_type_view c.args.types.now in
+    let many : length types ≡ length c.args.types.now = length-map c.args.types.now shared_type_view in
     let past : length c.args.types.now ≤ c.loop-place.place = c.loop-place-test.false in
     all_flagged (modules_of c.args.names.now)
     (order_of c.args.names.now) types c.loop-place.automatic.items c.loop-place.place

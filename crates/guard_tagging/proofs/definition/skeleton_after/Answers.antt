@@ -3,7 +3,7 @@ use Rattle.std.proofs.lemmas.List.{length-map}
 use Rattle.std.proofs.lemmas.Result.{err_from_is_err_and}
 use Rattle.guard_model.specs.AbstractType.{AbstractType}
 use Rattle.guard_model.specs.Answer.{Refuses}
-use Rattle.guard_model.specs.TypeView.{type_view}
+use Rattle.guard_model.specs.TypeView.{shared_type_view, type_view}
 use Rattle.guard_syntax.specs.ModuleViews.{module_view, assignment_view}
 use Rattle.guard_syntax.specs.Trees.{WrittenModule}
 use Rattle.guard_syntax.specs.TypeViews as written
@@ -55,7 +55,7 @@ module _ (c : After-deref) where
   order = order_of c.args.names.now
 
   abbrev types : List AbstractType
-  types = map type_view c.args.done.now.types.now
+  types = map shared_type_view c.args.done.now.types.now
 
   abbrev before : ℕ
   before = c.args.done.now.nodes
@@ -92,7 +92,7 @@ module _ (c : After-deref) where
 
   next : slice_get order (length types) ≡ Some c.args.id
   next =
-      let many : length types ≡ length c.args.done.now.types.now = length-map c.args.done.now.types.now type_view in
+      let many : length types ≡ length c.args.done.now.types.now = length-map c.args.done.now.types.now shared_type_view in
       ap (slice_get order) many ∙ c.requires.next
 
   no_fault : fault_of_names ms ≡ None

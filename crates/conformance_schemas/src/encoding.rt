@@ -1,5 +1,5 @@
-//! `encode`: the encoding of a value of the type that is set. `decode` then answers the value again, `header` ends with
-//! the octets, and the octets without the last one or more end too early.
+//! `encode`: the encoding of a value of the type that is set. `encoded_length` then counts its octets, `decode` answers
+//! the value again, `header` ends with the octets, and the octets without the last one or more end too early.
 ghost use Rattle.std.specs.Prelude.{IsTrue};
 ghost use Rattle.guard_model.specs.TypeView.{type_view};
 ghost use Rattle.guard_model.specs.ValueView.{value_view};
@@ -10,7 +10,7 @@ use crate::digits::digits_of;
 use crate::typed::TypeRow;
 use conformance_rows::{Layer, not_read, text_of, unknown};
 use conformance_texts::value_of;
-use guard_der::{Code, DecodeFault, EncodeFault, decode, encode, header};
+use guard_der::{Code, DecodeFault, EncodeFault, decode, encode, encoded_length, header};
 use guard_model::{Ty, Value};
 use std::alloc::{AllocError, Global};
 
@@ -24,14 +24,25 @@ fn encoded(alloc: Global, ty: &Ty, value: &Value) -> Result<String, AllocError>
     requires sound { IsTrue (is_sound (type_view ty.now)) }
     requires fits { IsTrue (fits (type_view ty.now) (value_view value.now)) }
 {
+    let counted = encoded_length(ty, value);
     match encode(alloc, ty, value) {
         Ok(octets) => {
             let mut text = digits_of(alloc, &octets)?;
+            text.push_str(miscounted(counted, octets.len()))?;
             text.push_str(doubt(alloc, ty, value, &octets)?)?;
             Ok(text)
         }
         Err(EncodeFault::OutOfMemory) => Err(AllocError),
         Err(fault) => format!(in alloc; "{fault}"),
+    }
+}
+
+/// What is said where `encoded_length` counts another number of octets.
+fn miscounted(counted: Option<usize>, octets: usize) -> &'static str {
+    if counted == Some(octets) {
+        ""
+    } else {
+        ", of which encoded_length counts another number"
     }
 }
 

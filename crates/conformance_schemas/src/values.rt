@@ -162,7 +162,7 @@ fn keep(
     let Ok(ty) = ty.copy(alloc) else {
         return Err(AllocError);
     };
-    known.types.push(ty)?;
+    known.types.push(Arc::new(alloc, ty)?)?;
     known.values.push(Some(value))?;
     Ok(None)
 }

@@ -8,6 +8,7 @@ pub mod SoundTypes
 pub mod Arcs
 pub mod PartsInOrder
 pub mod Encoding
+pub mod Lengths
 pub mod Decoding
 pub mod ComponentLoop
 pub mod ElementLoop

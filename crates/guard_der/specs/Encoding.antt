@@ -27,3 +27,14 @@ limited (Some os) = if nat_le (length os) longest_encoding then Ok os else Err T
 -- The encoding where there is one of at most 1,048,576 octets, else TooLong.
 abbrev pub encoding_of : AbstractType → AbstractValue → Result (List ℕ) EncodeFault
 encoding_of t v = limited (der t v)
+
+-- ---- how many octets they are
+
+-- the number, where an encoding may have so many octets
+abbrev pub short : ℕ → Option ℕ
+short n = if nat_le n longest_encoding then Some n else None
+
+-- how many octets the encoding has, where there is one of at most 1,048,576
+abbrev pub short_length : Option (List ℕ) → Option ℕ
+short_length None = None
+short_length (Some os) = short (length os)

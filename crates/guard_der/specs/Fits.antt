@@ -1,22 +1,18 @@
 -- The abstract values of a type, constraints aside.
 use Rattle.std.specs.Prelude.{ℕ, zero, suc, ◌+◌, ◌*◌, ◌/◌, ◌%◌, ◌^◌, ℤ, Bool, true, false, not, ◌&&◌, ◌||◌, List, [], ◌∷◌, length, nat_lt, nat_le, nat_eq, Option, Some, None}
-use Rattle.std.specs.Ordering.{int_eq}
 use Rattle.guard_model.specs.AbstractType as type
 use Rattle.guard_model.specs.AbstractType.{AbstractType, AbstractKind, AbstractPresence, Components, NamedNumber, type_of, no_components, component}
 use Rattle.guard_model.specs.AbstractValue as value
 use Rattle.guard_model.specs.AbstractValue.{AbstractValue, Fields, Items}
 use Rattle.guard_model.specs.Alphabets.{fits_characters}
 use Rattle.guard_model.specs.Limits.{fits_128_bits}
+use Rattle.guard_model.specs.NamedLists.{is_item}
 use Rattle.guard_der.specs.Der.{der, item_encodings}
 use Rattle.guard_model.specs.Counts.{item_count}
 
 abbrev pub all_below : ℕ → List ℕ → Bool
 all_below limit [] = true
 all_below limit (n ∷ ns) = nat_lt n limit && all_below limit ns
-
-abbrev pub is_item : ℤ → List NamedNumber → Bool
-is_item z [] = false
-is_item z (n ∷ ns) = int_eq z n.number || is_item z ns
 
 abbrev pub last_octet : List ℕ → ℕ
 last_octet [] = 0

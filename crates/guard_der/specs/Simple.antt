@@ -10,7 +10,8 @@ use Rattle.guard_model.specs.AbstractValue.{AbstractValue}
 use Rattle.guard_der.specs.declared.breach.Code.{Code}
 use Rattle.guard_der.specs.declared.breach.Code.TheVariants as code
 use Rattle.guard_der.specs.Octets.{twos_complement}
-use Rattle.guard_der.specs.Fits.{all_below, is_item, has_proper_end, has_zero_end, ends_as_named}
+use Rattle.guard_der.specs.Fits.{all_below, has_proper_end, has_zero_end, ends_as_named}
+use Rattle.guard_model.specs.NamedLists.{is_item}
 use Rattle.guard_model.specs.Alphabets.{all_characters}
 
 -- A BOOLEAN is 00 or FF (X.690 8.2, 11.1).

@@ -2,4 +2,5 @@
 pub mod Digits
 pub mod EncodingSteps
 pub mod Faults
+pub mod Lengths
 pub mod SoundParts

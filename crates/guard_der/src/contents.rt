@@ -15,10 +15,9 @@ use crate::bits::{ends_as_named, has_proper_end, has_zero_end};
 use crate::breach::Code;
 use crate::characters::text_of;
 use crate::faults::{Fault, fault_at};
-use crate::fitting::simple::is_item;
 use crate::integers::{fault_of_integer, twos_complement};
 use crate::object_id::object_identifier;
-use guard_model::{Bits, CharKind, Kind, Named, Path, Value};
+use guard_model::{Bits, CharKind, Kind, Named, NamedList, Path, Value};
 use std::alloc::Global;
 use std::sync::{ArcSlice, ArcStr};
 
@@ -37,7 +36,7 @@ pub fn value_of_simple(
     match kind {
         Kind::Bool => boolean(path, at, octets),
         Kind::Int(_) => integer(path, at, octets),
-        Kind::Bits(names) => bit_string(alloc, path, names, at, octets),
+        Kind::Bits(names) => bit_string(alloc, path, names.as_slice(), at, octets),
         Kind::Octets => Ok(Value::Octets(ArcSlice::from_slice(alloc, octets)?)),
         Kind::Null => null(path, at, octets),
         Kind::Oid => object_identifier(alloc, path, at, octets),
@@ -128,15 +127,15 @@ fn integer(path: &mut Path, at: usize, octets: &[u8]) -> Result<Value, Fault>
 }
 
 /// The value of an ENUMERATED: an INTEGER that is the number of an item (X.690 8.4).
-fn enumerated(path: &mut Path, items: &[Named], at: usize, octets: &[u8]) -> Result<Value, Fault>
-    ensures { Gives value_view (fault_of path.new.items) result (unless_fault at
-        (enumerated_fault (map named_view items.now) octets.now) (abstract.enumerated (twos_read octets.now))) }
+fn enumerated(path: &mut Path, items: &NamedList, at: usize, octets: &[u8]) -> Result<Value, Fault>
+    ensures { Gives value_view (fault_of path.new.items) result
+        (unless_fault at (enumerated_fault items.now octets.now) (abstract.enumerated (twos_read octets.now))) }
 {
     match fault_of_integer(octets) {
         Some(code) => Err(fault_at(path, code, at)),
         None => {
             let number = twos_complement(octets);
-            if is_item(number, items) {
+            if items.has_number(number) {
                 Ok(Value::Enumerated(number))
             } else {
                 Err(fault_at(path, Code::UnknownEnumeration, at))

@@ -10,7 +10,7 @@ pub(crate) mod ascending;
 pub(crate) mod simple;
 
 use crate::fitting::ascending::are_ascending;
-use crate::fitting::simple::{arcs_fit, are_octets, bits_fit, is_in_range, is_item};
+use crate::fitting::simple::{arcs_fit, are_octets, bits_fit, is_in_range};
 use guard_model::{Comp, Kind, OutOfMemory, Presence, Ty, Value};
 use std::alloc::Global;
 
@@ -35,12 +35,12 @@ fn kind_fits(alloc: Global, kind: &Kind, value: &Value) -> Result<bool, OutOfMem
     match (kind, value) {
         (Kind::Bool, Value::Bool(_)) => Ok(true),
         (Kind::Int(_), Value::Int(number)) => Ok(is_in_range(*number)),
-        (Kind::Bits(names), Value::Bits(bits)) => Ok(bits_fit(names, bits)),
+        (Kind::Bits(names), Value::Bits(bits)) => Ok(bits_fit(names.as_slice(), bits)),
         (Kind::Octets, Value::Octets(octets)) => Ok(are_octets(octets)),
         (Kind::Null, Value::Null) => Ok(true),
         (Kind::Oid, Value::Oid(arcs)) => Ok(arcs_fit(arcs)),
         (Kind::Enumerated(items), Value::Enumerated(number)) => {
-            Ok(is_in_range(*number) && is_item(*number, items))
+            Ok(is_in_range(*number) && items.has_number(*number))
         }
         (Kind::Chars(kind), Value::Chars(text)) => Ok(kind.has_all(text)),
         (Kind::Sequence(comps), Value::Fields(fields)) => fields_fit(alloc, comps, fields),

@@ -4,6 +4,7 @@
 //! | question | code | definition |
 //! |---|---|---|
 //! | What is the encoding of a value? | `encoding.rt` (`encode`), folder | `specs/Der.antt`, `specs/Encoding.antt` |
+//! | How many octets has it? | `lengths.rt` (`encoded_length`) | `specs/Encoding.antt` (`short_length`) |
 //! | Which kinds have constructed encodings? | `forms.rt` (`is_constructed`) | `specs/Der.antt` |
 //! | What are its octets? | `encoding/element.rt`, `encoding/simple.rt` | `specs/Element.antt`, `specs/Contents.antt` |
 //! | Which values does a type have, constraints aside? | `fitting.rt` (`fits`) | `specs/Fits.antt` |
@@ -32,6 +33,7 @@ mod forms;
 mod head;
 pub mod integers;
 pub mod laws;
+mod lengths;
 pub mod named_types;
 mod object_id;
 pub mod order;
@@ -46,6 +48,7 @@ pub use encoding::{EncodeFault, encode, encode_contents, encode_tagged, outermos
 pub use fitting::fits;
 pub use forms::is_constructed;
 pub use head::{class_of, header};
+pub use lengths::{encoded_length, is_too_long};
 pub use presence::is_left_out;
 pub use sound_types::sound;
 pub use tags::follows;

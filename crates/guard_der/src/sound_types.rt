@@ -18,8 +18,8 @@ ghost use Rattle.guard_der.specs.inside.SoundParts.{is_proper_part, is_proper_wi
 
 mod forms;
 
-use crate::encoding::{EncodeFault, encode};
 use crate::fitting::fits;
+use crate::lengths::encoded_length;
 use crate::sound_types::forms::{has_proper_tags, takes_size};
 use guard_model::{
     Comp, Cons, Kind, MOST_COMPONENTS, OutOfMemory, Part, Presence, Rule, Ty, Value,
@@ -263,17 +263,13 @@ fn may_stand_in(alloc: Global, ty: &Ty, value: &Value) -> Result<bool, OutOfMemo
     if !fits(alloc, ty, value)? {
         return Ok(false);
     }
-    is_short(alloc, ty, value)
+    Ok(is_short(ty, value))
 }
 
 /// Whether the value's encoding has at most 1,048,576 octets.
-fn is_short(alloc: Global, ty: &Ty, value: &Value) -> Result<bool, OutOfMemory>
+fn is_short(ty: &Ty, value: &Value) -> bool
     requires { IsTrue (fits (type_view ty.now) (value_view value.now)) }
-    ensures { IfOk result (λ b. b ≡ is_short (der (type_view ty.now) (value_view value.now))) }
+    ensures { result ≡ is_short (der (type_view ty.now) (value_view value.now)) }
 {
-    match encode(alloc, ty, value) {
-        Ok(_octets) => Ok(true),
-        Err(EncodeFault::TooLong) => Ok(false),
-        Err(EncodeFault::OutOfMemory) => Err(OutOfMemory),
-    }
+    encoded_length(ty, value).is_some()
 }

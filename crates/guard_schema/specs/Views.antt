@@ -1,6 +1,7 @@
 -- What the values of the code mean.
 use Rattle.std.specs.Prelude.{ℕ, List, map, string_bytes, Option, Some, None, option_map, option_and_then, slice_get}
-use Rattle.guard_model.specs.TypeView.{type_view, component_view}
+use Rattle.std.specs.Arc.{arc_value}
+use Rattle.guard_model.specs.TypeView.{component_view, shared_type_view}
 use Rattle.std.specs.Global.{Global}
 use Rattle.std.specs.declared.sync.Arc.{Arc}
 use Rattle.guard_model.specs.declared.value.Value.{Value}
@@ -25,7 +26,7 @@ use Rattle.guard_schema.specs.Schemas.{AbstractSchema}
 -- ---- what is built
 
 abbrev pub definition_view : code_definition.Definition → Built
-definition_view d = built_view d.ty d.value
+definition_view d = built_view (arc_value d.ty) d.value
 
 abbrev pub built_in : Progress → List Built
 built_in p = paired p.known.types.items p.known.values.items
@@ -63,7 +64,7 @@ type_place order values number = unvalued_at values (places.place_in order numbe
 abbrev pub schema_view : Schema → AbstractSchema
 schema_view s = record {
   modules = map string_bytes s.modules.items;
-  types = λ home name. option_map type_view (option_and_then (slice_get s.known.types.items) (place_in s.index home name));
+  types = λ home name. option_map shared_type_view (option_and_then (slice_get s.known.types.items) (place_in s.index home name));
 }
 
 -- what is known of modules that are built

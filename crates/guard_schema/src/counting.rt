@@ -38,6 +38,9 @@ fn one_more(so_far: usize) -> usize
 fn held(so_far: usize, ty: &Ty) -> usize
     ensures { result ≡ min (so_far + counting.held (model.type_view ty.now)) 100001 }
 {
+    if so_far >= TOO_MUCH {
+        return TOO_MUCH;
+    }
     let so_far = held_in_kind(so_far, &ty.kind);
     constraint_nodes(so_far, &ty.cons)
 }
@@ -93,6 +96,9 @@ fn constraint_nodes(before: usize, all: &[Cons]) -> usize
 fn nodes_of_constraint(so_far: usize, cons: &Cons) -> usize
     ensures { result ≡ min (so_far + counting.nodes_of_constraint (model.constraint_view cons.now)) 100001 }
 {
+    if so_far >= TOO_MUCH {
+        return TOO_MUCH;
+    }
     nodes_of_rule(one_more(so_far), &cons.rule)
 }
 
@@ -145,6 +151,9 @@ fn nodes_of_part(so_far: usize, part: &Part) -> usize
 fn value_nodes(so_far: usize, value: &Value) -> usize
     ensures { result ≡ min (so_far + counting.value_nodes (value_view value.now)) 100001 }
 {
+    if so_far >= TOO_MUCH {
+        return TOO_MUCH;
+    }
     let so_far = one_more(so_far);
     match value {
         Value::Fields(fields) => nodes_of_fields(so_far, fields),

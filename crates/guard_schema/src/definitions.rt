@@ -3,7 +3,7 @@ ghost use Rattle.std.specs.Prelude.{All, true, ◌≡◌, ◌↔◌, ◌+◌, �
 ghost use Rattle.std.specs.Prelude.{slice_get, Some, IsTrue, IfOk, IfSome};
 ghost use Rattle.guard_der.specs.Fits.{fits};
 ghost use Rattle.guard_der.specs.Sound.{is_sound};
-ghost use Rattle.guard_model.specs.TypeView.{type_view};
+ghost use Rattle.guard_model.specs.TypeView.{shared_type_view, type_view};
 ghost use Rattle.guard_values.specs.Views.{shared_view};
 ghost use Rattle.guard_names.specs.NamesView.{modules_of, order_of};
 ghost use Rattle.guard_syntax.specs.ModuleViews.{perhaps_value_view, assignment_view};
@@ -66,8 +66,8 @@ fn built(alloc: Global, progress: &Progress, id: Id) -> Result<Definition, Schem
     requires next { slice_get (order_of progress.now.names.now) (length progress.now.known.types.items) ≡ Some id }
     requires spelled { All IsSpelledModule (modules_of progress.now.names.now) }
     requires flags { AreMeanings (modules_of progress.now.names.now)
-        (order_of progress.now.names.now) (map type_view progress.now.known.types.items)
-        (known_list (map type_view progress.now.known.types.items) progress.now.automatic.items) }
+        (order_of progress.now.names.now) (map shared_type_view progress.now.known.types.items)
+        (known_list (map shared_type_view progress.now.known.types.items) progress.now.automatic.items) }
     ensures built { Answers definition_view named result (BuildsNumber (known_view progress.now) id) }
     ensures sound { IfOk result (λ d. IsTrue (is_sound (definition_view d).ty)) }
     ensures fits { IfOk result (λ d. IfSome (definition_view d).value (λ v. IsTrue (fits (definition_view d).ty v))) }
@@ -94,8 +94,8 @@ fn tagged_apart(
     requires next { slice_get (order_of progress.now.names.now) (length progress.now.known.types.items) ≡ Some id }
     requires spelled { All IsSpelledModule (modules_of progress.now.names.now) }
     requires flags { AreMeanings (modules_of progress.now.names.now)
-        (order_of progress.now.names.now) (map type_view progress.now.known.types.items)
-        (known_list (map type_view progress.now.known.types.items) progress.now.automatic.items) }
+        (order_of progress.now.names.now) (map shared_type_view progress.now.known.types.items)
+        (known_list (map shared_type_view progress.now.known.types.items) progress.now.automatic.items) }
     ensures tagged { Answers (λ s. type_view s.ty) named result (TagsApart (known_view progress.now) id site) }
     ensures nodes { IfOk result (λ s. (s.nodes ≡ progress.now.nodes + tagging.nodes (type_view s.ty))
         × (s.nodes ≤ tagging.most_nodes)) }
@@ -141,8 +141,9 @@ fn completed(
     let ty = finished(alloc, scope, &assignment.ty, bare)?;
     let found = valued(alloc, progress, scope, assignment, &ty)?;
     let (value, held) = found;
+    let shared = Arc::new(alloc, ty)?;
     Ok(Definition {
-        ty,
+        ty: shared,
         value,
         is_automatic,
         nodes,

@@ -1,9 +1,6 @@
 //! Single values in constraints whose encodings are longer than may be: of a type that is referred to under more tags,
 //! or under another one.
-ghost use Rattle.std.specs.Prelude.{◌≡◌, IsTrue, IfOk, map};
-ghost use Rattle.guard_der.specs.Der.{der};
-ghost use Rattle.guard_der.specs.Fits.{fits};
-ghost use Rattle.guard_der.specs.ProperConstraints.{is_short};
+ghost use Rattle.std.specs.Prelude.{◌≡◌, IfOk, map};
 ghost use Rattle.guard_model.specs.TypeView.{type_view, constraint_view, constraints_of};
 ghost use Rattle.guard_model.specs.ValueView.{value_view};
 ghost use Rattle.guard_schema.specs.Faults.{named};
@@ -12,7 +9,7 @@ ghost use Rattle.guard_schema.specs.Outcomes.{Answers};
 ghost use Rattle.guard_schema.specs.Readings.{HasShortValues};
 
 use crate::fault::SchemaFault;
-use guard_der::{EncodeFault, encode, fits};
+use guard_der::is_too_long;
 use guard_model::{Cons, OutOfMemory, Rule, Site, Ty, Value};
 use guard_values::ValueFault;
 use std::alloc::Global;
@@ -68,22 +65,8 @@ fn long_value(
     ensures { IfOk result
         (λ found. found ≡ long_values.site_where (long_values.is_long (type_view ty.now) (value_view value.now)) site) }
 {
-    if !fits(alloc, ty, value)? {
-        return Ok(None);
+    if is_too_long(alloc, ty, value)? {
+        return Ok(Some(site));
     }
-    if is_short(alloc, ty, value)? {
-        return Ok(None);
-    }
-    Ok(Some(site))
-}
-
-fn is_short(alloc: Global, ty: &Ty, value: &Value) -> Result<bool, OutOfMemory>
-    requires { IsTrue (fits (type_view ty.now) (value_view value.now)) }
-    ensures { IfOk result (λ b. b ≡ is_short (der (type_view ty.now) (value_view value.now))) }
-{
-    match encode(alloc, ty, value) {
-        Ok(_octets) => Ok(true),
-        Err(EncodeFault::TooLong) => Ok(false),
-        Err(EncodeFault::OutOfMemory) => Err(OutOfMemory),
-    }
+    Ok(None)
 }

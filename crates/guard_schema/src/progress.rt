@@ -3,7 +3,7 @@ ghost use Rattle.std.specs.Prelude.{◌≡◌, ◌≤◌, ◌+◌, ◌++◌, ◌
 ghost use Rattle.std.proofs.Props.{props};
 ghost use Rattle.guard_der.specs.Fits.{fits};
 ghost use Rattle.guard_der.specs.Sound.{is_sound};
-ghost use Rattle.guard_model.specs.TypeView.{type_view};
+ghost use Rattle.guard_model.specs.TypeView.{shared_type_view};
 ghost use Rattle.guard_tagging.specs.Surroundings.{nodes_of_all};
 ghost use Rattle.guard_tagging.specs.Faults as tagging;
 ghost use Rattle.guard_schema.specs.Counting.{all_held, held_by, most_held};
@@ -20,7 +20,7 @@ use std::sync::Arc;
 #[derive(Drop)]
 pub struct Definition {
     /// The type that is assigned, or the governor of the value that is (X.680 16.1, 16.2).
-    pub ty: Ty,
+    pub ty: Arc<Ty>,
     /// The value of a value assignment.
     pub value: Option<Arc<Value>>,
     /// Whether the type's list of components or alternatives was tagged automatically, where there is one.
@@ -40,11 +40,11 @@ pub struct Progress<'m, 'a> {
     pub nodes: usize,
     pub held: usize,
     pub ghost even: { length known.values.items ≡ length known.types.items },
-    pub ghost counted: { nodes ≡ nodes_of_all (map type_view known.types.items) },
+    pub ghost counted: { nodes ≡ nodes_of_all (map shared_type_view known.types.items) },
     pub ghost few: { nodes ≤ tagging.most_nodes },
     pub ghost holding: { held ≡ all_held (paired known.types.items known.values.items) },
     pub ghost little: { held ≤ most_held },
-    pub ghost sound: { All (λ t. IsTrue (is_sound (type_view t))) known.types.items } by { Prim.hlevel props },
+    pub ghost sound: { All (λ t. IsTrue (is_sound (shared_type_view t))) known.types.items } by { Prim.hlevel props },
     pub ghost fitting: { All (λ b. IfSome b.value (λ v. IsTrue (fits b.ty v)))
         (paired known.types.items known.values.items) } by { Prim.hlevel props },
 }

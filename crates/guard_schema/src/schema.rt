@@ -23,7 +23,8 @@ pub struct Schema {
     pub(crate) index: TypeIndex,
     /// What each definition is built to, by the order of definitions.
     pub(crate) known: Known,
-    pub ghost sound: { All (λ t. IsTrue (is_sound (model.type_view t))) known.types.items } by { Prim.hlevel props },
+    pub ghost sound: { All (λ t. IsTrue (is_sound (model.shared_type_view t)))
+        known.types.items } by { Prim.hlevel props },
     pub ghost fitting: { All (λ b. IfSome b.value (λ v. IsTrue (fits b.ty v)))
         (paired known.types.items known.values.items) } by { Prim.hlevel props },
     pub ghost few: { length (map string_bytes modules.items) ≤ 64 },
@@ -74,7 +75,8 @@ impl Schema {
         ensures sound { IfSome result (λ ty. IsTrue (is_sound (model.type_view ty.now))) }
     {
         let place = self.index.find(module_name.as_bytes(), name.as_bytes())?;
-        self.known.types.get(place)
+        let ty = self.known.types.get(place)?;
+        Some(ty)
     }
 
     /// The name of the module that the text at this place of the list is (X.680 13.1), from 1 as in sites. None for 0

@@ -96,7 +96,7 @@ sent_of comp f = part_of (presence_view (out-Comp comp).presence) (type_view (ou
 abbrev pub others : List Comp → List (Option Value) → ℕ → Option (List Part)
 others comps fs i = parts_of (left comps i) (fields_view (drop i fs))
 
-next_sent : (comps : List Comp) (fs : List (Option Value)) (i : ℕ) (comp : Comp) (f : Option Value) → i < length comps → i < length fs → comp ≡ get_or comps i comp → f ≡ get_or fs i f → others comps fs i ≡ (sent_of comp f >>= λ one. with_parts one (others comps fs (i + 1)))
+pub next_sent : (comps : List Comp) (fs : List (Option Value)) (i : ℕ) (comp : Comp) (f : Option Value) → i < length comps → i < length fs → comp ≡ get_or comps i comp → f ≡ get_or fs i f → others comps fs i ≡ (sent_of comp f >>= λ one. with_parts one (others comps fs (i + 1)))
 next_sent comps fs i comp f lt lf is is_f =
     rw (left_is comps i comp lt is, fields_is fs i f lf is_f) (one_first (arc_str_bytes (out-Comp comp).name) (type_view (out-Comp comp).ty) (presence_view (out-Comp comp).presence) (left comps (i + 1)) (field_view f) (map field_view (drop (i + 1) fs)))
 

@@ -1,12 +1,10 @@
 -- The tests of a list of components, and of a default.
-use Rattle.std.proofs.Common.{◌≡◌, ℕ, ◌<◌, ◌≤◌, Bool, true, false, cond, List, length, map, Option, Some, None, Result, Ok, Err, refl, sym, ap, arith}
-use Rattle.std.specs.Prelude.{◌&&◌, nat_le}
+use Rattle.std.proofs.Common.{◌≡◌, ℕ, ◌<◌, ◌≤◌, Bool, true, false, cond, List, length, map, Option, Some, None, refl, sym, ap, arith}
+use Rattle.std.specs.Prelude.{◌&&◌, is_some, nat_le}
 use Rattle.std.proofs.lemmas.Bool.{le-leb, lt-leb}
 use Rattle.guard_model.specs.TypeView.{component_view, components_of}
 use Rattle.guard_model.specs.declared.ty.Comp.{Comp}
-use Rattle.guard_der.specs.declared.encoding.EncodeFault.{EncodeFault}
-use Rattle.guard_der.specs.declared.encoding.EncodeFault.TheVariants.{TooLong}
-use Rattle.guard_der.specs.Encoding.{limited}
+use Rattle.guard_der.specs.Encoding.{longest_encoding, short_length}
 use Rattle.guard_der.specs.ProperConstraints.{is_short}
 use Rattle.guard_model.specs.Counts.{component_count}
 use Rattle.guard_model.proofs.Components.{component_count_view}
@@ -19,18 +17,11 @@ few_components comps proper few = ap (λ (b : Bool). b && proper) (sym (le-leb (
 
 -- ---- defaults
 
-chosen_short : (b : Bool) (os found : List ℕ) → cond {A = Result (List ℕ) EncodeFault} b (Ok os) (Err TooLong) ≡ Ok found → true ≡ b
-chosen_short true os found h = refl
-chosen_short false os found h = absurd cc
+there_by : (b : Bool) (n : ℕ) → is_some (cond {A = Option ℕ} b (Some n) None) ≡ b
+there_by true n = refl
+there_by false n = refl
 
-chosen_long : (b : Bool) (os : List ℕ) → cond {A = Result (List ℕ) EncodeFault} b (Ok os) (Err TooLong) ≡ Err TooLong → false ≡ b
-chosen_long true os h = absurd cc
-chosen_long false os h = refl
-
-pub short_from : (x : Option (List ℕ)) (found : List ℕ) → limited x ≡ Ok found → true ≡ is_short x
-short_from None found h = absurd cc
-short_from (Some os) found h = chosen_short (nat_le (length os) 1048576) os found h
-
-pub long_from : (x : Option (List ℕ)) → limited x ≡ Err TooLong → false ≡ is_short x
-long_from None h = refl
-long_from (Some os) h = chosen_long (nat_le (length os) 1048576) os h
+-- an encoding is short exactly where its length is told
+pub told_where_short : (x : Option (List ℕ)) → is_some (short_length x) ≡ is_short x
+told_where_short None = refl
+told_where_short (Some os) = there_by (nat_le (length os) longest_encoding) (length os)

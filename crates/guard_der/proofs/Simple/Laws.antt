@@ -14,7 +14,8 @@ use Rattle.guard_der.specs.declared.breach.Code.TheVariants as code
 use Rattle.guard_der.specs.Octets.{signed_octets, twos_complement, base_128}
 use Rattle.guard_der.specs.Contents.{boolean_octet, arcs_octets, character_octets}
 use Rattle.guard_der.specs.Der.{contents_octets}
-use Rattle.guard_der.specs.Fits.{fits_kind, all_below, is_item, has_proper_end, has_zero_end, ends_as_named, fits_bits, fits_arcs}
+use Rattle.guard_der.specs.Fits.{fits_kind, all_below, has_proper_end, has_zero_end, ends_as_named, fits_bits, fits_arcs}
+use Rattle.guard_model.specs.NamedLists.{is_item}
 use Rattle.guard_model.specs.Alphabets.{fits_characters}
 use Rattle.guard_model.specs.Limits.{fits_128_bits}
 use Rattle.guard_der.specs.Simple.{simple_fault, simple_value, integer_fault, are_subidentifiers, subidentifiers, arcs_of, is_text, characters_of}

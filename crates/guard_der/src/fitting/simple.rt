@@ -2,7 +2,7 @@
 ghost use Rattle.std.specs.Prelude.{◌≡◌, ◌&&◌, map};
 ghost use Rattle.std.specs.Arc.{arc_slice_items};
 ghost use Rattle.guard_model.specs.TypeView.{named_view};
-ghost use Rattle.guard_der.specs.Fits.{all_below, fits_arcs, fits_bits, ends_as_named, is_item, fits_first_arcs};
+ghost use Rattle.guard_der.specs.Fits.{all_below, fits_arcs, fits_bits, ends_as_named, fits_first_arcs};
 ghost use Rattle.guard_model.specs.Limits.{fits_128_bits};
 
 use crate::bits::{ends_as_named, has_proper_end, has_zero_end};
@@ -56,16 +56,4 @@ fn first_two_fit(first: u128, second: u128) -> bool
         2 => second <= u128::MAX - 80,
         _ => false,
     }
-}
-
-/// Whether this is the number of one of these items.
-pub fn is_item(number: i128, items: &[Named]) -> bool
-    ensures { result ≡ is_item number (map named_view items.now) }
-{
-    for item in items {
-        if number == item.number {
-            return true;
-        }
-    }
-    false
 }

@@ -1,10 +1,12 @@
 -- Definitions one after another, as a loop builds them.
 use Rattle.std.proofs.Common.{◌≡◌, ◌↔◌, ◌+◌, ◌<◌, ℕ, suc, Bool, true, List, [], ◌∷◌, ◌++◌, length, map, get_or, Option}
+use Rattle.std.specs.Global.{Global}
+use Rattle.std.specs.declared.sync.Arc.{Arc}
 use Rattle.std.proofs.Common.{Some, None, Ok, Err, slice_get, inl, inr, refl, sym, ap, subst, ◌∙◌, arith}
 use Rattle.std.proofs.lemmas.List.{get_or_default, map_push, length-map}
 use Rattle.std.proofs.lemmas.Option.{slice_get-get_or}
 use Rattle.guard_model.specs.AbstractType.{AbstractType}
-use Rattle.guard_model.specs.TypeView.{type_view}
+use Rattle.guard_model.specs.TypeView.{shared_type_view}
 use Rattle.guard_model.specs.declared.ty.Ty.{Ty}
 use Rattle.guard_syntax.specs.Trees.{WrittenModule}
 use Rattle.guard_names.specs.NamesView.{modules_of, order_of}
@@ -86,30 +88,30 @@ list_more (u ∷ ts) (a ∷ bs) t b e = ap (λ (ms : List Meaning). record { ty 
     less : {p q : ℕ} → suc p ≡ suc q → p ≡ q
     less h' = omega (arith, h')
 
-module _ (ms : List WrittenModule) (order : List ℕ) (ts : List Ty) (bs : List Bool)
-    (known : AreMeanings ms order (map type_view ts) (known_list (map type_view ts) bs))
+module _ (ms : List WrittenModule) (order : List ℕ) (ts : List (Arc Ty Global)) (bs : List Bool)
+    (known : AreMeanings ms order (map shared_type_view ts) (known_list (map shared_type_view ts) bs))
     (many : length bs ≡ length ts) where
-  pub flags_more : (t : Ty) (b : Bool) (number : ℕ) → slice_get order (length ts) ≡ Some number
+  pub flags_more : (t : Arc Ty Global) (b : Bool) (number : ℕ) → slice_get order (length ts) ≡ Some number
       → (b ≡ true) ↔ Automatic ms number
-      → (us : List Ty) (cs : List Bool) → us ≡ ts ++ t ∷ [] → cs ≡ bs ++ b ∷ []
-      → AreMeanings ms order (map type_view us) (known_list (map type_view us) cs)
+      → (us : List (Arc Ty Global)) (cs : List Bool) → us ≡ ts ++ t ∷ [] → cs ≡ bs ++ b ∷ []
+      → AreMeanings ms order (map shared_type_view us) (known_list (map shared_type_view us) cs)
   flags_more t b number next flag us cs types flags =
-      let all : map type_view us ≡ map type_view ts ++ type_view t ∷ [] =
-      ap (map type_view) types ∙ map_push type_view ts t in
-      let same : length (map type_view ts) ≡ length ts = length-map ts type_view in
-      let with_flag : known_list (map type_view us) cs ≡ known_list
-      (map type_view ts) bs ++ record { ty = type_view t; is_automatic = b } ∷ [] =
+      let all : map shared_type_view us ≡ map shared_type_view ts ++ shared_type_view t ∷ [] =
+      ap (map shared_type_view) types ∙ map_push shared_type_view ts t in
+      let same : length (map shared_type_view ts) ≡ length ts = length-map ts shared_type_view in
+      let with_flag : known_list (map shared_type_view us) cs ≡ known_list
+      (map shared_type_view ts) bs ++ record { ty = shared_type_view t; is_automatic = b } ∷ [] =
       ap (λ (xs : List AbstractType). known_list xs cs) all
-      ∙ ap (λ (fs : List Bool). known_list (map type_view ts ++ type_view t ∷ []) fs) flags
-      ∙ list_more (map type_view ts) bs (type_view t) b (many ∙ sym same) in
-      subst (λ (xs : List AbstractType). AreMeanings ms order xs (known_list (map type_view us) cs)) (sym all)
-      (subst (λ (ks : List Meaning). AreMeanings ms order (map type_view ts ++ type_view t ∷ []) ks) (sym with_flag)
-      (one_meaning_more ms order (map type_view ts) (known_list (map type_view ts) bs) (type_view t)
-      (record { ty = type_view t; is_automatic = b }) number known
+      ∙ ap (λ (fs : List Bool). known_list (map shared_type_view ts ++ shared_type_view t ∷ []) fs) flags
+      ∙ list_more (map shared_type_view ts) bs (shared_type_view t) b (many ∙ sym same) in
+      subst (λ (xs : List AbstractType). AreMeanings ms order xs (known_list (map shared_type_view us) cs)) (sym all)
+      (subst (λ (ks : List Meaning). AreMeanings ms order (map shared_type_view ts ++ shared_type_view t ∷ []) ks) (sym with_flag)
+      (one_meaning_more ms order (map shared_type_view ts) (known_list (map shared_type_view ts) bs) (shared_type_view t)
+      (record { ty = shared_type_view t; is_automatic = b }) number known
       (ap (slice_get order) same ∙ next) (refl, flag)))
 
-pub no_flags : (ms : List WrittenModule) (order : List ℕ) (ts : List Ty) (bs : List Bool) → ts ≡ []
-    → AreMeanings ms order (map type_view ts) (known_list (map type_view ts) bs)
+pub no_flags : (ms : List WrittenModule) (order : List ℕ) (ts : List (Arc Ty Global)) (bs : List Bool) → ts ≡ []
+    → AreMeanings ms order (map shared_type_view ts) (known_list (map shared_type_view ts) bs)
 no_flags ms order ts bs e =
-    subst (λ (us : List Ty). AreMeanings ms order (map type_view us) (known_list (map type_view us) bs)) (sym e)
+    subst (λ (us : List (Arc Ty Global)). AreMeanings ms order (map shared_type_view us) (known_list (map shared_type_view us) bs)) (sym e)
     (none_yet ms order)

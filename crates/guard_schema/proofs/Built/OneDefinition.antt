@@ -6,7 +6,7 @@ use Rattle.std.proofs.lemmas.List.Elements.{All-head, All-tail, All-cons, All-ni
 use Rattle.std.proofs.lemmas.Option.{same_Some}
 use Rattle.guard_model.specs.AbstractType.{AbstractType}
 use Rattle.guard_model.specs.AbstractValue.{AbstractValue}
-use Rattle.guard_model.specs.TypeView.{type_view}
+use Rattle.guard_model.specs.TypeView.{shared_type_view}
 use Rattle.guard_model.specs.declared.site.Site.{Site}
 use Rattle.guard_model.proofs.Results.{same_Ok, same_Err}
 use Rattle.guard_tagcheck.specs.Limits.{is_within_limits}
@@ -45,11 +45,11 @@ use Rattle.guard_schema.proofs.Filled.ByTrees.{type_filled}
 use Rattle.guard_schema.proofs.Sound.Ready.{ready, paired_sound}
 use Rattle.guard_schema.proofs.Built.Visible.{visible_same}
 
-pub types_same : (ts : List Ty) (vs : List (Option (Arc Value Global))) → length vs ≡ length ts
-    → types_of (paired ts vs) ≡ map type_view ts
+pub types_same : (ts : List (Arc Ty Global)) (vs : List (Option (Arc Value Global))) → length vs ≡ length ts
+    → types_of (paired ts vs) ≡ map shared_type_view ts
 types_same [] vs e = refl
 types_same (t ∷ ts) [] e = absurd (omega (arith, e))
-types_same (t ∷ ts) (v ∷ vs) e = ap (λ us. type_view t ∷ us) (types_same ts vs (less e))
+types_same (t ∷ ts) (v ∷ vs) e = ap (λ us. shared_type_view t ∷ us) (types_same ts vs (less e))
   where
     less : {p q : ℕ} → suc p ≡ suc q → p ≡ q
     less h' = omega (arith, h')
@@ -99,14 +99,14 @@ module _ (k : Known) (names : Visible) (a : WrittenAssignment) (t : AbstractType
 -- ---- its tags and parts
 
 module _ (p : Progress) (id : ℕ) where
-  same : types_of (built_in p) ≡ map type_view p.known.types.items
+  same : types_of (built_in p) ≡ map shared_type_view p.known.types.items
   same = types_same p.known.types.items p.known.values.items p.even
 
   -- its tags under the types before it are those where what is built of them is known
   under_built : (d : Definition) (answer : Outcome AbstractType) (surroundings : Surroundings)
-      → AreSurroundings (modules_of p.names.now) (order_of p.names.now) (map type_view p.known.types.items) d
+      → AreSurroundings (modules_of p.names.now) (order_of p.names.now) (map shared_type_view p.known.types.items) d
       surroundings
-      → HasTagsUnder surroundings (nodes_of_all (map type_view p.known.types.items)) d.assignment.ty answer
+      → HasTagsUnder surroundings (nodes_of_all (map shared_type_view p.known.types.items)) d.assignment.ty answer
       → HasTags (known_view p) d answer
   under_built d answer surroundings are holds =
       subst (λ (ts : List AbstractType). (s : Surroundings)
@@ -114,12 +114,12 @@ module _ (p : Progress) (id : ℕ) where
       × HasTagsUnder s (nodes_of_all ts) d.assignment.ty answer) (sym same) (surroundings, are, holds)
 
   pub number_tagged : (t : AbstractType) → IsTypeOf (modules_of p.names.now) (order_of p.names.now)
-      (map type_view p.known.types.items) id t → TagsNumber (known_view p) id (Ok t)
+      (map shared_type_view p.known.types.items) id t → TagsNumber (known_view p) id (Ok t)
   number_tagged t h =
       (h.0, h.1, under_built h.0 (Ok t) h.2 h.3 h.4)
 
   faulty : (site : Site) (f : TagFault) (o : Option TagFault) → tagging.named f ≡ o
-      → IfSome o (IsFaultOf (modules_of p.names.now) (order_of p.names.now) (map type_view p.known.types.items) id)
+      → IfSome o (IsFaultOf (modules_of p.names.now) (order_of p.names.now) (map shared_type_view p.known.types.items) id)
       → RefusesBy (option_map Tag o) (TagsApart (known_view p) id site)
   faulty site f None e h = tt
   faulty site f (Some g) e h = inr (
@@ -130,7 +130,7 @@ module _ (p : Progress) (id : ℕ) where
 
   pub tags_refused : (site : Site) (f : TagFault) (y : SchemaFault) → named y ≡ option_map Tag (tagging.named f)
       → IfSome (tagging.named f) (IsFaultOf (modules_of p.names.now) (order_of p.names.now)
-      (map type_view p.known.types.items) id) → RefusesBy (named y) (TagsApart (known_view p) id site)
+      (map shared_type_view p.known.types.items) id) → RefusesBy (named y) (TagsApart (known_view p) id site)
   tags_refused site f y e h = subst (λ (o : Option AbstractFault). RefusesBy o (TagsApart (known_view p) id site))
       (sym e) (faulty site f (tagging.named f) refl h)
 
@@ -226,10 +226,10 @@ module _ (p : Progress) (id : ℕ) (d : Definition)
 
 -- ---- types before it keep the limits
 
-pub all_limits : (ts : List Ty) → All (λ t. IsTrue (is_sound (type_view t))) ts
-    → All (λ t. IsTrue (is_within_limits (type_view t))) ts
-all_limits [] h = All-nil (λ (t : Ty). IsTrue (is_within_limits (type_view t)))
+pub all_limits : (ts : List (Arc Ty Global)) → All (λ t. IsTrue (is_sound (shared_type_view t))) ts
+    → All (λ t. IsTrue (is_within_limits (shared_type_view t))) ts
+all_limits [] h = All-nil (λ (t : Arc Ty Global). IsTrue (is_within_limits (shared_type_view t)))
 all_limits (t ∷ ts) h =
-    All-cons (λ (u : Ty). IsTrue (is_within_limits (type_view u))) t ts
-    (sound_within_limits (type_view t) (All-head (λ (u : Ty). IsTrue (is_sound (type_view u))) t ts h))
-    (all_limits ts (All-tail (λ (u : Ty). IsTrue (is_sound (type_view u))) t ts h))
+    All-cons (λ (u : Arc Ty Global). IsTrue (is_within_limits (shared_type_view u))) t ts
+    (sound_within_limits (shared_type_view t) (All-head (λ (u : Arc Ty Global). IsTrue (is_sound (shared_type_view u))) t ts h))
+    (all_limits ts (All-tail (λ (u : Arc Ty Global). IsTrue (is_sound (shared_type_view u))) t ts h))

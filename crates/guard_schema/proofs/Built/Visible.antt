@@ -9,7 +9,7 @@ use Rattle.guard_der.specs.Fits.{fits}
 use Rattle.guard_der.specs.Sound.{is_sound}
 use Rattle.guard_model.specs.AbstractValue.{AbstractValue}
 use Rattle.guard_model.specs.AbstractType.{AbstractType}
-use Rattle.guard_model.specs.TypeView.{type_view}
+use Rattle.guard_model.specs.TypeView.{shared_type_view}
 use Rattle.guard_model.specs.declared.ty.Ty.{Ty}
 use Rattle.guard_model.specs.declared.value.Value.{Value}
 use Rattle.std.specs.Global.{Global}
@@ -30,25 +30,25 @@ use Rattle.guard_schema.specs.Views.{built_in, known_view}
 
 -- ---- at one place
 
-value_there : (t : Ty) (v : Option (Arc Value Global)) → governed_value (type_view t) (option_map shared_view v)
+value_there : (t : Arc Ty Global) (v : Option (Arc Value Global)) → governed_value (shared_type_view t) (option_map shared_view v)
     ≡ known_pair (Some t)
     (Some v)
 value_there t None = refl
 value_there t (Some v) = refl
 
-no_value : (t : Option Ty) → None ≡ known_pair t None
+no_value : (t : Option (Arc Ty Global)) → None ≡ known_pair t None
 no_value None = refl
 no_value (Some t) = refl
 
-pub governed_at : (ts : List Ty) (vs : List (Option (Arc Value Global))) (place : ℕ)
+pub governed_at : (ts : List (Arc Ty Global)) (vs : List (Option (Arc Value Global))) (place : ℕ)
     → governed (slice_get (paired ts vs) place) ≡ known_pair (slice_get ts place) (slice_get vs place)
 governed_at [] vs place = refl
 governed_at (t ∷ ts) [] place = no_value (slice_get (t ∷ ts) place)
 governed_at (t ∷ ts) (v ∷ vs) zero = value_there t v
 governed_at (t ∷ ts) (v ∷ vs) (suc place) = governed_at ts vs place
 
-type_there : (ts : List Ty) (vs : List (Option (Arc Value Global))) (place : ℕ) → length vs ≡ length ts
-    → type_alone (slice_get (paired ts vs) place) ≡ option_map type_view (slice_get ts place)
+type_there : (ts : List (Arc Ty Global)) (vs : List (Option (Arc Value Global))) (place : ℕ) → length vs ≡ length ts
+    → type_alone (slice_get (paired ts vs) place) ≡ option_map shared_type_view (slice_get ts place)
 type_there [] vs place e = refl
 type_there (t ∷ ts) [] place e = absurd (omega (arith, e))
 type_there (t ∷ ts) (v ∷ vs) zero e = refl
@@ -108,8 +108,8 @@ fits_found : (b : Option Built) → ((c : Built) → b ≡ Some c → IfSome c.v
 fits_found None h = tt
 fits_found (Some b) h = fits_there b.ty b.value (h b refl)
 
-sound_found : (t : Option Ty) → ((u : Ty) → t ≡ Some u → IsTrue (is_sound (type_view u)))
-    → IfSome (option_map type_view t) (λ u. IsTrue (is_sound u))
+sound_found : (t : Option (Arc Ty Global)) → ((u : Arc Ty Global) → t ≡ Some u → IsTrue (is_sound (shared_type_view u)))
+    → IfSome (option_map shared_type_view t) (λ u. IsTrue (is_sound u))
 sound_found None h = tt
 sound_found (Some t) h = h t refl
 
@@ -127,7 +127,7 @@ known_fitting p = all_fitting p.known p.fitting
 
 known_sound : (p : Progress) → AreKnownSound p.known
 known_sound p place = sound_found (slice_get p.known.types.items place)
-    (λ t e. all_at (λ (u : Ty). IsTrue (is_sound (type_view u))) p.known.types.items place t p.sound e)
+    (λ t e. all_at (λ (u : Arc Ty Global). IsTrue (is_sound (shared_type_view u))) p.known.types.items place t p.sound e)
 
 pub known_built : (p : Progress) → AreBuilt p.known
 known_built p = (known_sound p, known_fitting p)

@@ -1,16 +1,17 @@
 -- What texts denote, put together from its steps; and what the public clauses say of one answer.
 use Rattle.std.proofs.Common.{◌≡◌, ◌<◌, ◌-◌, ℕ, zero, suc, List, [], ◌∷◌, Option, Some, None, Result, Ok, Err, Bor}
+use Rattle.std.specs.declared.sync.Arc.{Arc}
 use Rattle.std.proofs.Common.{MatchOption, inl, inr, ◌≤◌, length, option_map, slice_get, map, refl, sym, ap, subst, ◌∙◌}
 use Rattle.std.proofs.Common.{IsTrue, arith}
 use Rattle.std.specs.Prelude.{IfOk, IfErr, IfSome, All, IsUtf8, option_and_then}
-use Rattle.std.specs.Global.{Vec}
+use Rattle.std.specs.Global.{Global, Vec}
 use Rattle.std.specs.List.{HoldsAt}
 use Rattle.std.proofs.lemmas.Option.{slice_get_past, slice_get_read}
 use Rattle.std.proofs.lemmas.Bool.Decides.{nat_tests}
 use Rattle.std.proofs.lemmas.List.{length-map}
 use Rattle.guard_der.specs.Sound.{is_sound}
 use Rattle.guard_model.specs.Answer.{Gives, Refuses}
-use Rattle.guard_model.specs.TypeView.{type_view}
+use Rattle.guard_model.specs.TypeView.{shared_type_view}
 use Rattle.guard_model.specs.declared.ty.Ty.{Ty}
 use Rattle.guard_syntax.specs.Trees.{WrittenModule}
 use Rattle.guard_names.specs.declared.fault.NameFault.{NameFault}
@@ -142,16 +143,16 @@ names_fault ms f y is h = subst (λ o. RefusesBy o (OrdersNames ms)) (sym is) (n
 
 -- ---- its types are sound
 
-sound_there : (ts : List Ty) (t : Option Ty) → ((u : Ty) → t ≡ Some u → IsTrue (is_sound (type_view u)))
-    → IfSome (option_map type_view t) (λ u. IsTrue (is_sound u))
+sound_there : (ts : List (Arc Ty Global)) (t : Option (Arc Ty Global)) → ((u : Arc Ty Global) → t ≡ Some u → IsTrue (is_sound (shared_type_view u)))
+    → IfSome (option_map shared_type_view t) (λ u. IsTrue (is_sound u))
 sound_there ts None h = tt
 sound_there ts (Some t) h = h t refl
 
-pub types_sound : (ts : List Ty) → All (λ t. IsTrue (is_sound (type_view t))) ts → (o : Option ℕ)
-    → IfSome (option_map type_view (option_and_then (slice_get ts) o)) (λ u. IsTrue (is_sound u))
+pub types_sound : (ts : List (Arc Ty Global)) → All (λ t. IsTrue (is_sound (shared_type_view t))) ts → (o : Option ℕ)
+    → IfSome (option_map shared_type_view (option_and_then (slice_get ts) o)) (λ u. IsTrue (is_sound u))
 types_sound ts h None = tt
 types_sound ts h (Some p) = sound_there ts (slice_get ts p)
-    (λ u e. all_at (λ (t : Ty). IsTrue (is_sound (type_view t))) ts p u h e)
+    (λ u e. all_at (λ (t : Arc Ty Global). IsTrue (is_sound (shared_type_view t))) ts p u h e)
 
 pub sound : (result : Result Schema SchemaFault)
     → IfOk result (λ s. (home name : List ℕ) → IfSome ((schema_view s).types home name) (λ t. IsTrue (is_sound t)))

@@ -1,5 +1,6 @@
 -- Types by the names of definitions, as a schema keeps them.
 use Rattle.std.proofs.Common.{◌≡◌, ℕ, zero, suc, ◌+◌, Bool, true, false, cond, List, [], ◌∷◌, ◌++◌, length, map, drop}
+use Rattle.std.specs.Arc.{arc_value}
 use Rattle.std.proofs.Common.{get_or, Option, Some, None, Bor, MatchOption, option_map, slice_get, refl, sym, ap, subst, ◌∙◌}
 use Rattle.std.proofs.Common.{append_assoc, arith}
 use Rattle.std.specs.Prelude.{All, option_and_then, ◌<◌, ◌≤◌}
@@ -10,7 +11,7 @@ use Rattle.std.proofs.lemmas.List.{append-nil, length-append, length-map, map_pu
 use Rattle.std.proofs.lemmas.List.Elements.{All-nil, All-cons, All-head, All-tail, All-map}
 use Rattle.std.proofs.Math.Seq.{drop-append_seam}
 use Rattle.guard_model.specs.AbstractType.{AbstractType}
-use Rattle.guard_model.specs.TypeView.{type_view}
+use Rattle.guard_model.specs.TypeView.{shared_type_view}
 use Rattle.guard_model.specs.declared.ty.Ty.{Ty}
 use Rattle.guard_model.specs.declared.value.Value.{Value}
 use Rattle.std.specs.Global.{Global}
@@ -94,48 +95,48 @@ module _ (place : ℕ → Option ℕ) where
 
 -- ---- types by their places
 
-abbrev taken : Option Ty → Option (Option (Arc Value Global)) → Option AbstractType
+abbrev taken : Option (Arc Ty Global) → Option (Option (Arc Value Global)) → Option AbstractType
 taken None v = None
 taken (Some t) None = None
-taken (Some t) (Some None) = Some (type_view t)
+taken (Some t) (Some None) = Some (shared_type_view t)
 taken (Some t) (Some (Some v)) = None
 
-nothing_there : (t : Option Ty) → taken t None ≡ None
+nothing_there : (t : Option (Arc Ty Global)) → taken t None ≡ None
 nothing_there None = refl
 nothing_there (Some t) = refl
 
-type_there : (t : Option Ty) → taken t (Some None) ≡ option_map type_view t
+type_there : (t : Option (Arc Ty Global)) → taken t (Some None) ≡ option_map shared_type_view t
 type_there None = refl
 type_there (Some t) = refl
 
-value_there : (t : Option Ty) (v : Arc Value Global) → taken t (Some (Some v)) ≡ None
+value_there : (t : Option (Arc Ty Global)) (v : Arc Value Global) → taken t (Some (Some v)) ≡ None
 value_there None v = refl
 value_there (Some t) v = refl
 
-first_there : (t : Ty) (v : Option (Arc Value Global)) → assigned_type (Some (built_view t v)) ≡ taken (Some t) (Some v)
+first_there : (t : Arc Ty Global) (v : Option (Arc Value Global)) → assigned_type (Some (built_view (arc_value t) v)) ≡ taken (Some t) (Some v)
 first_there t None = refl
 first_there t (Some v) = refl
 
-at_place : (ts : List Ty) (vs : List (Option (Arc Value Global))) (p : ℕ)
+at_place : (ts : List (Arc Ty Global)) (vs : List (Option (Arc Value Global))) (p : ℕ)
     → assigned_type (slice_get (paired ts vs) p) ≡ taken (slice_get ts p) (slice_get vs p)
 at_place [] vs p = refl
 at_place (t ∷ ts) [] p = sym (nothing_there (slice_get (t ∷ ts) p))
 at_place (t ∷ ts) (v ∷ vs) zero = first_there t v
 at_place (t ∷ ts) (v ∷ vs) (suc p) = at_place ts vs p
 
-module _ (order : List ℕ) (ts : List Ty) (vs : List (Option (Arc Value Global))) where
-  kept : (p : ℕ) (v : Option (Option (Arc Value Global))) → option_map type_view
+module _ (order : List ℕ) (ts : List (Arc Ty Global)) (vs : List (Option (Arc Value Global))) where
+  kept : (p : ℕ) (v : Option (Option (Arc Value Global))) → option_map shared_type_view
       (option_and_then (slice_get ts) (unvalued p v)) ≡ taken (slice_get ts p) v
   kept p None = sym (nothing_there (slice_get ts p))
   kept p (Some None) = sym (type_there (slice_get ts p))
   kept p (Some (Some v)) = sym (value_there (slice_get ts p) v)
 
-  placed : (o : Option ℕ) → option_map type_view (option_and_then (slice_get ts) (unvalued_at vs o)) ≡ assigned_type
+  placed : (o : Option ℕ) → option_map shared_type_view (option_and_then (slice_get ts) (unvalued_at vs o)) ≡ assigned_type
       (built_at (paired ts vs) o)
   placed None = refl
   placed (Some p) = kept p (slice_get vs p) ∙ sym (at_place ts vs p)
 
-  numbered : (o : Option ℕ) → option_map type_view
+  numbered : (o : Option ℕ) → option_map shared_type_view
       (option_and_then (slice_get ts) (option_and_then (type_place order vs) o)) ≡ assigned_type
       (built_at (paired ts vs) (option_and_then (place_in order) o))
   numbered None = refl
@@ -143,23 +144,23 @@ module _ (order : List ℕ) (ts : List Ty) (vs : List (Option (Arc Value Global)
 
   module _ (ms : List WrittenModule) (names : List (List ℕ)) (es : List Entry) (named : names ≡ map (λ m. m.name) ms)
       (are : es ≡ entries_from (type_place order vs) 0 (definitions ms)) where
-    by_name : (home name : List ℕ) → option_map type_view (option_and_then (slice_get ts) (place_named home name es))
+    by_name : (home name : List ℕ) → option_map shared_type_view (option_and_then (slice_get ts) (place_named home name es))
         ≡ assigned_type (built_at (paired ts vs)
         (option_and_then (place_in order) (number_assigned home name (definitions ms))))
     by_name home name =
-        ap (λ xs. option_map type_view (option_and_then (slice_get ts) (place_named home name xs))) are
-        ∙ ap (λ o. option_map type_view (option_and_then (slice_get ts) o))
+        ap (λ xs. option_map shared_type_view (option_and_then (slice_get ts) (place_named home name xs))) are
+        ∙ ap (λ o. option_map shared_type_view (option_and_then (slice_get ts) o))
         (found (type_place order vs) home name (definitions ms))
         ∙ numbered (number_assigned home name (definitions ms))
 
     pub schema_is : ◌≡◌ {A = AbstractSchema} (record {
       modules = names;
-      types = λ home name. option_map type_view
+      types = λ home name. option_map shared_type_view
           (option_and_then (slice_get ts) (place_named home name es));
     })
         (schema_of (record { modules = ms; order = order; built = paired ts vs }))
     schema_is =
-        let types : (λ (home name : List ℕ). option_map type_view
+        let types : (λ (home name : List ℕ). option_map shared_type_view
         (option_and_then (slice_get ts) (place_named home name es)))
         ≡ (λ (home name : List ℕ). assigned_type
         (built_at (paired ts vs) (option_and_then (place_in order) (number_assigned home name (definitions ms))))) =
@@ -167,7 +168,7 @@ module _ (order : List ℕ) (ts : List Ty) (vs : List (Option (Arc Value Global)
         ap (λ (ns : List (List ℕ)). record {
           modules = ns;
           types =
-              λ home name. option_map type_view (option_and_then (slice_get ts) (place_named home name es));
+              λ home name. option_map shared_type_view (option_and_then (slice_get ts) (place_named home name es));
         }) named
         ∙ ap (λ (f : List ℕ → List ℕ → Option AbstractType). record { modules = map (λ m. m.name) ms; types = f }) types
 

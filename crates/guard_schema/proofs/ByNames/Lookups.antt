@@ -1,5 +1,7 @@
 -- Look-ups by one name and by two, as the index is made and as it is read.
 use Rattle.std.proofs.Common.{◌≡◌, ℕ, ◌+◌, ◌<◌, Bool, true, false, cond, ◌&&◌, List, [], ◌∷◌, ◌++◌, length, map, take}
+use Rattle.std.specs.Global.{Global}
+use Rattle.std.specs.declared.sync.Arc.{Arc}
 use Rattle.std.proofs.Common.{get_or, Option, Some, None, option_map, option_and_then, slice_get, is_some, refl, sym}
 use Rattle.std.proofs.Common.{ap, ◌∙◌, true≢false}
 use Rattle.std.specs.Prelude.{bytes_eq, All}
@@ -10,7 +12,7 @@ use Rattle.std.proofs.lemmas.List.{map_more}
 use Rattle.std.proofs.lemmas.Slice.Eq.{bytes_eq-Decides}
 use Rattle.indexmap.specs.IndexMap.{insert_entry}
 use Rattle.std.proofs.Math.Path.{fun_ext}
-use Rattle.guard_model.specs.TypeView.{type_view}
+use Rattle.guard_model.specs.TypeView.{shared_type_view}
 use Rattle.guard_model.specs.declared.ty.Ty.{Ty}
 use Rattle.guard_schema.specs.Entries.{Entry, looked_up, first_named, first_place, place_if, place_named}
 use Rattle.guard_schema.specs.Schemas.{AbstractSchema}
@@ -216,16 +218,16 @@ flattened home name (e ∷ es) =
       | false ↦ flattened home name es
     ]
 
-pub by_index : (ts : List Ty) (names : List (List ℕ)) (index : TypeIndex) (es : List Entry)
+pub by_index : (ts : List (Arc Ty Global)) (names : List (List ℕ)) (index : TypeIndex) (es : List Entry)
     → ((home name : List ℕ) → found_in index home name ≡ first_named home name es)
     → ◌≡◌ {A = AbstractSchema} (record {
       modules = names;
       types =
-          λ home name. option_map type_view (option_and_then (slice_get ts) (place_in index home name));
+          λ home name. option_map shared_type_view (option_and_then (slice_get ts) (place_in index home name));
     })
     (record {
       modules = names;
-      types = λ home name. option_map type_view
+      types = λ home name. option_map shared_type_view
           (option_and_then (slice_get ts) (place_named home name es));
     })
 by_index ts names index es says =
@@ -233,5 +235,5 @@ by_index ts names index es says =
     fun_ext (λ home. fun_ext (λ name. ap (option_and_then (λ place. place)) (says home name)
     ∙ flattened home name es)) in
     ap (λ (f : List ℕ → List ℕ → Option ℕ). record
-    { modules = names; types = λ home name. option_map type_view (option_and_then (slice_get ts) (f home name)) })
+    { modules = names; types = λ home name. option_map shared_type_view (option_and_then (slice_get ts) (f home name)) })
     places

@@ -1,5 +1,6 @@
 -- Lists of the code with one element more.
 use Rattle.std.proofs.Common.{◌≡◌, ℕ, suc, ◌+◌, List, [], ◌∷◌, ◌++◌, length, map, Option, refl, sym, ap, ◌∙◌, arith}
+use Rattle.std.specs.Arc.{arc_value}
 use Rattle.guard_model.specs.AbstractType as type
 use Rattle.guard_model.specs.AbstractType.{AbstractType, Constraint, Constraints, Components, type_of}
 use Rattle.guard_model.specs.TypeView.{OneComponent, components_of, constraints_of, constraint_view, kind_view}
@@ -34,13 +35,13 @@ pub listed_of : (cs : List OneComponent) → listed (components_of cs) ≡ cs
 listed_of [] = refl
 listed_of (c ∷ cs) = ap (λ others. c ∷ others) (listed_of cs)
 
-pub paired_more : (ts : List Ty) (vs : List (Option (Arc Value Global))) (t : Ty) (v : Option (Arc Value Global))
+pub paired_more : (ts : List (Arc Ty Global)) (vs : List (Option (Arc Value Global))) (t : Arc Ty Global) (v : Option (Arc Value Global))
     → length vs ≡ length ts
-    → paired (ts ++ t ∷ []) (vs ++ v ∷ []) ≡ paired ts vs ++ built_view t v ∷ []
+    → paired (ts ++ t ∷ []) (vs ++ v ∷ []) ≡ paired ts vs ++ built_view (arc_value t) v ∷ []
 paired_more [] [] t v e = refl
 paired_more [] (w ∷ vs) t v e = absurd (omega (arith, e))
 paired_more (u ∷ ts) [] t v e = absurd (omega (arith, e))
-paired_more (u ∷ ts) (w ∷ vs) t v e = ap (λ bs. built_view u w ∷ bs) (paired_more ts vs t v (less e))
+paired_more (u ∷ ts) (w ∷ vs) t v e = ap (λ bs. built_view (arc_value u) w ∷ bs) (paired_more ts vs t v (less e))
   where
     less : {p q : ℕ} → suc p ≡ suc q → p ≡ q
     less h' = omega (arith, h')

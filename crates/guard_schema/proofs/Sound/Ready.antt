@@ -9,7 +9,7 @@ use Rattle.std.proofs.lemmas.List.Elements.{All-nil, All-cons, All-head, All-tai
 use Rattle.guard_model.specs.AbstractType.{AbstractType}
 use Rattle.guard_model.specs.AbstractValue.{AbstractValue}
 use Rattle.guard_model.specs.Limits.{deepest_nesting}
-use Rattle.guard_model.specs.TypeView.{type_view}
+use Rattle.guard_model.specs.TypeView.{shared_type_view}
 use Rattle.guard_model.specs.declared.ty.Ty.{Ty}
 use Rattle.guard_model.specs.declared.value.Value.{Value}
 use Rattle.std.specs.Global.{Global}
@@ -111,15 +111,15 @@ are_sound k d surroundings bare t under all tagged distinct finished =
 
 -- ---- what is kept side by side
 
-pub paired_sound : (ts : List Ty) (vs : List (Option (Arc Value Global)))
-    → All (λ t. IsTrue (is_sound (type_view t))) ts
+pub paired_sound : (ts : List (Arc Ty Global)) (vs : List (Option (Arc Value Global)))
+    → All (λ t. IsTrue (is_sound (shared_type_view t))) ts
     → All (λ b. IfSome b.value (λ v. IsTrue (fits b.ty v))) (paired ts vs) → All IsSoundBuilt (paired ts vs)
 paired_sound [] vs h l = All-nil IsSoundBuilt
 paired_sound (t ∷ ts) [] h l = All-nil IsSoundBuilt
 paired_sound (t ∷ ts) (v ∷ vs) h l =
     All-cons IsSoundBuilt _ (paired ts vs) (
-      All-head (λ (u : Ty). IsTrue (is_sound (type_view u))) t ts h,
+      All-head (λ (u : Arc Ty Global). IsTrue (is_sound (shared_type_view u))) t ts h,
       All-head (λ (b : Built). IfSome b.value (λ w. IsTrue (fits b.ty w))) _ (paired ts vs) l,
     )
-    (paired_sound ts vs (All-tail (λ (u : Ty). IsTrue (is_sound (type_view u))) t ts h)
+    (paired_sound ts vs (All-tail (λ (u : Arc Ty Global). IsTrue (is_sound (shared_type_view u))) t ts h)
     (All-tail (λ (b : Built). IfSome b.value (λ w. IsTrue (fits b.ty w))) _ (paired ts vs) l))

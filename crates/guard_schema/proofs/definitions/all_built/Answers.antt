@@ -1,4 +1,6 @@
 use Rattle.std.proofs.Common.{◌+◌, ◌∷◌, [], List, length, get_or, slice_get, sym, ap, ◌∙◌}
+use Rattle.std.specs.Global.{Global}
+use Rattle.std.specs.declared.sync.Arc.{Arc}
 use Rattle.std.proofs.lemmas.List.{length-append}
 use Rattle.std.proofs.lemmas.Result.{err_from_is_err_and}
 use Rattle.guard_model.specs.declared.ty.Ty.{Ty}
@@ -18,8 +20,8 @@ loop-id-init c =
     let none = c.in_ok-progress.ensures.none in
     record {
       names = c.in_ok-progress.ensures.names;
-      count = ap (λ (ts : List Ty). length ts) none.1;
-      many = ap length none.2 ∙ sym (ap (λ (ts : List Ty). length ts) none.1);
+      count = ap (λ (ts : List (Arc Ty Global)). length ts) none.1;
+      many = ap length none.2 ∙ sym (ap (λ (ts : List (Arc Ty Global)). length ts) none.1);
       so_far = none_built c.args.names.now p c.in_ok-progress.ensures.names none.0;
       flags = no_flags (modules_of p.names.now) (order_of p.names.now) p.known.types.items p.automatic.items none.1;
     }
@@ -58,10 +60,10 @@ loop-id-preserved c =
     (length p.known.types.items) 0 i.count c.loop-id-test.true in
     record {
       names = c.in_ok-more.ensures.names ∙ i.names;
-      count = ap (λ (ts : List Ty). length ts) types ∙ length-append p.known.types.items (d.ty ∷ [])
+      count = ap (λ (ts : List (Arc Ty Global)). length ts) types ∙ length-append p.known.types.items (d.ty ∷ [])
           ∙ ap (λ k. k + 1) i.count;
       many = ap length flags ∙ length-append p.automatic.items (d.is_automatic ∷ []) ∙ ap (λ k. k + 1) i.many
-          ∙ sym (ap (λ (ts : List Ty). length ts) types ∙ length-append p.known.types.items (d.ty ∷ []));
+          ∙ sym (ap (λ (ts : List (Arc Ty Global)). length ts) types ∙ length-append p.known.types.items (d.ty ∷ []));
       so_far = one_built (order_of n) c.order-order.result.now c.order-order.ensures.same
           (none_known (modules_of n) (order_of n)) c.loop-id.id-index p 0 c.loop-id-test.true i.so_far q
           (definition_view d) c.in_ok-definition.ensures.built c.in_ok-more.ensures.names c.in_ok-more.ensures.more;

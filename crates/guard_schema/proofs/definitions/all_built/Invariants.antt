@@ -1,5 +1,5 @@
 use Rattle.std.proofs.Common.{◌≡◌, map, length}
-use Rattle.guard_model.specs.TypeView.{type_view}
+use Rattle.guard_model.specs.TypeView.{shared_type_view}
 use Rattle.guard_names.specs.NamesView.{modules_of, order_of}
 use Rattle.guard_tagging.specs.ScopeView.{known_list}
 use Rattle.guard_tagging.specs.Skeletons.{AreMeanings}
@@ -16,6 +16,6 @@ invariant-loop-id l = record {
   so_far : BuiltSoFar (order_of l.names) (none_known (modules_of l.names) (order_of l.names)) l.id-index
       (known_view l.progress);
   flags : AreMeanings (modules_of l.progress.names.now) (order_of l.progress.names.now)
-      (map type_view l.progress.known.types.items)
-      (known_list (map type_view l.progress.known.types.items) l.progress.automatic.items);
+      (map shared_type_view l.progress.known.types.items)
+      (known_list (map shared_type_view l.progress.known.types.items) l.progress.automatic.items);
 }

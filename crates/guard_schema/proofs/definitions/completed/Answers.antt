@@ -1,8 +1,15 @@
-use Rattle.std.proofs.Common.{ℕ, ◌+◌, inl, sym, ap, ◌∙◌}
+use Rattle.std.proofs.Common.{ℕ, ◌+◌, IsTrue, Option, Some, None, option_map, inl, sym, ap, ◌∙◌}
+use Rattle.std.specs.Prelude.{IfSome}
+use Rattle.std.specs.Global.{Global}
+use Rattle.std.specs.declared.sync.Arc.{Arc}
 use Rattle.std.proofs.lemmas.Result.{err_from_is_err_and}
+use Rattle.guard_der.specs.Fits.{fits}
+use Rattle.guard_model.specs.AbstractType.{AbstractType}
 use Rattle.guard_model.specs.TypeView.{type_view}
+use Rattle.guard_model.specs.declared.value.Value.{Value}
 use Rattle.guard_syntax.specs.ModuleViews.{assignment_view}
 use Rattle.guard_syntax.specs.TypeViews as written
+use Rattle.guard_values.specs.Views.{shared_view}
 use Rattle.guard_constraints.specs.Views.{visible_at}
 use Rattle.guard_schema.specs.Faults.{named}
 use Rattle.guard_schema.specs.Views.{known_view}
@@ -39,8 +46,23 @@ pub returns-clause-built : goal.returns-clause-built
 returns-clause-built c = inl (
   type_view c.in_ok-ty.ty,
   rw c.deref.ensures at c.in_ok-ty.ensures.finished,
-  c.in_ok-found.ensures.built,
+  rw c.in_ok-shared.ensures.ok c.in_ok-found.ensures.built,
 )
+
+pub returns-clause-sound : goal.returns-clause-sound
+returns-clause-sound c = rw c.in_ok-shared.ensures.ok c.in_ok-ty.ensures.sound
+
+value_fits : (t : AbstractType) (v : Option (Arc Value Global)) → IfSome v (λ w. IsTrue (fits t (shared_view w)))
+    → IfSome (option_map shared_view v) (λ w. IsTrue (fits t w))
+value_fits t None h = tt
+value_fits t (Some v) h = h
+
+pub returns-clause-fits : goal.returns-clause-fits
+returns-clause-fits c = rw c.in_ok-shared.ensures.ok
+    (value_fits (type_view c.in_ok-ty.ty) c.in_ok-found.found.0 c.in_ok-found.ensures.fits)
+
+pub returns-clause-held : goal.returns-clause-held
+returns-clause-held c = rw c.in_ok-shared.ensures.ok c.in_ok-found.ensures.held
 
 pub returns-clause-nodes : goal.returns-clause-nodes
 returns-clause-nodes c =
@@ -49,4 +71,4 @@ returns-clause-nodes c =
     let bare = type_view c.args.tagged.ty in
     let same = finished_nodes names tree bare (type_view c.in_ok-ty.ty)
     (type_filled names tree bare c.requires.ready.0 _ (rw c.deref.ensures at c.in_ok-ty.ensures.finished)) in
-    (c.requires.nodes ∙ ap (λ (n : ℕ). c.args.progress.now.nodes + n) (sym same), c.requires.few)
+    rw c.in_ok-shared.ensures.ok (c.requires.nodes ∙ ap (λ (n : ℕ). c.args.progress.now.nodes + n) (sym same), c.requires.few)

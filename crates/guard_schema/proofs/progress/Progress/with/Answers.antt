@@ -1,10 +1,13 @@
 use Rattle.std.proofs.Common.{◌≡◌, ◌∷◌, [], ◌++◌, ◌+◌, List, length, map, sym, ap, ◌∙◌, IsTrue}
+use Rattle.std.specs.Global.{Global}
+use Rattle.std.specs.declared.sync.Arc.{Arc}
+use Rattle.std.specs.Arc.{arc_value}
 use Rattle.std.specs.Prelude.{IfSome}
 use Rattle.std.proofs.lemmas.List.{length-append, map-append}
 use Rattle.std.proofs.lemmas.List.Elements.{All-same, All-append, All-cons, All-nil}
 use Rattle.guard_der.specs.Fits.{fits}
 use Rattle.guard_der.specs.Sound.{is_sound}
-use Rattle.guard_model.specs.TypeView.{type_view}
+use Rattle.guard_model.specs.TypeView.{shared_type_view}
 use Rattle.guard_model.specs.declared.ty.Ty.{Ty}
 use Rattle.guard_tagging.specs.Faults.{nodes}
 use Rattle.guard_tagging.specs.Surroundings.{nodes_of_all}
@@ -21,26 +24,26 @@ invariant_of-result c =
     let vs = c.args.self.known.values.items in
     let t = c.args.definition.ty in
     let v = c.args.definition.value in
-    let b = built_view t v in
+    let b = built_view (arc_value t) v in
     let types = c.in_ok-push.ensures.items in
     let values = c.in_ok-push-2.ensures.items in
     let all : paired c.push.new.self.items c.push-2.new.self.items ≡ paired ts vs ++ b ∷ [] =
-    ap (λ (xs : List Ty). paired xs c.push-2.new.self.items) types ∙ ap (paired (ts ++ t ∷ [])) values
+    ap (λ (xs : List (Arc Ty Global)). paired xs c.push-2.new.self.items) types ∙ ap (paired (ts ++ t ∷ [])) values
     ∙ paired_more ts vs t v c.args.self.even in
     record {
       even = ap length values ∙ length-append vs (v ∷ []) ∙ ap (λ n. n + 1) c.args.self.even
           ∙ sym (ap length types ∙ length-append ts (t ∷ []));
-      counted = c.requires.nodes ∙ ap (λ n. n + nodes (type_view t)) c.args.self.counted
-          ∙ sym (ap (λ (xs : List Ty). nodes_of_all (map type_view xs)) types
-          ∙ ap nodes_of_all (map-append type_view ts (t ∷ [])) ∙ nodes_more (map type_view ts) (type_view t));
+      counted = c.requires.nodes ∙ ap (λ n. n + nodes (shared_type_view t)) c.args.self.counted
+          ∙ sym (ap (λ (xs : List (Arc Ty Global)). nodes_of_all (map shared_type_view xs)) types
+          ∙ ap nodes_of_all (map-append shared_type_view ts (t ∷ [])) ∙ nodes_more (map shared_type_view ts) (shared_type_view t));
       few = c.requires.few;
       holding = c.requires.held ∙ ap (λ n. n + held_by b) c.args.self.holding
           ∙ sym (ap all_held all ∙ held_more (paired ts vs) b);
       little = c.requires.little;
-      sound = All-same (λ (u : Ty). IsTrue (is_sound (type_view u))) _ _ types
-          (All-append (λ (u : Ty). IsTrue (is_sound (type_view u))) ts (t ∷ []) c.args.self.sound
-          (All-cons (λ (u : Ty). IsTrue (is_sound (type_view u))) t [] c.requires.sound
-          (All-nil (λ (u : Ty). IsTrue (is_sound (type_view u))))));
+      sound = All-same (λ (u : Arc Ty Global). IsTrue (is_sound (shared_type_view u))) _ _ types
+          (All-append (λ (u : Arc Ty Global). IsTrue (is_sound (shared_type_view u))) ts (t ∷ []) c.args.self.sound
+          (All-cons (λ (u : Arc Ty Global). IsTrue (is_sound (shared_type_view u))) t [] c.requires.sound
+          (All-nil (λ (u : Arc Ty Global). IsTrue (is_sound (shared_type_view u))))));
       fitting = All-same (λ (x : Built). IfSome x.value (λ w. IsTrue (fits x.ty w))) _ _ all
           (All-append (λ (x : Built). IfSome x.value (λ w. IsTrue (fits x.ty w))) (paired ts vs)
           (b ∷ []) c.args.self.fitting (All-cons
@@ -51,6 +54,6 @@ invariant_of-result c =
 pub returns-clause-more : goal.returns-clause-more
 returns-clause-more c =
     let ts = c.args.self.known.types.items in
-    ap (λ (xs : List Ty). paired xs c.push-2.new.self.items) c.in_ok-push.ensures.items
+    ap (λ (xs : List (Arc Ty Global)). paired xs c.push-2.new.self.items) c.in_ok-push.ensures.items
     ∙ ap (paired (ts ++ c.args.definition.ty ∷ [])) c.in_ok-push-2.ensures.items
     ∙ paired_more ts c.args.self.known.values.items c.args.definition.ty c.args.definition.value c.args.self.even

@@ -187,7 +187,8 @@ fn some_entries<'a, 't>(
     ensures { Reads (each_view entry_view) result (tokens_reading.read_parted
         (reading.read_entry (reading.read_value levels)) (length (ahead at.entry)) (ahead at.entry)) }
 {
-    let mut all = Vec::new(alloc);
+    // Most lists in braces have one entry, and a first push would make room for four.
+    let mut all = Vec::with_capacity(alloc, 1)?;
     let mut rest = at;
     for _ in 0..at.len() {
         let (one, next) = entry(alloc, levels, rest)?;

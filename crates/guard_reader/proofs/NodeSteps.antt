@@ -185,9 +185,9 @@ pub list_judged : (t : Nodes) (k : ℕ) (h : Hot) → NodeAt t k h → h.kind �
 list_judged t k h n e os m = ap (λ (b : Body). contents_judged b os m) (body_of t k h n kind.List e) ∙ items_are (spot_at (spots_in t) h.first).plan os m
 
 pub simple_judged : (t : Nodes) (k : ℕ) (h : Hot) (c : Cold) (one : SimpleKind) → NodeAt t k h → h.kind ≡ kind.Simple one → k < vec_len t.hots → c ≡ get_or t.colds.items k c → (os : List ℕ) (m : Slots)
-    → contents_judged (body_at (spots_in t) k) os m ≡ contents_judged (simple (kind_view one c.items.items) (conditions_of c)) os m
+    → contents_judged (body_at (spots_in t) k) os m ≡ contents_judged (simple (kind_view one c.items) (conditions_of c)) os m
 simple_judged t k h c one n e lt is os m =
-    ap (λ (b : Body). contents_judged b os m) (body_of t k h n (kind.Simple one) e ∙ ap (λ (c : Cold). simple (kind_view one c.items.items) (conditions_of c)) (cold_at t k h c n lt is))
+    ap (λ (b : Body). contents_judged b os m) (body_of t k h n (kind.Simple one) e ∙ ap (λ (c : Cold). simple (kind_view one c.items) (conditions_of c)) (cold_at t k h c n lt is))
 
 series_are : (ps : Parts) (os : List ℕ) (m : Slots) → contents_judged (series ps) os m ≡ fields_judged ps os m
 unfolding contents_judged

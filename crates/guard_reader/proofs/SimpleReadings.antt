@@ -16,7 +16,7 @@ use Rattle.guard_der.specs.declared.breach.Code.{Code}
 use Rattle.guard_der.specs.declared.breach.Code.TheVariants as code
 use Rattle.guard_der.specs.Contents.{boolean_octet, character_octets}
 use Rattle.guard_der.specs.Der.{contents_octets}
-use Rattle.guard_der.specs.Fits.{is_item}
+use Rattle.guard_model.specs.NamedLists.{is_item}
 use Rattle.guard_der.specs.Octets.{signed_octets, twos_complement}
 use Rattle.guard_der.specs.Reading as read
 use Rattle.guard_der.specs.Reading.{contents_at, simple_at}

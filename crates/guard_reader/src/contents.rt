@@ -1,7 +1,6 @@
 //! Which contents octets are lawful for a simple kind.
 ghost use Rattle.std.specs.Prelude.{◌≡◌, ◌∷◌, map, pos, [], if◌then◌else◌};
 ghost use Rattle.std.specs.Option.{is_none};
-ghost use Rattle.guard_der.specs.Fits.{is_item};
 ghost use Rattle.guard_der.specs.Simple.{simple_fault, boolean_fault, integer_fault, null_fault, bits_fault};
 ghost use Rattle.guard_der.specs.Simple.{enumerated_fault, object_id_fault, is_text};
 ghost use Rattle.guard_tables.specs.NodeViews.{kind_view, unnamed};
@@ -12,10 +11,10 @@ use crate::texts::is_spelled_utf8;
 use guard_der::bits::{has_no_trailing_zero, has_proper_end, has_zero_end};
 use guard_der::integers::{fault_of_integer, twos_complement};
 use guard_model::CharKind;
-use guard_tables::SimpleKind;
+use guard_tables::{Items, SimpleKind};
 
 /// Whether contents octets are lawful for the kind; the items are those of an ENUMERATED.
-pub fn is_lawful(kind: SimpleKind, items: &[i128], inside: &[u8]) -> bool
+pub fn is_lawful(kind: SimpleKind, items: &Items, inside: &[u8]) -> bool
     ensures { result ≡ is_none (simple_fault (kind_view kind items.now) inside.now) }
 {
     match kind {
@@ -50,21 +49,10 @@ fn is_integer(inside: &[u8]) -> bool
 }
 
 /// Whether contents octets spell the number of an item of an ENUMERATED (X.690 8.4).
-fn is_enumerated(items: &[i128], inside: &[u8]) -> bool
+fn is_enumerated(items: &Items, inside: &[u8]) -> bool
     ensures { result ≡ is_none (enumerated_fault (map unnamed items.now) inside.now) }
 {
-    is_integer(inside) && is_item(twos_complement(inside), items)
-}
-
-fn is_item(number: i128, items: &[i128]) -> bool
-    ensures { result ≡ is_item number (map unnamed items.now) }
-{
-    for item in items {
-        if number == *item {
-            return true;
-        }
-    }
-    false
+    is_integer(inside) && items.has(twos_complement(inside))
 }
 
 /// Whether contents octets are those of a BIT STRING: the first octet is the count of unused bits, which are zero

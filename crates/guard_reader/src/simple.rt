@@ -27,7 +27,7 @@ use guard_der::integers::twos_complement;
 use guard_eval::are_permitted;
 use guard_integers::IntSet;
 use guard_model::CharKind;
-use guard_tables::{Cold, Condition, Conditions, SimpleKind, Slots, Test};
+use guard_tables::{Cold, Condition, Conditions, Items, SimpleKind, Slots, Test};
 
 /// Whether contents octets are lawful for a simple kind; the slots of what their value doesn't pass are added to those
 /// that fail.
@@ -35,7 +35,7 @@ use guard_tables::{Cold, Condition, Conditions, SimpleKind, Slots, Test};
 #[tactic(auto, unfolding(crate::specs::Judging::contents_judged))]
 pub fn simple(cold: &Cold, kind: SimpleKind, inside: &[u8], failed: &mut Slots) -> bool
     ensures { Answers result failed.new
-        (contents_judged (simple (kind_view kind cold.now.items.items) (conditions_of cold.now)) inside.now
+        (contents_judged (simple (kind_view kind cold.now.items) (conditions_of cold.now)) inside.now
         failed.old) }
 {
     if is_spelled_at_once(&cold.conditions.list, kind, inside) {
@@ -92,13 +92,7 @@ fn lies_in(ranges: &[(u32, u32)], kind: CharKind, inside: &[u8]) -> bool
 }
 
 /// Marks the slots of each condition that doesn't hold: at once, where all are on the number that the contents spell.
-fn mark(
-    conditions: &Conditions,
-    kind: SimpleKind,
-    items: &[i128],
-    inside: &[u8],
-    failed: &mut Slots,
-)
+fn mark(conditions: &Conditions, kind: SimpleKind, items: &Items, inside: &[u8], failed: &mut Slots)
     requires { is_none (simple_fault (kind_view kind items.now) inside.now) ≡ true }
     ensures { failed.new ≡ conditions_marked (map condition_view conditions.now.list.items)
         (facts (simple_value (kind_view kind items.now) inside.now) (Some inside.now)) failed.old }
@@ -124,7 +118,7 @@ fn failed_at(conditions: &Conditions, number: Option<i128>) -> Option<Slots>
 fn mark_each(
     conditions: &[Condition],
     kind: SimpleKind,
-    items: &[i128],
+    items: &Items,
     inside: &[u8],
     failed: &mut Slots,
 )
@@ -139,7 +133,7 @@ fn mark_each(
     }
 }
 
-fn passes(test: &Test, kind: SimpleKind, items: &[i128], inside: &[u8]) -> bool
+fn passes(test: &Test, kind: SimpleKind, items: &Items, inside: &[u8]) -> bool
     requires { is_none (simple_fault (kind_view kind items.now) inside.now) ≡ true }
     ensures { result ≡ test_passes (test_view test.now)
         (facts (simple_value (kind_view kind items.now) inside.now) (Some inside.now)) }
@@ -153,7 +147,7 @@ fn passes(test: &Test, kind: SimpleKind, items: &[i128], inside: &[u8]) -> bool
 }
 
 /// The number that the contents octets of an INTEGER or ENUMERATED spell; None of another kind.
-fn number_of(kind: SimpleKind, items: &[i128], inside: &[u8]) -> Option<i128>
+fn number_of(kind: SimpleKind, items: &Items, inside: &[u8]) -> Option<i128>
     requires { is_none (simple_fault (kind_view kind items.now) inside.now) ≡ true }
     ensures { result ≡ number_in (simple_value (kind_view kind items.now) inside.now) }
 {
@@ -171,7 +165,7 @@ fn number_of(kind: SimpleKind, items: &[i128], inside: &[u8]) -> Option<i128>
 }
 
 /// Whether the size in bits, octets or characters is one of the set (X.680 51.5); other kinds have none.
-fn is_sized(set: &IntSet, kind: SimpleKind, items: &[i128], inside: &[u8]) -> bool
+fn is_sized(set: &IntSet, kind: SimpleKind, items: &Items, inside: &[u8]) -> bool
     requires { is_none (simple_fault (kind_view kind items.now) inside.now) ≡ true }
     ensures { result ≡ some_passes (λ n. holds set.now (pos n))
         (size_of (simple_value (kind_view kind items.now) inside.now)) }
@@ -214,7 +208,7 @@ fn count(kind: CharKind, inside: &[u8]) -> usize
 }
 
 /// Whether all characters lie in one of the ranges; kinds without characters have none that doesn't.
-fn is_spelled(ranges: &[(u32, u32)], kind: SimpleKind, items: &[i128], inside: &[u8]) -> bool
+fn is_spelled(ranges: &[(u32, u32)], kind: SimpleKind, items: &Items, inside: &[u8]) -> bool
     requires { is_none (simple_fault (kind_view kind items.now) inside.now) ≡ true }
     ensures { result ≡ list_all (is_in_some ranges.now)
         (characters_in (simple_value (kind_view kind items.now) inside.now)) }

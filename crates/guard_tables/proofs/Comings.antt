@@ -189,15 +189,15 @@ pub group_stands : (g : Group) (tag : Option Tag) (ids : Identifiers) (first cou
 group_stands g tag ids first count c t spots = group_plan g ids first count c tag spots t
 
 pub simple_stands : (k : SimpleKind) (tag : Option Tag) (ids : Identifiers) (told : Bool) (c : Cold) → c.tag ≡ tag → (spots : List Spot)
-    → (spot_of (bare_hot (kind.Simple k) ids told 0 0) c spots).plan ≡ plan (own_tags tag) false (simple (kind_view k c.items.items) (map condition_view c.conditions.list.items))
+    → (spot_of (bare_hot (kind.Simple k) ids told 0 0) c spots).plan ≡ plan (own_tags tag) false (simple (kind_view k c.items) (map condition_view c.conditions.list.items))
 unfolding spot_of
 simple_stands k tag ids told c t spots = rw t refl
 
 pub simple_comes : (s : SimpleKind) (tag : Option Tag) (ids : Identifiers) → ids.own ≡ identifier_of (own_tags tag) false → ids.other ≡ other_of (own_tags tag) false → (told : Bool)
     → (c : Cold) → c.default ≡ None → c.present ≡ none → (told ≡ false → c.conditions.list.items ≡ []) → c.tag ≡ tag → (spots : List Spot) (k : ℕ)
-    → Comes (bare_hot (kind.Simple s) ids told 0 0) c spots k (plan (own_tags tag) false (simple (kind_view s c.items.items) (map condition_view c.conditions.list.items)))
+    → Comes (bare_hot (kind.Simple s) ids told 0 0) c spots k (plan (own_tags tag) false (simple (kind_view s c.items) (map condition_view c.conditions.list.items)))
 simple_comes s tag ids own other told c default present tells t spots k =
-    bare_comes (kind.Simple s) ids told 0 0 c spots k (plan (own_tags tag) false (simple (kind_view s c.items.items) (map condition_view c.conditions.list.items)))
+    bare_comes (kind.Simple s) ids told 0 0 c spots k (plan (own_tags tag) false (simple (kind_view s c.items) (map condition_view c.conditions.list.items)))
     (simple_stands s tag ids told c t spots) (omega arith) (omega arith) (λ e. absurd cc) own other default present tells
 
 -- ---- as a component
@@ -489,5 +489,5 @@ asked_cold c conditions = record { tag = c.tag; items = c.items; conditions = co
 abbrev pub implied_cold : Cold → Vec Implication Global → Cold
 implied_cold c implications = record { tag = c.tag; items = c.items; conditions = c.conditions; absent = c.absent; present = c.present; default = c.default; implications = implications }
 
-abbrev pub simple_cold : Cold → Option Tag → Vec ℤ Global → Conditions → Cold
+abbrev pub simple_cold : Cold → Option Tag → List ℤ → Conditions → Cold
 simple_cold c tag items conditions = record { tag = tag; items = items; conditions = conditions; absent = c.absent; present = c.present; default = c.default; implications = c.implications }

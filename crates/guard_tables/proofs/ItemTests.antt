@@ -8,22 +8,24 @@ use Rattle.std.proofs.lemmas.Bool.Decides.{Decides-int_eq}
 use Rattle.std.proofs.lemmas.Bool.{false≢true}
 use Rattle.std.proofs.Math.Bool.{or-true}
 use Rattle.std.proofs.lemmas.Int.{ints, to_z-of_z}
-use Rattle.std.specs.Arc.{arc_slice_items}
+use Rattle.std.specs.Arc.{arc_value}
 use Rattle.std.specs.Global.{Global}
-use Rattle.std.specs.declared.sync.ArcSlice.{ArcSlice}
+use Rattle.std.specs.declared.sync.Arc.{Arc}
 use Rattle.guard_integers.specs.Integers as integers
 use Rattle.guard_integers.specs.Integers.{Integers, some_holds}
 use Rattle.guard_model.specs.AbstractType as type
-use Rattle.guard_model.specs.AbstractType.{AbstractType, AbstractKind, Constraint, Element}
+use Rattle.guard_model.specs.AbstractType.{AbstractType, AbstractKind, Constraint, Element, NamedNumber}
 use Rattle.guard_model.specs.AbstractValue as value
 use Rattle.guard_model.specs.Limits.{fits_128_bits}
 use Rattle.guard_model.specs.TypeView.{OneComponent, OnePart, kind_view, named_view, kind_step, rule_step, comp_step, cons_step, part_step, ty_step}
-use Rattle.guard_model.specs.declared.ty.Kind.{Kind, Int}
+use Rattle.guard_model.specs.declared.ty.Kind.{Kind, Int, Enumerated}
 use Rattle.guard_model.specs.declared.ty.Kind.TheFolds.{fold-roll-Kind}
 use Rattle.guard_model.specs.declared.ty.Kind.TheOpen.{Kind-F}
-use Rattle.guard_model.specs.declared.ty.Kind.TheVariants.{rolls-Int}
+use Rattle.guard_model.specs.declared.ty.Kind.TheVariants.{rolls-Int, rolls-Enumerated}
 use Rattle.guard_model.specs.declared.ty.Named.{Named}
-use Rattle.guard_der.specs.Fits.{fits_kind, is_item}
+use Rattle.guard_der.specs.Fits.{fits_kind}
+use Rattle.guard_model.specs.NamedLists.{is_item}
+use Rattle.guard_tables.specs.NodeViews.{unnamed}
 use Rattle.guard_tables.proofs.WholeSets.{one_set_more}
 
 meets_ends : (n z : ℤ) → z ≡ n → (int_le n z && int_le z n) ≡ true
@@ -102,9 +104,21 @@ item_fits kind items i item lt is fit enumerated =
 
 -- ---- one level of what a kind stands for
 
-pub integer_view : (kind : Kind) (names : ArcSlice Named Global) → kind ≡ Int names
-    → kind_view kind ≡ type.integer (map named_view (arc_slice_items names))
+pub integer_view : (kind : Kind) (names : Arc (List NamedNumber) Global) → kind ≡ Int names
+    → kind_view kind ≡ type.integer (arc_value names)
 integer_view kind names is =
     ap kind_view is ∙ ap kind_view (sym (rolls-Int names))
     ∙ fold-roll-Kind AbstractKind Element OneComponent Constraint OnePart AbstractType kind_step rule_step
     comp_step cons_step part_step ty_step (Kind-F.Int names)
+
+pub enumerated_view : (names : Arc (List NamedNumber) Global) → kind_view (Enumerated names) ≡ type.enumerated (arc_value names)
+enumerated_view names = ap kind_view (sym (rolls-Enumerated names))
+    ∙ fold-roll-Kind AbstractKind Element OneComponent Constraint OnePart AbstractType kind_step rule_step
+    comp_step cons_step part_step ty_step (Kind-F.Enumerated names)
+
+-- ---- items as a node keeps them
+
+-- names don't count
+pub nameless_item : (z : ℤ) (names : List NamedNumber) → is_item z names ≡ is_item z (map unnamed (map (λ n. n.number) names))
+nameless_item z [] = refl
+nameless_item z (n ∷ names) = ap (λ (b : Bool). int_eq z n.number || b) (nameless_item z names)

@@ -12,7 +12,8 @@ use Rattle.guard_model.specs.Limits.{fits_128_bits}
 use Rattle.guard_model.specs.Same.{same, same_numbers}
 use Rattle.guard_tagcheck.specs.Search.{clash_of_kind}
 use Rattle.guard_der.specs.Der.{contents_octets}
-use Rattle.guard_der.specs.Fits.{fits_kind, is_item}
+use Rattle.guard_der.specs.Fits.{fits_kind}
+use Rattle.guard_model.specs.NamedLists.{is_item}
 use Rattle.guard_der.specs.Sound.{is_proper_kind}
 use Rattle.guard_eval.specs.Elements as elements
 use Rattle.guard_eval.specs.Elements.{size_of, has_size, is_in_some, is_spelled_in, has_each}

@@ -16,7 +16,8 @@ use Rattle.guard_model.specs.AbstractValue as value
 use Rattle.guard_der.specs.Octets.{twos_complement}
 use Rattle.guard_der.specs.declared.breach.Code.{Code}
 use Rattle.guard_der.specs.declared.breach.Code.TheVariants as code
-use Rattle.guard_der.specs.Fits.{is_item}
+use Rattle.guard_model.specs.NamedLists.{is_item, named_view}
+use Rattle.guard_model.specs.declared.ty.Named.{Named}
 use Rattle.guard_der.specs.Simple.{integer_fault, enumerated_fault}
 use Rattle.guard_tables.specs.declared.node.Hot.{Hot}
 use Rattle.guard_tables.specs.declared.node.Cold.{Cold}
@@ -41,7 +42,7 @@ passes_all z (c ∷ cs) os m h =
     ∙ passes_all z cs os m h.1
 
 body_is : (h : Hot) (c : Cold) (spots : List Spot) (k : SimpleKind) → h.kind ≡ Simple k
-    → body_in (spot_of h c spots).plan ≡ simple (kind_view k c.items.items) (conditions_of c)
+    → body_in (spot_of h c spots).plan ≡ simple (kind_view k c.items) (conditions_of c)
 unfolding spot_of
 body_is h c spots k e = ap (λ (k : Kind). body_of_kind k h c spots) e
 
@@ -76,25 +77,27 @@ known_number (Some c) b e is = absurd cc
 item_lawful : (items : List NamedNumber) (os : List ℕ) → integer_fault os ≡ None → is_item (twos_complement os) items ≡ true → enumerated_fault items os ≡ None
 item_lawful items os lawful item = known_number (integer_fault os) (is_item (twos_complement os) items) lawful item
 
-pub item_passed : (c : Cold) (os : List ℕ) → integer_fault os ≡ None → IsItemPassed (twos_complement os) c.items.items (conditions_of c) → IsPassed Enumerated c os
+pub item_passed : (c : Cold) (os : List ℕ) → integer_fault os ≡ None → IsItemPassed (twos_complement os) c.items (conditions_of c) → IsPassed Enumerated c os
 item_passed c os lawful passed = record {
-  lawful = item_lawful (map unnamed c.items.items) os lawful passed.0;
+  lawful = item_lawful (map unnamed c.items) os lawful passed.0;
   free = λ m. passes_all (twos_complement os) (conditions_of c) (Some os) m passed.1;
 }
 
-pub item_at : (items : List ℤ) (k : ℕ) (d : ℤ) → k < length items → is_item (get_or items k d) (map unnamed items) ≡ true
+pub item_at : (items : List Named) (k : ℕ) (d : Named) → k < length items → is_item (get_or items k d).number (map unnamed (map (λ n. n.number) (map named_view items))) ≡ true
 item_at [] k d lt = absurd (omega (arith, lt))
-item_at (n ∷ items) zero d lt = ap (λ (b : Bool). b || is_item n (map unnamed items)) ((Decides-int_eq n n).1 refl)
+item_at (n ∷ items) zero d lt = ap (λ (b : Bool). b || is_item n.number (map unnamed (map (λ n. n.number) (map named_view items)))) ((Decides-int_eq n.number n.number).1 refl)
 item_at (n ∷ items) (suc k) d lt =
-    ap (λ (b : Bool). int_eq (get_or items k d) n || b) (item_at items k d (omega (arith, lt))) ∙ or-true (int_eq (get_or items k d) n)
+    ap (λ (b : Bool). int_eq (get_or items k d).number n.number || b) (item_at items k d (omega (arith, lt))) ∙ or-true (int_eq (get_or items k d).number n.number)
 
--- the item at a place, as it is copied
-pub found_item : (items : List ℤ) (cs : List AbstractCondition) (k : ℕ) (d z : ℤ) → k < length items → SFits w128 (get_or items k d)
-    → (z ≡ to_z w128 (of_z w128 (get_or items k d))) × PassesAll (to_z w128 (of_z w128 (get_or items k d))) cs → IsItemPassed z items cs
-found_item items cs k d z lt fits p =
-    let same = to_z-of_z w128 (get_or items k d) fits in
-    let passes : PassesAll (get_or items k d) cs = subst (λ (n : ℤ). PassesAll n cs) same p.1 in
-    subst (λ (n : ℤ). IsItemPassed n items cs) (sym (p.0 ∙ same)) (item_at items k d lt, passes)
+-- the item at a place, whose number is copied
+pub found_item : (items : List Named) (cs : List AbstractCondition) (k : ℕ) (item : Named) (z : ℤ) → k < length items → item ≡ get_or items k item → SFits w128 item.number
+    → (z ≡ to_z w128 (of_z w128 item.number)) × PassesAll (to_z w128 (of_z w128 item.number)) cs → IsItemPassed z (map (λ n. n.number) (map named_view items)) cs
+found_item items cs k item z lt is fits p =
+    let same = to_z-of_z w128 item.number fits in
+    let passes : PassesAll item.number cs = subst (λ (n : ℤ). PassesAll n cs) same p.1 in
+    let there : is_item item.number (map unnamed (map (λ n. n.number) (map named_view items))) ≡ true =
+    ap (λ (n : Named). is_item n.number (map unnamed (map (λ n. n.number) (map named_view items)))) is ∙ item_at items k item lt in
+    subst (λ (n : ℤ). IsItemPassed n (map (λ n. n.number) (map named_view items)) cs) (sym (p.0 ∙ same)) (there, passes)
 
 -- ---- numbers in ranges
 

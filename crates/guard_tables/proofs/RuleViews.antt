@@ -19,7 +19,7 @@ use Rattle.guard_model.specs.declared.value.Value.{Value}
 pub view_one : (rule : Rule) (v : Arc Value Global) → rule ≡ One v → element_view rule ≡ type.single_value (value_view (arc_value v))
 view_one rule v is = ap element_view is ∙ ap element_view (sym (rolls-One v)) ∙ fold-roll-Rule AbstractKind Element OneComponent Constraint OnePart AbstractType kind_step rule_step comp_step cons_step part_step ty_step (Rule-F.One v)
 
-pub view_inside : (rule : Rule) (t : Box Ty) → rule ≡ Inside t → element_view rule ≡ type.contained_subtype (type_view t.value)
+pub view_inside : (rule : Rule) (t : Arc Ty Global) → rule ≡ Inside t → element_view rule ≡ type.contained_subtype (type_view (arc_value t))
 view_inside rule t is = ap element_view is ∙ ap element_view (sym (rolls-Inside t)) ∙ fold-roll-Rule AbstractKind Element OneComponent Constraint OnePart AbstractType kind_step rule_step comp_step cons_step part_step ty_step (Rule-F.Inside t)
 
 pub view_range : (rule : Rule) (low high : Limit) → rule ≡ Range low high → element_view rule ≡ type.range low high

@@ -11,7 +11,7 @@ use Rattle.guard_model.specs.SameBase.{bare_names}
 use Rattle.guard_der.specs.Contents.{boolean_octet}
 use Rattle.guard_der.specs.Der.{is_constructed, contents_octets}
 use Rattle.guard_der.specs.Element.{tagged}
-use Rattle.guard_der.specs.Fits.{is_item}
+use Rattle.guard_model.specs.NamedLists.{is_item}
 use Rattle.guard_eval.specs.Elements.{is_in_some}
 use Rattle.guard_eval.specs.Member.{holds}
 use Rattle.guard_tables.specs.declared.slots.Slots.{Slots}

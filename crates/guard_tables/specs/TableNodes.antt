@@ -49,7 +49,7 @@ abbrev pub conditions_of : Cold → List AbstractCondition
 conditions_of c = map condition_view c.conditions.list.items
 
 abbrev pub body_of_kind : Kind → Hot → Cold → List Spot → Body
-body_of_kind (kind.Simple k) h c spots = simple (kind_view k c.items.items) (conditions_of c)
+body_of_kind (kind.Simple k) h c spots = simple (kind_view k c.items) (conditions_of c)
 body_of_kind kind.Series h c spots = series (parts_between spots h.first h.count)
 body_of_kind kind.Set h c spots = set (parts_between spots h.first h.count)
 body_of_kind kind.Choice h c spots = choice (parts_between spots h.first h.count)

@@ -8,6 +8,7 @@ pub mod Counting
 pub mod Search
 pub mod SideViews
 pub mod SlotWords
+pub mod Items
 pub mod Intervals
 pub mod Aside
 pub mod Bare

@@ -9,7 +9,8 @@ ghost use Rattle.guard_model.specs.Limits.{fits_128_bits};
 ghost use Rattle.guard_model.specs.TypeView.{kind_view, named_view, constraint_view};
 ghost use Rattle.guard_model.specs.ValueView.{value_view};
 ghost use Rattle.guard_der.specs.Der.{contents_octets};
-ghost use Rattle.guard_der.specs.Fits.{fits_kind, is_item};
+ghost use Rattle.guard_der.specs.Fits.{fits_kind};
+ghost use Rattle.guard_model.specs.NamedLists.{is_item};
 ghost use Rattle.guard_eval.specs.Member.{holds};
 ghost use Rattle.guard_tables.specs.Apt.{IsApt, Speaks, AllSpeak};
 ghost use Rattle.guard_tables.specs.Demands.{by_constraint};
@@ -125,7 +126,10 @@ fn scalar_test(
     match kind {
         Kind::Bool => truth_test(alloc, kind, own, constraint),
         Kind::Int(_) => Ok(Some(number_test(alloc, constraint)?)),
-        Kind::Enumerated(items) => Ok(Some(item_test(alloc, kind, items, own, constraint)?)),
+        Kind::Enumerated(items) => {
+            let items = items.as_slice();
+            Ok(Some(item_test(alloc, kind, items, own, constraint)?))
+        }
         Kind::Null if is_met(Demand::Constraint(own, constraint), kind, &Value::Null) => Ok(None),
         Kind::Null => Ok(Some(no_value(alloc))),
         _ => Ok(None),

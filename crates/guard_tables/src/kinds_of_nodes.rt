@@ -1,14 +1,13 @@
 //! What a node keeps of a simple kind.
-ghost use Rattle.std.specs.Prelude.{◌≡◌, IfOk, map, false};
+ghost use Rattle.std.specs.Prelude.{◌≡◌, false};
 ghost use Rattle.guard_der.specs.Der as der;
-ghost use Rattle.guard_model.specs.TypeView.{kind_view, named_view};
+ghost use Rattle.guard_model.specs.TypeView.{kind_view};
 ghost use Rattle.guard_tables.specs.Lay.{nameless};
 ghost use Rattle.guard_tables.specs.NodeViews as views;
 ghost use Rattle.guard_tables.specs.inside.Assembled.{item_numbers};
 
 use crate::node::SimpleKind;
-use guard_model::{Kind, Named, OutOfMemory};
-use std::alloc::Global;
+use guard_model::Kind;
 
 /// The kind of node for a kind that has no parts.
 pub(crate) fn simple_kind(kind: &Kind) -> SimpleKind
@@ -27,24 +26,4 @@ pub(crate) fn simple_kind(kind: &Kind) -> SimpleKind
         // NULL alone is left
         _ => SimpleKind::Null,
     }
-}
-
-/// The numbers of the items of an ENUMERATED; none of another kind.
-pub(crate) fn item_numbers(alloc: Global, kind: &Kind) -> Result<Vec<i128>, OutOfMemory>
-    ensures { IfOk result (λ numbers. numbers.items ≡ item_numbers (kind_view kind.now)) }
-{
-    match kind {
-        Kind::Enumerated(items) => numbers_of(alloc, items),
-        _ => Ok(Vec::new(alloc)),
-    }
-}
-
-fn numbers_of(alloc: Global, items: &[Named]) -> Result<Vec<i128>, OutOfMemory>
-    ensures { IfOk result (λ numbers. numbers.items ≡ map (λ n. n.number) (map named_view items.now)) }
-{
-    let mut numbers = Vec::new(alloc);
-    for item in items {
-        numbers.push(item.number)?;
-    }
-    Ok(numbers)
 }

@@ -34,7 +34,8 @@ use crate::conditions_list::Conditions;
 use crate::demands::{SlotDemand, Term};
 use crate::demands_at_node::forms_of;
 use crate::demands_of_parts::{PartDemands, demands_of_parts, each_of};
-use crate::kinds_of_nodes::{item_numbers, simple_kind};
+use crate::items::Items;
+use crate::kinds_of_nodes::simple_kind;
 use crate::new_nodes::{Elements, Group, simple_node};
 use crate::node_list::{Builder, Nodes};
 use crate::sides::{PartSide, side_chosen, side_for};
@@ -162,7 +163,7 @@ fn lay_simple(
     ensures { IfOk result (λ l. Lays builder l (plans.plan (own_tags tag) false
         (plans.simple (plan.nameless (kind_view kind.now)) (map condition_view conditions.list.items)))) }
 {
-    let items = item_numbers(alloc, kind)?;
+    let items = Items::of(kind)?;
     let node = simple_node(alloc, simple_kind(kind), items, conditions, tag);
     Ok(Assembled { builder, node })
 }

@@ -33,6 +33,7 @@
 //! | Which numbers does a constraint have? | `number_sets.rt` | `NumberSets.antt` |
 //! | Which sizes and characters? | `simple_tests.rt` | `Lay.antt` |
 //! | How are permitted characters kept? | `alphabet.rt` | `Alphabets.antt` |
+//! | And the items of an ENUMERATED? | `items.rt` | `Items.antt` |
 //!
 //! The definitions are in `specs/`; what only private contracts cite is in `specs/inside/`.
 #![tactic(auto)]
@@ -52,6 +53,7 @@ mod fault;
 mod form_trees;
 mod formulas;
 mod identifiers;
+mod items;
 mod kept_types;
 mod kinds_of_nodes;
 pub mod laws;
@@ -76,6 +78,7 @@ pub use conditions::conditions_at;
 pub use conditions_list::Conditions;
 pub use demands::Demand;
 pub use fault::TableFault;
+pub use items::Items;
 pub use node::{Cold, Condition, Form, Hot, Implication, Kind, Need, SimpleKind, Test};
 pub use node_list::Nodes;
 pub use nodes::crowded_node;

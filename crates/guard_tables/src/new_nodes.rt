@@ -14,6 +14,7 @@ ghost use Rattle.guard_tables.specs.inside.SideViews.{part_side_view};
 
 use crate::conditions_list::Conditions;
 use crate::identifiers::{Identifiers, identifiers_of};
+use crate::items::Items;
 use crate::node::{Cold, Hot, Kind, Need, SimpleKind};
 use crate::plain_interval::{Interval, plain_interval};
 use crate::sides::PartSide;
@@ -105,7 +106,7 @@ pub(crate) fn bare(
         },
         cold: Cold {
             tag: None,
-            items: Vec::new(alloc),
+            items: Items::none(),
             conditions: Conditions::none(alloc),
             absent: Slots::none(),
             present: Slots::none(),
@@ -119,14 +120,14 @@ pub(crate) fn bare(
 pub(crate) fn simple_node(
     alloc: Global,
     kind: SimpleKind,
-    items: Vec<i128>,
+    items: Items,
     conditions: Conditions,
     tag: Option<Tag>,
 ) -> Node
     ensures node { (spots : List Spot) (k : ℕ) → IsNode result.hot result.cold spots k }
     ensures plan { (spots : List Spot) → (spot_of result.hot result.cold spots).plan
         ≡ plans.plan (own_tags tag) false
-        (plans.simple (views.kind_view kind items.items) (map condition_view conditions.list.items)) }
+        (plans.simple (views.kind_view kind items) (map condition_view conditions.list.items)) }
 {
     with_plain(asking_node(alloc, kind, items, conditions, tag))
 }
@@ -135,14 +136,14 @@ pub(crate) fn simple_node(
 fn asking_node(
     alloc: Global,
     kind: SimpleKind,
-    items: Vec<i128>,
+    items: Items,
     conditions: Conditions,
     tag: Option<Tag>,
 ) -> Node
     ensures node { (spots : List Spot) (k : ℕ) → IsNode result.hot result.cold spots k }
     ensures plan { (spots : List Spot) → (spot_of result.hot result.cold spots).plan
         ≡ plans.plan (own_tags tag) false
-        (plans.simple (views.kind_view kind items.items) (map condition_view conditions.list.items)) }
+        (plans.simple (views.kind_view kind items) (map condition_view conditions.list.items)) }
 {
     let asked = !conditions.list.is_empty();
     let mut node = bare(

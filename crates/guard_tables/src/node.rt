@@ -1,6 +1,7 @@
 //! The nodes of a table: what every message reads of one, and what few do.
 use crate::alphabet::Alphabet;
 use crate::conditions_list::Conditions;
+use crate::items::Items;
 use crate::slots::Slots;
 use guard_integers::IntSet;
 use guard_model::{CharKind, Tag};
@@ -89,8 +90,8 @@ pub struct Cold {
     /// The node's outermost tag; None for a CHOICE without a tag, and for a node that is in front of another one and is
     /// no wrapper.
     pub tag: Option<Tag>,
-    /// The numbers of the items of an ENUMERATED.
-    pub items: Vec<i128>,
+    /// The items of an ENUMERATED.
+    pub items: Items,
     pub conditions: Conditions,
     /// The slots that fail where the component isn't there.
     pub absent: Slots,

@@ -1,6 +1,7 @@
 //! Numbers whose contents octets fail nothing at a node.
 ghost use Rattle.std.specs.Prelude.{◌≡◌, ◌≤ℤ◌, ◌⊎◌, ℕ, ℤ, List, None, true, map, int_lt, IsTrue};
 ghost use Rattle.guard_integers.specs.Integers.{holds};
+ghost use Rattle.guard_model.specs.NamedLists.{named_view};
 ghost use Rattle.guard_der.specs.Octets.{twos_complement};
 ghost use Rattle.guard_der.specs.Simple.{integer_fault};
 ghost use Rattle.guard_tables.specs.NodeViews.{test_view, condition_view};
@@ -11,6 +12,7 @@ ghost use Rattle.guard_tables.specs.inside.Intervals.{IsWithin, PassesTest, Pass
 use crate::node::{Cold, Condition, Hot, Kind, SimpleKind, Test};
 use crate::slots::Slots;
 use guard_integers::IntSet;
+use guard_model::Named;
 
 /// So many runs of a set's numbers are looked at, from the first on.
 const MOST_RUNS: usize = 1024;
@@ -65,7 +67,7 @@ fn numbers_passed(kind: SimpleKind, cold: &Cold) -> Interval
 {
     match kind {
         SimpleKind::Integer => passed_by_all(&cold.conditions.list),
-        SimpleKind::Enumerated => longest_run(&cold.items, &cold.conditions.list),
+        SimpleKind::Enumerated => longest_run(cold.items.as_slice(), &cold.conditions.list),
         _ => Interval::empty(),
     }
 }
@@ -162,13 +164,14 @@ fn rest_after(numbers: Interval, run: Interval) -> Interval
 // ---- of ENUMERATED
 
 /// The longest run of items with consecutive numbers, in the order in which they are written, all of which pass.
-fn longest_run(items: &[i128], conditions: &[Condition]) -> Interval
-    ensures { (z : ℤ) → IsWithin result z → IsItemPassed z items.now (map condition_view conditions.now) }
+fn longest_run(items: &[Named], conditions: &[Condition]) -> Interval
+    ensures { (z : ℤ) → IsWithin result z → IsItemPassed z (map (λ n. n.number) (map named_view items.now))
+        (map condition_view conditions.now) }
 {
     let mut longest = Interval::empty();
     let mut run = Interval::empty();
     for item in items {
-        run = run_with(run, *item, conditions);
+        run = run_with(run, item.number, conditions);
         if run.width() > longest.width() {
             longest = run;
         }

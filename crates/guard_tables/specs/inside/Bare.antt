@@ -72,7 +72,7 @@ told_hot h ascending = record {
 
 pub record IsBare (c : Cold) : Type 0 where
   pub tag : c.tag ≡ None
-  pub items : c.items.items ≡ []
+  pub items : c.items ≡ []
   pub conditions : c.conditions.list.items ≡ []
   pub present : c.present ≡ none
   pub default : c.default ≡ None

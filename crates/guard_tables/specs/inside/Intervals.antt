@@ -1,7 +1,7 @@
 -- Numbers that pass tests, as private contracts cite them.
 use Rattle.std.specs.Prelude.{ℕ, ℤ, ◌≤ℤ◌, ◌≡◌, true, List, [], ◌∷◌, map, Option, Some, None, ⊤}
 use Rattle.guard_model.specs.AbstractValue as value
-use Rattle.guard_der.specs.Fits.{is_item}
+use Rattle.guard_model.specs.NamedLists.{is_item}
 use Rattle.guard_der.specs.Simple.{simple_fault, simple_value}
 use Rattle.guard_tables.specs.declared.node.Cold.{Cold}
 use Rattle.guard_tables.specs.declared.node.SimpleKind.{SimpleKind}
@@ -29,6 +29,6 @@ IsItemPassed z items cs = (is_item z (map unnamed items) ≡ true) × PassesAll 
 
 -- contents octets that are lawful for the kind and fail nothing
 pub record IsPassed (kind : SimpleKind) (c : Cold) (os : List ℕ) : Type 0 where
-  pub lawful : simple_fault (kind_view kind c.items.items) os ≡ None
+  pub lawful : simple_fault (kind_view kind c.items) os ≡ None
   pub free : (m : Slots)
-      → conditions_marked (conditions_of c) (facts (simple_value (kind_view kind c.items.items) os) (Some os)) m ≡ m
+      → conditions_marked (conditions_of c) (facts (simple_value (kind_view kind c.items) os) (Some os)) m ≡ m

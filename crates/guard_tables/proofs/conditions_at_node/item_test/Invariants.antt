@@ -4,7 +4,7 @@ use Rattle.guard_integers.specs.Integers.{some_holds}
 use Rattle.guard_model.specs.AbstractValue as abstract
 use Rattle.guard_model.specs.Limits.{fits_128_bits}
 use Rattle.guard_model.specs.TypeView.{kind_view, named_view, constraint_view}
-use Rattle.guard_der.specs.Fits.{is_item}
+use Rattle.guard_model.specs.NamedLists.{is_item}
 use Rattle.guard_eval.specs.Member.{holds}
 use Rattle.guard_tables.proofs.conditions_at_node.item_test.Given as goal
 

@@ -17,6 +17,6 @@ returns-in-Integer c = λ os lawful within.
 pub returns-in-Enumerated : goal.returns-in-Enumerated
 returns-in-Enumerated c = λ os lawful within.
     let z = twos_complement os in
-    let found : IsItemPassed z c.args.cold.now.items.items (map condition_view c.args.cold.now.conditions.list.items) =
-    rw (sym c.deref-in-Enumerated.ensures.value, sym c.deref-in-Enumerated-2.ensures.value) (c.longest_run.ensures z within) in
+    let found : IsItemPassed z c.args.cold.now.items (map condition_view c.args.cold.now.conditions.list.items) =
+    rw (sym c.as_slice.ensures, sym c.deref-in-Enumerated.ensures.value) (c.longest_run.ensures z within) in
     subst (λ (k : SimpleKind). IsPassed k c.args.cold.now os) (sym c.in-Enumerated.is) (item_passed c.args.cold.now os lawful found)

@@ -79,12 +79,15 @@ decides_longer d n m s rest more a x long =
     }
 
 -- where they go on with a length that no frame may have, so does the stream
-pub too_long_now : (d : Decision) (n : Totals) (w : Whole) (h p now : List ℕ) (used : ℕ) (a : Added) → now ≡ h ++ take used p →
-    ArePut d n now w a → w.rest ≡ TooLong → DecidesUntilTooLong d n (h ++ p) w.totals a
-too_long_now d n w h p now used a e x is =
+pub too_long_now : (d : Decision) (n : Totals) (w : Whole) (h p now : List ℕ) (used size : ℕ) (a : Added) → now ≡ h ++ take used p →
+    ArePut d n now w a → w.rest ≡ TooLong → size ≡ stated_length (drop w.end now) → Puts d n (h ++ p) now w.totals (Err (FrameTooLong size)) a
+unfolding decides_longer
+too_long_now d n w h p now used size a e x is stated =
     let long : IsTooLong (drop w.end now) = subst (IsRest (drop w.end now)) is x.next in
-    subst (λ (s : List ℕ). DecidesUntilTooLong d n s w.totals a) (sym (held_splits h p now used e))
-    (decides_longer d n w.totals now (drop w.end now) (drop used p) a x.decided long)
+    subst (λ (s : List ℕ). Puts d n s now w.totals (Err (FrameTooLong size)) a) (sym (held_splits h p now used e)) (
+      decides_longer d n w.totals now (drop w.end now) (drop used p) a x.decided long,
+      stated ∙ sym (stated_length-append (drop w.end now) (drop used p) long.header),
+    )
 
 breaks_longer : (d : Decision) (n : ℕ) (s more : List ℕ) (a : Added) → BreaksOff (λ _. d) n s a → BreaksOff (λ _. d) n (s ++ more) a
 breaks_longer d n s more a z = record {
@@ -152,11 +155,11 @@ runs_all d read rest m a Last x last = record { outcomes = x.outcomes; rest = re
 pub runs_closed : (d : Decision) (m : Totals) (read held : List ℕ) (closing : Closing) (a : Added) (Ended : Type 0) →
     ((rest : List ℕ) (frames : List (List ℕ)) → ConsistsOf read frames rest → IsTooLong rest → length rest < 4 + 65536) →
     Puts d no_frames read held m (Err closing) a → Runs d read Ended (Err (run_fault closing)) a
-runs_closed d m read held FrameTooLong a Ended soon h =
-    runs_all d read h.rest m a IsFoundTooLong h.decided
-    (record { too_long = h.too_long; at_once = soon h.rest (frames_of h.decided.outcomes) h.decided.split h.too_long })
+runs_closed d m read held (FrameTooLong size) a Ended soon h =
+    runs_all d read h.0.rest m a IsFoundTooLong h.0.decided
+    (record { too_long = h.0.too_long; at_once = soon h.0.rest (frames_of h.0.decided.outcomes) h.0.decided.split h.0.too_long })
 runs_closed d m read held WriteFailed a Ended soon h = h
-runs_closed d m read held TornFrame a Ended soon h = absurd h
+runs_closed d m read held (TornFrame count) a Ended soon h = absurd h
 
 -- ---- a length that no frame may have is found as soon as it is there
 

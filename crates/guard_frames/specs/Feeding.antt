@@ -5,7 +5,7 @@ use Rattle.guard_frames.specs.Added.{Added}
 use Rattle.guard_frames.specs.LinkView.{AbstractLink, IsShut}
 use Rattle.guard_frames.specs.declared.link.LinkFault.{LinkFault}
 use Rattle.guard_frames.specs.declared.link.LinkFault.TheVariants.{FrameTooLong, WriteFailed, Closed, TornFrame}
-use Rattle.guard_frames.specs.Frames.{IsUnfinished, IsTooLong, ConsistsOf}
+use Rattle.guard_frames.specs.Frames.{stated_length, IsUnfinished, IsTooLong, ConsistsOf}
 use Rattle.guard_frames.specs.Totals.{next_number, counted}
 use Rattle.guard_frames.specs.Outcomes.{Decision, Outcome, frames_of}
 use Rattle.guard_frames.specs.Guarding.{text_out, AllAdd, BreaksOff}
@@ -25,11 +25,13 @@ pub record DecidesUntilTooLong (d : Decision) (n : Totals) (stream : List ℕ) (
   pub too_long : IsTooLong rest
 
 -- What an open link does with the stream that it has come to, by its answer; n are the totals before that stream. After
--- a fault it takes no more and holds nothing.
+-- a fault it takes no more and holds nothing, and of a length that no frame may have it keeps which one that is.
 abbrev pub Takes : Decision → Totals → List ℕ → AbstractLink → Result (Unit {0}) LinkFault → Added → Type 0
 Takes d n stream new (Ok done) added =
-    Decides d n stream new.held new.totals added × IsUnfinished new.held × (new.closed ≡ false)
-Takes d n stream new (Err FrameTooLong) added = DecidesUntilTooLong d n stream new.totals added × IsShut new
-Takes d n stream new (Err WriteFailed) added = BreaksOff (λ _. d) (next_number n) stream added × IsShut new
+    Decides d n stream new.held new.totals added × IsUnfinished new.held × (new.closed ≡ false) × (new.left ≡ 0)
+Takes d n stream new (Err FrameTooLong) added =
+    (x : DecidesUntilTooLong d n stream new.totals added) × IsShut new × (new.left ≡ stated_length x.rest)
+Takes d n stream new (Err WriteFailed) added =
+    BreaksOff (λ _. d) (next_number n) stream added × IsShut new × (new.left ≡ 0)
 Takes d n stream new (Err Closed) added = ⊥
 Takes d n stream new (Err TornFrame) added = ⊥

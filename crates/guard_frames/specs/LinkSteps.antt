@@ -19,13 +19,15 @@ Fed d l octets answer new added =
     (Refuses l answer new × (added ≡ nothing))
     ⊎ ((l.closed ≡ false) × Takes d l.totals (l.held ++ octets) new answer added)
 
--- The end of an open link's stream closes it. It is torn where a frame had begun.
+-- The end of an open link's stream closes it. It is torn where a frame had begun, and how many octets of that there were
+-- is kept.
 pub record Closes (l : AbstractLink) (answer : Result (Unit {0}) LinkFault) (new : AbstractLink) : Type 0 where
   pub open_before : l.closed ≡ false
   pub torn : 0 < length l.held → answer ≡ Err TornFrame
   pub whole : l.held ≡ [] → answer ≡ Ok tt
   pub shut : IsShut new
   pub totals : new.totals ≡ l.totals
+  pub left : new.left ≡ length l.held
 
 -- what the end of its stream does to a link
 abbrev pub Ended : AbstractLink → Result (Unit {0}) LinkFault → AbstractLink → Type 0

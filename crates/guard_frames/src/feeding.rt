@@ -7,7 +7,7 @@ ghost use Rattle.guard_frames.specs.Calls.{AsksLines};
 ghost use Rattle.guard_frames.specs.inside.Closing.{Puts};
 ghost use Rattle.guard_frames.specs.declared.link.Closing.TheVariants.{WriteFailed};
 
-use crate::cut::Rest;
+use crate::cut::{Rest, body_length};
 use crate::decision::Decide;
 use crate::devices::Sink;
 use crate::filling::complete;
@@ -17,12 +17,12 @@ use crate::totals::Totals;
 use std::alloc::Global;
 
 impl Link {
-    ghost use Rattle.std.specs.Prelude.{◌≡◌, ◌⊎◌, true, false, ◌++◌, Err, IsErrOf, OnOk, OnErr};
+    ghost use Rattle.std.specs.Prelude.{◌≡◌, ◌⊎◌, true, false, ◌++◌, Err, IfErr, IsErrOf, OnOk, OnErr};
     ghost use Rattle.guard_frames.specs.LinkView.{link_view, IsShut};
     ghost use Rattle.guard_frames.specs.Added.{Added, BothAppend};
     ghost use Rattle.guard_frames.specs.Calls.{AsksLines};
     ghost use Rattle.guard_frames.specs.Feeding.{Takes};
-    ghost use Rattle.guard_frames.specs.inside.Closing.{Puts};
+    ghost use Rattle.guard_frames.specs.inside.Closing.{Puts, left_by};
     ghost use Rattle.guard_frames.specs.declared.link.LinkFault.TheVariants.{Closed, WriteFailed};
     ghost use Rattle.guard_frames.specs.declared.link.Closing.TheVariants as closing;
 
@@ -73,6 +73,7 @@ impl Link {
             × BothAppend (O.taken out.old, O.taken out.new) (R.taken reports.old, R.taken reports.new) added }
         ensures open { OnOk result (self.new.closed ≡ false) }
         ensures closes { OnErr result (IsShut (link_view self.new)) }
+        ensures left { IfErr result (λ c. self.new.left ≡ left_by c) }
         ensures failed { IsErrOf result closing.WriteFailed →
             (O.has_failed out.new ≡ true) ⊎ (R.has_failed reports.new ≡ true) }
         ensures lines { AsksLines (R.asked reports.old) (R.asked reports.new) }
@@ -82,6 +83,7 @@ impl Link {
             Ok(()) => Ok(()),
             Err(closing) => {
                 close(&mut self.held, &mut self.closed);
+                self.left = closing.left();
                 Err(closing)
             }
         }
@@ -116,7 +118,7 @@ fn put_piece<D: Decide, O: Sink, R: Sink>(
     };
     *totals = whole.totals;
     if let Rest::TooLong = whole.rest {
-        return Err(Closing::FrameTooLong);
+        return Err(Closing::FrameTooLong(body_length(&held[whole.end..])));
     }
     if whole.end == 0 {
         return Ok(());
@@ -149,7 +151,7 @@ fn put_rest<D: Decide, O: Sink, R: Sink>(
     };
     *totals = whole.totals;
     match whole.rest {
-        Rest::TooLong => Err(Closing::FrameTooLong),
+        Rest::TooLong => Err(Closing::FrameTooLong(body_length(&piece[whole.end..]))),
         Rest::Unfinished => {
             hold(held, &piece[whole.end..]);
             Ok(())

@@ -2,14 +2,14 @@
 
 ghost use Rattle.std.specs.Prelude.{◌≡◌, ◌≤◌, length, replicate, slice_get, IfOk, IfErr};
 ghost use Rattle.std.specs.Borrow.{sem};
-ghost use Rattle.std.specs.Option.{option_copied_mut};
+ghost use Rattle.std.specs.Option.{option_copied_mut, option_map};
 ghost use Rattle.guard_frames.specs.Lending.{lends_ends};
 ghost use Rattle.guard_frames.specs.GatewayView.{gateway_view, gateway_ends, IsStepOf};
-ghost use Rattle.guard_frames.specs.LinkView.{new_link};
+ghost use Rattle.guard_frames.specs.LinkView.{link_view, new_link};
 ghost use Rattle.guard_policy.specs.PolicyView.{policy_view};
 
 use crate::devices::Sink;
-use crate::link::LinkFault;
+use crate::link::{Link, LinkFault};
 use crate::seats::{Ends, Seat, end_at, feed_at, new_links, seated};
 use guard_policy::Policy;
 use std::alloc::Global;
@@ -104,6 +104,16 @@ impl<S: Sink> Gateway<S> {
                 self.policy = policy;
                 Ok(())
             }
+        }
+    }
+
+    /// The link of this number, from 0, which tells how many frames there were; None where there is no such link.
+    pub fn link(&self, link: u16) -> Option<&Link>
+        ensures { option_map (λ x. link_view x.now) result ≡ slice_get (gateway_view self.now).links link }
+    {
+        match self.seats.get(link as usize) {
+            Some(seat) => Some(&seat.link),
+            None => None,
         }
     }
 

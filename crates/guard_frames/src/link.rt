@@ -2,7 +2,7 @@
 
 ghost use Rattle.guard_frames.specs.Frames.{IsUnfinished};
 ghost use Rattle.std.proofs.Props.{props};
-ghost use Rattle.std.specs.Prelude.{◌≡◌, ◌≤◌, [], true, vec_capacity};
+ghost use Rattle.std.specs.Prelude.{◌≡◌, ◌≤◌, [], true, false, vec_capacity};
 
 use crate::filling::LONGEST_FRAME;
 use crate::totals::Totals;
@@ -44,9 +44,27 @@ impl LinkFault {
 /// What closes an open link.
 #[derive(Clone, Copy, Debug, PartialEq, Eq)]
 pub(crate) enum Closing {
-    FrameTooLong,
+    /// A length that no frame may have: this one.
+    FrameTooLong(usize),
     WriteFailed,
-    TornFrame,
+    /// The end, after so many octets of a frame.
+    TornFrame(usize),
+}
+
+impl Closing {
+    ghost use Rattle.std.specs.Prelude.{◌≡◌};
+    ghost use Rattle.guard_frames.specs.inside.Closing.{left_by};
+
+    /// What it leaves of the frame behind the last whole one.
+    pub(crate) fn left(self) -> usize
+        ensures { result ≡ left_by self }
+    {
+        match self {
+            Closing::FrameTooLong(size) => size,
+            Closing::WriteFailed => 0,
+            Closing::TornFrame(count) => count,
+        }
+    }
 }
 
 impl From<Closing> for LinkFault {
@@ -56,23 +74,27 @@ impl From<Closing> for LinkFault {
 
     fn from(closing: Closing) -> LinkFault {
         match closing {
-            Closing::FrameTooLong => LinkFault::FrameTooLong,
+            Closing::FrameTooLong(_) => LinkFault::FrameTooLong,
             Closing::WriteFailed => LinkFault::WriteFailed,
-            Closing::TornFrame => LinkFault::TornFrame,
+            Closing::TornFrame(_) => LinkFault::TornFrame,
         }
     }
 }
 
 /// A link, which cuts one stream into frames. A link holds the octets of the frame that has begun and isn't whole yet,
-/// and nothing once it is closed; room for the longest frame is reserved once.
+/// and nothing once it is closed; room for the longest frame is reserved once. Of the frame at which a fault closed it
+/// it keeps one number.
 #[derive(Drop)]
 pub struct Link {
     pub(crate) held: Vec<u8>,
     pub(crate) totals: Totals,
     pub(crate) closed: bool,
+    /// What a fault left of the frame behind the last whole one.
+    pub(crate) left: usize,
     pub(crate) ghost room: { 1048580 ≤ vec_capacity held },
     pub(crate) ghost unfinished: { IsUnfinished held.items },
     pub(crate) ghost shut: { closed ≡ true → held.items ≡ [] } by { Prim.hlevel props },
+    pub(crate) ghost no_fault: { closed ≡ false → left ≡ 0 } by { Prim.hlevel props },
 }
 
 impl Link {
@@ -92,6 +114,7 @@ impl Link {
             held,
             totals: Totals::none(),
             closed: false,
+            left: 0,
         })
     }
 
@@ -102,6 +125,23 @@ impl Link {
         ensures unfinished { IsUnfinished (link_view self.now).held }
     {
         self.held.len()
+    }
+
+    /// How many frames there were, also once the link is closed: a frame that is too long or torn has the next number.
+    /// Where a sink has failed, some of the last piece may not be counted.
+    pub fn totals(&self) -> Totals
+        ensures { result ≡ (link_view self.now).totals }
+    {
+        self.totals
+    }
+
+    /// What the fault that closed the link left of the frame behind the last whole one: where that is too long, the
+    /// length that it states, above 1,048,576; where it is torn, how many octets of it there were, 1 to 1,048,579. It
+    /// is 0 where the link is open, has ended between two frames, or was closed as a sink had failed.
+    pub fn left(&self) -> usize
+        ensures { result ≡ (link_view self.now).left }
+    {
+        self.left
     }
 
     /// The end of the link's stream. The link is closed then and holds nothing, whatever the answer.
@@ -115,6 +155,8 @@ impl Link {
         ensures shut { (link_view self.old).closed ≡ true → (result ≡ Err Closed) × (self.new ≡ self.old) }
         ensures closes { IsShut (link_view self.new) }
         ensures totals { (link_view self.new).totals ≡ (link_view self.old).totals }
+        ensures left { (link_view self.old).closed ≡ false →
+            (link_view self.new).left ≡ length (link_view self.old).held }
     {
         if self.closed {
             return Err(LinkFault::Closed);
@@ -126,15 +168,18 @@ impl Link {
     /// open.
     pub(crate) fn finish(&mut self) -> Result<(), Closing>
         requires { self.old.closed ≡ false }
-        ensures torn { IfErr result (λ c. (c ≡ closing.TornFrame) × (0 < length self.old.held.items)) }
+        ensures torn { IfErr result (λ c. (c ≡ closing.TornFrame (length self.old.held.items))
+            × (0 < length self.old.held.items)) }
         ensures whole { OnOk result (self.old.held.items ≡ []) }
         ensures closes { IsShut (link_view self.new) }
         ensures totals { self.new.totals ≡ self.old.totals }
+        ensures left { self.new.left ≡ length self.old.held.items }
     {
-        let is_torn = !self.held.is_empty();
+        let count = self.held.len();
         close(&mut self.held, &mut self.closed);
-        if is_torn {
-            Err(Closing::TornFrame)
+        self.left = count;
+        if count > 0 {
+            Err(Closing::TornFrame(count))
         } else {
             Ok(())
         }

@@ -43,9 +43,9 @@ impl From<Closing> for RunFault {
 
     fn from(closing: Closing) -> RunFault {
         match closing {
-            Closing::FrameTooLong => RunFault::FrameTooLong,
+            Closing::FrameTooLong(_) => RunFault::FrameTooLong,
             Closing::WriteFailed => RunFault::WriteFailed,
-            Closing::TornFrame => RunFault::TornFrame,
+            Closing::TornFrame(_) => RunFault::TornFrame,
         }
     }
 }

@@ -383,7 +383,7 @@ module _ (old : Links) (link : ℕ) (answer : Result (Unit {0}) LinkFault) (g : 
   ]
 
   pub had_ended : is_closed answer ≡ true → (e : Option (List ℕ)) → IsReady g
-      → HadEnded link old (record { gateway = g; status = old.status; seen = old.seen; begun = old.begun }) (e, e)
+      → HadEnded link old (record { gateway = g; status = old.status; seen = old.seen }) (e, e)
   had_ended is e ready = elim step [
     | inl h ↦ absurd (not_answered answer h.answered)
     | inr h ↦

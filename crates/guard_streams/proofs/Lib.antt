@@ -9,7 +9,6 @@ pub mod FramesWatched
 pub mod TallyLaws
 pub mod Turning
 pub mod Doings
-pub mod BegunLaws
-pub mod Keeping
+pub mod Noting
 pub mod EndsTaken
 pub mod Taking

@@ -1,4 +1,4 @@
 -- What only private contracts and proofs cite.
-pub mod Begun
 pub mod Doing
+pub mod Noting
 pub mod Seeing

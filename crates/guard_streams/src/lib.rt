@@ -12,12 +12,11 @@
 //! | What is said of a device that failed? | `saying.rt` | `specs/Saying.antt` |
 //! | What comes of many links with notes? | `watching_links.rt` | `specs/Muxing.antt` (`WatchesLinks`) |
 //! | What is seen of a link's frames? | `tallying.rt` | `specs/Tallying.antt` |
-//! | At which frame of its stream is a link's fault? | `begun.rt` | `specs/AtFault.antt`, `specs/inside/Begun.antt` |
+//! | At which frame of its stream is a link's fault? | `passing.rt` (`put_note`) | `specs/AtFault.antt` |
 #![tactic(auto)]
 
 mod answering;
 mod asking;
-mod begun;
 mod counts;
 mod guarding;
 mod links;

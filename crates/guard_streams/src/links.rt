@@ -2,13 +2,12 @@
 ghost use Rattle.std.specs.Prelude.{◌≡◌};
 ghost use Rattle.guard_streams.specs.inside.Doing.{is_closed};
 
-use crate::begun::{Begun, advance_link, first_frames};
 use crate::passing::{put_fault, put_renewed};
 use crate::saying::{Says, said_of_fault};
 use crate::seen::Seen;
 use crate::sinks::{end_link, feed_link, new_sinks, pass_on};
 use guard_files::{FAILED, Fault, Files, LINKS, Stop, load, report};
-use guard_frames::{Event, Gateway, Kept, LinkFault, Sink, put_all};
+use guard_frames::{Event, Gateway, Kept, Link, LinkFault, Sink, put_all};
 use guard_model::OutOfMemory;
 use guard_policy::Policy;
 use std::alloc::Global;
@@ -22,14 +21,15 @@ pub struct Links {
     status: u8,
     /// What is seen of their frames, where notes are asked for.
     seen: Option<Seen>,
-    /// The frame that each of them has begun, where notes are asked for, and else its first one.
-    begun: Vec<Begun>,
 }
 
 impl Links {
     ghost use Rattle.std.specs.Prelude.{◌≡◌, ◌≤◌, ◌⊎◌, Option, List, [], ℕ, Bool, true};
-    ghost use Rattle.std.specs.Prelude.{false, max, Err, IfOk, IfSome, OnOk, IfErr};
+    ghost use Rattle.std.specs.Prelude.{false, max, Err, IfOk, OnOk, IfErr};
+    ghost use Rattle.std.specs.Option.{option_map};
     ghost use Rattle.std.specs.Io.KnownBytes.{Appends};
+    ghost use Rattle.guard_frames.specs.GatewayView.{gateway_view};
+    ghost use Rattle.guard_frames.specs.LinkView.{link_view};
     ghost use Rattle.guard_frames.specs.Prefix.{IsProperPrefix};
     ghost use Rattle.guard_files.specs.declared.stop.Stop.TheVariants.{WriteFailed, ErrorFailed};
     ghost use Rattle.guard_policy.specs.PolicyView.{policy_view};
@@ -39,8 +39,8 @@ impl Links {
     ghost use Rattle.guard_streams.specs.Muxing.{new_mux, WritesPart, BreaksErr};
     ghost use Rattle.guard_streams.specs.Saying.{IsUnreadNote};
     ghost use Rattle.guard_streams.specs.Turns.{link_status, renewed_note};
-    ghost use Rattle.guard_streams.specs.inside.Begun.{IsSound, answer_lines};
-    ghost use Rattle.guard_streams.specs.inside.Doing.{IsReady, IsKept, mux_of, IsTaken, IsCut};
+    ghost use Rattle.guard_streams.specs.inside.Noting.{noted_link, answer_lines};
+    ghost use Rattle.guard_streams.specs.inside.Doing.{IsReady, mux_of, IsTaken, IsCut};
     ghost use Rattle.guard_streams.specs.inside.Doing.{Is, HadEnded, AreEnded, IsEndCut};
 
     /// Sixteen open links under this policy. Notes are asked for where something is seen.
@@ -49,16 +49,13 @@ impl Links {
             → mux_of told links ≡ new_mux (policy_view policy) told seen) }
         ensures ready { IfOk result (λ links. IsReady links.gateway) }
         ensures status { IfOk result (λ links. links.status ≡ 0) }
-        ensures kept { IfOk result IsKept }
     {
         let ends = new_sinks(alloc, LINKS)?;
-        let begun = first_frames(alloc, LINKS)?;
         match Gateway::new(alloc, policy, ends) {
             Ok(gateway) => Ok(Links {
                 gateway,
                 status: 0,
                 seen,
-                begun,
             }),
             Err(_) => Err(OutOfMemory),
         }
@@ -89,7 +86,6 @@ impl Links {
     ) -> Result<(), Stop>
         requires link { link ≤ 15 }
         requires ready { IsReady self.old.gateway }
-        requires kept { IsKept self.old }
         ensures done { OnOk result ((path : List ℕ) (told : Told)
             → IsTaken path told self.old (piece link octets.now) told self.new
             (O.taken out.old, O.taken out.new) (E.taken err.old, E.taken err.new)) }
@@ -98,37 +94,31 @@ impl Links {
             (device_of O.taken O.has_failed out.old out.new)
             (device_of E.taken E.has_failed err.old err.new)) }
         ensures unseen { result ≡ Err WriteFailed → self.new.seen ≡ self.old.seen }
-        ensures kept { OnOk result (IsKept self.new) }
     {
         let answer = feed_link(alloc, &mut self.gateway, link, octets);
-        let begun = advance_link(&mut self.begun, self.seen, link, octets);
         let is_reported = pass_on(&mut self.gateway, link, &mut self.seen, out, err)?;
         self.status = self.status.max(u8::from(is_reported));
-        self.tell_answer(link, answer, begun, err)
+        self.tell_answer(link, answer, err)
     }
 
     /// The end of a link's stream.
     pub fn end<E: Sink>(&mut self, alloc: Global, link: u16, err: &mut E) -> Result<(), Stop>
         requires link { link ≤ 15 }
         requires ready { IsReady self.old.gateway }
-        requires kept { IsKept self.old }
         ensures done { OnOk result ((path : List ℕ) (told : Told) (out : Option (List ℕ)) →
             IsTaken path told self.old (end link) told self.new (out, out) (E.taken err.old, E.taken err.new)) }
         ensures cut { IfErr result (λ s. (path : List ℕ) (told : Told) (out : Option (List ℕ)) (failed : Bool) →
             IsCut s path (mux_of told self.old) (end link) (device out out failed)
             (device_of E.taken E.has_failed err.old err.new)) }
         ensures seen { self.new.seen ≡ self.old.seen }
-        ensures kept { OnOk result (IsKept self.new) }
     {
         let answer = end_link(alloc, &mut self.gateway, link);
-        let begun = advance_link(&mut self.begun, self.seen, link, &[]);
-        self.tell_answer(link, answer, begun, err)
+        self.tell_answer(link, answer, err)
     }
 
     /// The end of each link's stream that hasn't ended, in order.
     pub fn end_all<E: Sink>(&mut self, alloc: Global, err: &mut E) -> Result<(), Stop>
         requires ready { IsReady self.old.gateway }
-        requires kept { IsKept self.old }
         ensures done { OnOk result ((path : List ℕ) (told : Told) →
             AreEnded path told self.old self.new (E.taken err.old, E.taken err.new)) }
         ensures cut { IfErr result (λ s. (s ≡ ErrorFailed)
@@ -151,7 +141,6 @@ impl Links {
     ) -> Result<(), Stop>
         requires link { link ≤ 15 }
         requires ready { IsReady self.old.gateway }
-        requires kept { IsKept self.old }
         ensures done { OnOk result (HadEnded link self.old self.new (E.taken err.old, E.taken err.new)
             ⊎ (Is false link self.old × ((path : List ℕ) (told : Told) (out : Option (List ℕ)) →
             IsTaken path told self.old (end link) told self.new (out, out) (E.taken err.old, E.taken err.new)))) }
@@ -159,14 +148,12 @@ impl Links {
             × ((path : List ℕ) (told : Told) (out : Option (List ℕ)) (failed : Bool)
             → WritesPart path (mux_of told self.old) (end link) []
             (device out out failed) (device_of E.taken E.has_failed err.old err.new) BreaksErr)) }
-        ensures kept { OnOk result (IsKept self.new) }
     {
         let answer = end_link(alloc, &mut self.gateway, link);
         if is_closed(answer) {
             return Ok(());
         }
-        let begun = advance_link(&mut self.begun, self.seen, link, &[]);
-        self.tell_answer(link, answer, begun, err)
+        self.tell_answer(link, answer, err)
     }
 
     /// Reads the policy at the path again, and notes that where notes are asked for. Where there is none, that is
@@ -180,7 +167,6 @@ impl Links {
         system: &T,
     ) -> Result<(), Stop>
         requires ready { IsReady self.old.gateway }
-        requires kept { IsKept self.old }
         ensures done { OnOk result ((out : Option (List ℕ))
             → IsTaken path.now (F.told files.old) self.old reload (F.told files.new) self.new
             (out, out) (E.taken err.old, E.taken err.new)) }
@@ -188,7 +174,6 @@ impl Links {
             → IsCut s path.now (mux_of (F.told files.old) self.old) reload
             (device out out failed) (device_of E.taken E.has_failed err.old err.new)) }
         ensures seen { self.new.seen ≡ self.old.seen }
-        ensures kept { OnOk result (IsKept self.new) }
     {
         match load(alloc, path, files) {
             Ok(policy) => {
@@ -250,32 +235,42 @@ impl Links {
         }
     }
 
-    /// Tells the fault of a link, where it answered with one, and notes at which frame it is, where that has begun.
+    /// Tells the fault of a link, where it answered with one, and at which frame that is, where notes are asked for.
     fn tell_answer<E: Sink>(
         &mut self,
         link: u16,
         answer: Result<(), LinkFault>,
-        begun: Option<Begun>,
         err: &mut E,
     ) -> Result<(), Stop>
-        requires { IfSome begun IsSound }
-        ensures all { OnOk result (Appends (E.taken err.old) (E.taken err.new) (answer_lines begun link answer)) }
+        ensures all { OnOk result (Appends (E.taken err.old) (E.taken err.new)
+            (answer_lines (noted_link self.old.seen (gateway_view self.old.gateway) link) link answer)) }
         ensures part { IfErr result (λ s. (s ≡ ErrorFailed) × (E.has_failed err.new ≡ true) × ((part : List ℕ)
-            × IsProperPrefix part (answer_lines begun link answer)
+            × IsProperPrefix part
+            (answer_lines (noted_link self.old.seen (gateway_view self.old.gateway) link) link answer)
             × Appends (E.taken err.old) (E.taken err.new) part)) }
         ensures status { self.new.status ≡ max self.old.status (link_status [] answer) }
         ensures gateway { self.new.gateway ≡ self.old.gateway }
         ensures seen { self.new.seen ≡ self.old.seen }
-        ensures begun { self.new.begun ≡ self.old.begun }
     {
         let Err(fault) = answer else {
             return Ok(());
         };
         self.status = self.status.max(FAILED);
-        match put_fault(err, link, fault, begun) {
+        match put_fault(err, link, fault, self.noted(link)) {
             Ok(()) => Ok(()),
             Err(_) => Err(Stop::ErrorFailed),
         }
+    }
+
+    /// The link of this number, where notes are asked for.
+    fn noted(&self, link: u16) -> Option<&Link>
+        ensures { option_map (λ x. link_view x.now) result
+            ≡ noted_link self.now.seen (gateway_view self.now.gateway) link }
+    {
+        if self.seen.is_none() {
+            return None;
+        }
+        self.gateway.link(link)
     }
 }
 

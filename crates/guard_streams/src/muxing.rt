@@ -5,7 +5,7 @@ ghost use Rattle.guard_files.specs.Headers.{IsGood, record_of};
 ghost use Rattle.guard_files.specs.declared.stop.Stop.TheVariants as stop;
 ghost use Rattle.guard_files.specs.declared.stop.Stop.TheVariants.{WriteFailed};
 ghost use Rattle.guard_streams.specs.Muxing.{GuardsLinks, Finishes, Stops, TellsStop};
-ghost use Rattle.guard_streams.specs.inside.Doing.{IsReady, IsKept, mux_of, IsTaken, IsCut, IsSeenBefore};
+ghost use Rattle.guard_streams.specs.inside.Doing.{IsReady, mux_of, IsTaken, IsCut, IsSeenBefore};
 
 use crate::links::Links;
 use crate::saying::{Says, Silent};
@@ -85,7 +85,6 @@ pub fn guard<F: Files, S: Source, O: Sink, E: Sink, T: Says>(
 ) -> Result<(), Stop>
     requires room { length room.old ≡ 1048576 }
     requires ready { IsReady links.old.gateway }
-    requires kept { IsKept links.old }
     requires first { links.old.status ≡ 0 }
     ensures done { OnOk result ((f : Finishes path.now (mux_of (F.told files.old) links.old)
         (source_of S.tells S.takes S.has_failed input.old input.new)
@@ -126,7 +125,6 @@ fn take_record<F: Files, O: Sink, E: Sink, T: Says>(
     requires good { IsGood header }
     requires room { length room.now ≡ 1048576 }
     requires ready { IsReady links.old.gateway }
-    requires kept { IsKept links.old }
     ensures done { OnOk result (IsTaken path.now (F.told files.old) links.old (record_of header room.now)
         (F.told files.new) links.new
         (O.taken out.old, O.taken out.new) (E.taken err.old, E.taken err.new)) }
@@ -134,7 +132,6 @@ fn take_record<F: Files, O: Sink, E: Sink, T: Says>(
         (device_of O.taken O.has_failed out.old out.new)
         (device_of E.taken E.has_failed err.old err.new)) }
     ensures unseen { result ≡ Err WriteFailed → links.new.seen ≡ links.old.seen }
-    ensures kept { OnOk result (IsKept links.new) }
 {
     match header {
         Header::Piece(link, size) => links.piece(alloc, link, &room[..size], out, err),

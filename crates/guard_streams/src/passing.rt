@@ -1,22 +1,23 @@
 //! What goes out of a link, and what is said of it.
 ghost use Rattle.std.specs.Prelude.{◌≡◌, ◌++◌, ◌∷◌, ◌+◌, ◌<◌, ◌≤◌, ◌≢◌, ℕ, List, true, codes, decimal};
-ghost use Rattle.std.specs.Prelude.{length, slice_index, Err, OnOk, OnErr, IfSome};
+ghost use Rattle.std.specs.Prelude.{length, slice_index, Err, OnOk, OnErr};
+ghost use Rattle.std.specs.Option.{option_map};
 ghost use Rattle.std.specs.Io.KnownBytes.{Appends};
 ghost use Rattle.std.specs.List.{All};
 ghost use Rattle.guard_frames.specs.Calls.{AsksLines};
 ghost use Rattle.guard_frames.specs.FaultTexts.{fault_text};
+ghost use Rattle.guard_frames.specs.LinkView.{link_view};
 ghost use Rattle.guard_frames.specs.Prefix.{IsProperPrefix};
 ghost use Rattle.guard_files.specs.Records.{header, record_octets};
 ghost use Rattle.guard_files.specs.Records.Record.{piece};
 ghost use Rattle.guard_streams.specs.Turns.{renewed_line};
 ghost use Rattle.guard_streams.specs.AtFault.{begun_line};
-ghost use Rattle.guard_streams.specs.inside.Begun.{IsSound, begun_note, answer_lines};
+ghost use Rattle.guard_streams.specs.inside.Noting.{fault_note, answer_lines};
 ghost use Rattle.guard_streams.specs.Passing.{InRecords, IsShort, lines_of, marked, marked_line, link_mark};
 
-use crate::begun::Begun;
 use arrayvec::ArrayVec;
 use guard_files::LONGEST_PIECE;
-use guard_frames::{Failed, LinkFault, Sink, append, body_length, put_all, put_both};
+use guard_frames::{Failed, Link, LinkFault, Sink, append, put_all, put_both};
 use guard_notes::first_line;
 use itoa::Buffer;
 
@@ -94,21 +95,22 @@ pub fn put_lines<E: Sink>(err: &mut E, link: u16, text: &[u8]) -> Result<(), Fai
     Ok(())
 }
 
-/// Puts the line of a link's fault, and then the note of the frame at which it is, where one has begun.
+/// Puts the line of a link's fault, and then the note of the frame at which it is, where that is asked for by the link.
 pub fn put_fault<E: Sink>(
     err: &mut E,
     link: u16,
     fault: LinkFault,
-    begun: Option<Begun>,
+    noted: Option<&Link>,
 ) -> Result<(), Failed>
-    requires { IfSome begun IsSound }
-    ensures all { OnOk result (Appends (E.taken err.old) (E.taken err.new) (answer_lines begun link (Err fault))) }
-    ensures part { OnErr result ((part : List ℕ) × IsProperPrefix part (answer_lines begun link (Err fault))
+    ensures all { OnOk result (Appends (E.taken err.old) (E.taken err.new)
+        (answer_lines (option_map (λ x. link_view x.now) noted.entry) link (Err fault))) }
+    ensures part { OnErr result ((part : List ℕ)
+        × IsProperPrefix part (answer_lines (option_map (λ x. link_view x.now) noted.entry) link (Err fault))
         × Appends (E.taken err.old) (E.taken err.new) part) }
     ensures failed { OnErr result (E.has_failed err.new ≡ true) }
 {
     put_fault_line(err, link, fault)?;
-    put_begun(err, link, fault, begun)?;
+    put_note(err, link, fault, noted)?;
     Ok(())
 }
 
@@ -122,33 +124,27 @@ fn put_fault_line<E: Sink>(err: &mut E, link: u16, fault: LinkFault) -> Result<(
     put_line(err, link, fault.text().as_bytes())
 }
 
-/// Puts the note of a frame that a fault of a link is at.
-fn put_begun<E: Sink>(
+/// Puts the note of the frame that a link's fault is at.
+fn put_note<E: Sink>(
     err: &mut E,
     link: u16,
     fault: LinkFault,
-    begun: Option<Begun>,
+    noted: Option<&Link>,
 ) -> Result<(), Failed>
-    requires { IfSome begun IsSound }
-    ensures all { OnOk result (Appends (E.taken err.old) (E.taken err.new) (begun_note begun link (Err fault))) }
-    ensures part { OnErr result ((part : List ℕ) × IsProperPrefix part (begun_note begun link (Err fault))
+    ensures all { OnOk result (Appends (E.taken err.old) (E.taken err.new)
+        (fault_note (option_map (λ x. link_view x.now) noted.entry) link (Err fault))) }
+    ensures part { OnErr result ((part : List ℕ)
+        × IsProperPrefix part (fault_note (option_map (λ x. link_view x.now) noted.entry) link (Err fault))
         × Appends (E.taken err.old) (E.taken err.new) part) }
     ensures failed { OnErr result (E.has_failed err.new ≡ true) }
 {
-    let Some(begun) = begun else {
+    let Some(at) = noted else {
         return Ok(());
     };
+    let number = at.totals().next_number();
     match fault {
-        LinkFault::FrameTooLong => {
-            put_frame(
-                err,
-                link,
-                begun.number,
-                b"length",
-                body_length(&begun.front),
-            )
-        }
-        LinkFault::TornFrame => put_frame(err, link, begun.number, b"octets", begun.came),
+        LinkFault::FrameTooLong => put_frame(err, link, number, b"length", at.left()),
+        LinkFault::TornFrame => put_frame(err, link, number, b"octets", at.left()),
         LinkFault::WriteFailed | LinkFault::Closed => Ok(()),
     }
 }

@@ -52,8 +52,9 @@ same_ends a b c d e e₁ = rw (e, e₁) refl
 
 pub ended_of : (l : AbstractLink) (told : Result (Unit {0}) LinkFault) (l₁ : AbstractLink) →
     (l.closed ≡ false → 0 < length l.held → told ≡ Err TornFrame) → (l.closed ≡ false → l.held ≡ [] → told ≡ Ok tt) →
-    (l.closed ≡ true → (told ≡ Err Closed) × (l₁ ≡ l)) → IsShut l₁ → l₁.totals ≡ l.totals → Ended l told l₁
-ended_of l told l₁ torn whole shut closes totals = elim (which l.closed) [
+    (l.closed ≡ true → (told ≡ Err Closed) × (l₁ ≡ l)) → IsShut l₁ → l₁.totals ≡ l.totals →
+    (l.closed ≡ false → l₁.left ≡ length l.held) → Ended l told l₁
+ended_of l told l₁ torn whole shut closes totals left = elim (which l.closed) [
   | inl is ↦ inl (record { closed = is; answered = (shut is).0; same = (shut is).1 })
-  | inr is ↦ inr (record { open_before = is; torn = torn is; whole = whole is; shut = closes; totals = totals })
+  | inr is ↦ inr (record { open_before = is; torn = torn is; whole = whole is; shut = closes; totals = totals; left = left is })
 ]

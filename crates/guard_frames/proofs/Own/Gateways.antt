@@ -1,8 +1,9 @@
 -- What is done to the seats of a gateway, as a step of it.
-use Rattle.std.proofs.Common.{◌≡◌, ◌<◌, length, zero, suc, ℕ, List, [], ◌∷◌, ◌∙◌, ap, sym, refl, inl, inr, map, Option, option_map, Some, None, Result, slice_get, slice_set, Bool, Ok, Err}
+use Rattle.std.proofs.Common.{◌≡◌, ◌<◌, length, zero, suc, ℕ, List, [], ◌∷◌, ◌∙◌, ap, sym, refl, subst, inl, inr, map, Option, option_map, Some, None, Result, slice_get, slice_set, Bool, Ok, Err}
 use Rattle.std.proofs.lemmas.Option.{same_Some, none-some, slice_get-map, slice_get_past}
 use Rattle.std.specs.Vec.{with_item}
 use Rattle.guard_frames.proofs.Progress.{le_or_gt}
+use Rattle.guard_frames.specs.Frames.{IsUnfinished}
 use Rattle.guard_frames.specs.Lending.{HasEnds}
 use Rattle.guard_policy.specs.Policies.{AbstractPolicy}
 use Rattle.guard_policy.specs.PolicyView.{policy_view}
@@ -153,3 +154,20 @@ no_ends {S} seats i past = elim (le_or_gt (length seats) i) [
   | inl le ↦ sym (mapped_none (λ (x : Seat S). x.ends) seats i (slice_get_past seats i le))
   | inr lt ↦ absurd (past lt)
 ]
+
+-- ---- the link of a number
+
+pub link_there : {S : Type 0} (seats : List (Seat S)) (i : ℕ) (s : Seat S) → slice_get seats i ≡ Some s → Some (link_view s.link) ≡ slice_get (links_of seats) i
+link_there {S} seats i s there = sym (mapped_some (λ (x : Seat S). link_view x.link) seats i s there)
+
+pub no_link : {S : Type 0} (seats : List (Seat S)) (i : ℕ) → (i < length seats → ⊥) → None ≡ slice_get (links_of seats) i
+no_link {S} seats i past = elim (le_or_gt (length seats) i) [
+  | inl le ↦ sym (mapped_none (λ (x : Seat S). link_view x.link) seats i (slice_get_past seats i le))
+  | inr lt ↦ absurd (past lt)
+]
+
+-- what it holds is less than a frame
+pub held_unfinished : {S : Type 0} (seats : List (Seat S)) (i : ℕ) (l : AbstractLink) → slice_get (links_of seats) i ≡ Some l → IsUnfinished l.held
+held_unfinished [] i l h = absurd (none-some l h)
+held_unfinished (x ∷ seats) zero l h = subst (λ (y : AbstractLink). IsUnfinished y.held) (same_Some (link_view x.link) l h) x.link.unfinished
+held_unfinished (x ∷ seats) (suc i) l h = held_unfinished seats i l h

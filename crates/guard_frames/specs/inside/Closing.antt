@@ -1,5 +1,5 @@
 -- What a piece does to an open link, before what goes wrong closes it.
-use Rattle.std.specs.Prelude.{ℕ, List, Result, Ok, Err}
+use Rattle.std.specs.Prelude.{◌≡◌, ℕ, List, Result, Ok, Err}
 use Rattle.guard_frames.specs.declared.totals.Totals.{Totals}
 use Rattle.guard_frames.specs.Added.{Added}
 use Rattle.guard_frames.specs.declared.link.LinkFault.{LinkFault}
@@ -8,7 +8,7 @@ use Rattle.guard_frames.specs.declared.link.Closing.{Closing}
 use Rattle.guard_frames.specs.declared.link.Closing.TheVariants.{FrameTooLong, WriteFailed, TornFrame}
 use Rattle.guard_frames.specs.declared.running.RunFault.{RunFault}
 use Rattle.guard_frames.specs.declared.running.RunFault.TheVariants as run
-use Rattle.guard_frames.specs.Frames.{IsUnfinished}
+use Rattle.guard_frames.specs.Frames.{stated_length, IsUnfinished}
 use Rattle.guard_frames.specs.Totals.{next_number}
 use Rattle.guard_frames.specs.Outcomes.{Decision}
 use Rattle.guard_frames.specs.Guarding.{BreaksOff}
@@ -16,19 +16,26 @@ use Rattle.guard_frames.specs.Feeding.{Decides, DecidesUntilTooLong}
 
 -- what closes a link, as its fault, and as that of a run
 abbrev pub link_fault : Closing → LinkFault
-link_fault FrameTooLong = link.FrameTooLong
+link_fault (FrameTooLong size) = link.FrameTooLong
 link_fault WriteFailed = link.WriteFailed
-link_fault TornFrame = link.TornFrame
+link_fault (TornFrame count) = link.TornFrame
 
 abbrev pub run_fault : Closing → RunFault
-run_fault FrameTooLong = run.FrameTooLong
+run_fault (FrameTooLong size) = run.FrameTooLong
 run_fault WriteFailed = run.WriteFailed
-run_fault TornFrame = run.TornFrame
+run_fault (TornFrame count) = run.TornFrame
+
+-- what it leaves of the frame behind the last whole one
+abbrev pub left_by : Closing → ℕ
+left_by (FrameTooLong size) = size
+left_by WriteFailed = 0
+left_by (TornFrame count) = count
 
 -- What comes of the stream that an open link has come to, by the answer: what it holds then and its totals, n before
 -- that stream and m after it.
 abbrev pub Puts : Decision → Totals → List ℕ → List ℕ → Totals → Result (Unit {0}) Closing → Added → Type 0
 Puts d n stream held m (Ok done) added = Decides d n stream held m added × IsUnfinished held
-Puts d n stream held m (Err FrameTooLong) added = DecidesUntilTooLong d n stream m added
+Puts d n stream held m (Err (FrameTooLong size)) added =
+    (x : DecidesUntilTooLong d n stream m added) × (size ≡ stated_length x.rest)
 Puts d n stream held m (Err WriteFailed) added = BreaksOff (λ _. d) (next_number n) stream added
-Puts d n stream held m (Err TornFrame) added = ⊥
+Puts d n stream held m (Err (TornFrame count)) added = ⊥

@@ -24,7 +24,6 @@ use Rattle.guard_streams.specs.declared.links.Links.{Links}
 use Rattle.guard_streams.specs.declared.seen.Seen.{Seen}
 use Rattle.guard_streams.specs.Muxing.{WritesPart, BreaksOut, BreaksErr, Stops}
 use Rattle.guard_streams.specs.Passing.{InRecords, marked}
-use Rattle.guard_streams.specs.inside.Begun.{AreKept}
 use Rattle.guard_streams.specs.Turns.{AbstractMux, Written, Happens, InTurn, all_out, all_err, status_of, ends_left}
 
 -- ---- the sinks of a link
@@ -96,10 +95,6 @@ AreCut ErrorFailed link ends out err = IsErrCut link ends out err
 -- the links, what reads of files to come find, and what is seen
 abbrev pub mux_of : Told → Links → AbstractMux
 mux_of told l = record { told = told; gateway = gateway_view l.gateway; seen = l.seen }
-
--- What is known of the frames that the links have begun is so.
-abbrev pub IsKept : Links → Type 0
-IsKept l = AreKept l.seen l.begun.items (gateway_view l.gateway).links
 
 -- The record was taken, and all that is written of it is out.
 pub record IsTaken (path : List ℕ) (told_old : Told) (old : Links) (r : Record) (told_new : Told) (new : Links)

@@ -1,6 +1,7 @@
-use Rattle.std.proofs.Common.{◌≡◌, ◌<◌, ◌++◌, ℕ, List, sym, subst, length, rules, arith}
+use Rattle.std.proofs.Common.{◌≡◌, ◌∙◌, ◌<◌, ◌++◌, ℕ, List, ap, sym, subst, drop, length, rules, arith}
 use Rattle.guard_frames.specs.Added.{joined}
 use Rattle.std.proofs.lemmas.List.{take_rest}
+use Rattle.guard_frames.specs.Frames.{stated_length}
 use Rattle.guard_frames.specs.Totals.{next_number}
 use Rattle.guard_frames.specs.inside.Closing.{Puts}
 use Rattle.guard_frames.proofs.Appending.{both_joined}
@@ -33,7 +34,8 @@ returns-in-TooLong-clause-puts g c =
     let x = rw c.as_slice.ensures.value at c.in-Ok.ensures.whole in (
       x.0,
       too_long_now (g.D.Decide.decides c.args.policy.now) c.args.totals.now c.in-Ok.whole c.args.held.now.items c.args.piece.now
-          c.complete-used.new.held.items c.complete-used.result x.0 c.complete-used.ensures.held x.1 c.in-TooLong.is,
+          c.complete-used.new.held.items c.complete-used.result c.body_length.result x.0 c.complete-used.ensures.held x.1 c.in-TooLong.is
+          (c.body_length.ensures.value ∙ ap stated_length (take_rest c.deref.result.now c.in-Ok.whole.end ∙ ap (drop c.in-Ok.whole.end) c.deref.ensures.value)),
       x.2,
     )
 

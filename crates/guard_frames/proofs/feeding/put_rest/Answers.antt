@@ -1,6 +1,6 @@
-use Rattle.std.proofs.Common.{◌≡◌, List, ℕ, subst, sym, ◌∙◌, drop}
+use Rattle.std.proofs.Common.{◌≡◌, List, ℕ, ap, subst, sym, ◌∙◌, drop}
 use Rattle.std.proofs.lemmas.List.{take_rest}
-use Rattle.guard_frames.specs.Frames.{IsUnfinished, IsTooLong}
+use Rattle.guard_frames.specs.Frames.{stated_length, IsUnfinished, IsTooLong}
 use Rattle.guard_frames.specs.Feeding.{Decides}
 use Rattle.guard_frames.specs.Cutting.{IsRest}
 use Rattle.guard_frames.proofs.feeding.put_rest.Goals as goal
@@ -10,7 +10,8 @@ returns-in-TooLong-clause-puts g c =
     let x = c.in-Ok.ensures.whole in
     let w = c.in-Ok.whole in
     let long : IsTooLong (drop w.end c.args.piece.now) = subst (IsRest (drop w.end c.args.piece.now)) c.in-TooLong.is x.1.next in
-    (x.0, record { rest = drop w.end c.args.piece.now; decided = x.1.decided; too_long = long }, x.2)
+    let stated = c.body_length.ensures.value ∙ ap stated_length (take_rest c.args.piece.now w.end) in
+    (x.0, (record { rest = drop w.end c.args.piece.now; decided = x.1.decided; too_long = long }, stated), x.2)
 
 pub returns-in-Unfinished-clause-puts : goal.returns-in-Unfinished-clause-puts
 returns-in-Unfinished-clause-puts g c =

@@ -16,7 +16,7 @@ returns-in-Ok g c =
       link_answer = Ok tt;
       there = slice_get_read seats.items (length seats.items) c.args.at s refl within c.index_mut-seat.ensures.value;
       does = record {
-        does = ended_of (link_view s.link) (Ok tt) (link_view c.end.new.self) h.torn h.whole (λ is. ((h.shut is).0, ap link_view (h.shut is).1)) h.closes h.totals;
+        does = ended_of (link_view s.link) (Ok tt) (link_view c.end.new.self) h.torn h.whole (λ is. ((h.shut is).0, ap link_view (h.shut is).1)) h.closes h.totals h.left;
         ends = refl;
       };
       answered = refl;
@@ -35,7 +35,7 @@ returns-in-Err g c =
       link_answer = Err c.in-Err.fault;
       there = slice_get_read seats.items (length seats.items) c.args.at s refl within c.index_mut-seat.ensures.value;
       does = record {
-        does = ended_of (link_view s.link) (Err c.in-Err.fault) (link_view c.end.new.self) h.torn h.whole (λ is. ((h.shut is).0, ap link_view (h.shut is).1)) h.closes h.totals;
+        does = ended_of (link_view s.link) (Err c.in-Err.fault) (link_view c.end.new.self) h.torn h.whole (λ is. ((h.shut is).0, ap link_view (h.shut is).1)) h.closes h.totals h.left;
         ends = refl;
       };
       answered = refl;

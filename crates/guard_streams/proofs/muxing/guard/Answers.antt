@@ -13,7 +13,6 @@ loop-init g c = record {
   taken = none_taken c.args.path.now _ _ _ (g.F.Files.told c.args.files.now) c.args.links.now c.requires.first
       c.requires.ready;
   asked = omega arith;
-  kept = c.requires.kept;
   left = omega arith;
 }
 
@@ -70,7 +69,6 @@ loop-preserved g c =
           ∙ c.requires.room)) n.2 c.in_ok-take_record.ensures.done;
       asked = asked_more _ _ _ (2 ^ 40) c.loop.reads c.next_record.new.reads
           (omega (arith, i.left)) c.in_ok-header.ensures.fewer i.asked c.in_ok-header.ensures.counted;
-      kept = c.in_ok-take_record.ensures.kept;
       left = omega (arith, i.left, n.1);
     }
 

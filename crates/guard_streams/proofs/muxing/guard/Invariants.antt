@@ -1,6 +1,6 @@
 use Rattle.std.proofs.Common.{◌+◌, ◌-◌, ◌≤◌, ◌^◌}
 use Rattle.guard_frames.specs.Totals.{WentUpBy}
-use Rattle.guard_streams.specs.inside.Doing.{mux_of, IsKept}
+use Rattle.guard_streams.specs.inside.Doing.{mux_of}
 use Rattle.guard_streams.proofs.Taking.{TakenSoFar}
 use Rattle.guard_streams.proofs.muxing.guard.Given as goal
 
@@ -11,6 +11,5 @@ invariant-loop g l = record {
       (g.O.Sink.taken l.initial.out) (g.O.Sink.taken l.out) (g.E.Sink.taken l.initial.err) (g.E.Sink.taken l.err)
       (g.F.Files.told l.files) l.links;
   asked : WentUpBy (g.S.Source.takes l.initial.input) (2 ^ 40 - l.reads) (g.S.Source.takes l.input);
-  kept : IsKept l.links;
   left : l.reads + l.counter ≤ 2 ^ 40;
 }

@@ -6,7 +6,6 @@ use Rattle.guard_streams.proofs.links.Links.end_all.Goals as goal
 pub loop-link-init : goal.loop-link-init
 loop-link-init g c = record {
   ready = c.requires.ready;
-  kept = c.requires.kept;
   ended =
       λ path told. none_ended path told c.args.self.now (g.E.Sink.taken c.args.err.now);
 }
@@ -18,14 +17,12 @@ loop-link-preserved g c =
     elim c.in_ok-end_unless_ended.ensures.done [
       | inl h ↦ record {
         ready = h.ready;
-        kept = c.in_ok-end_unless_ended.ensures.kept;
         ended = λ path told. closed_more path told c.args.self.now c.loop-link.self n.self
             (g.E.Sink.taken c.args.err.now) (g.E.Sink.taken c.loop-link.err) (g.E.Sink.taken n.err)
             c.loop-link.link h (i.ended path told);
       }
       | inr h ↦ record {
         ready = (h.1 [] (λ k p. None) (Some [])).ready;
-        kept = c.in_ok-end_unless_ended.ensures.kept;
         ended = λ path told. open_more path told c.args.self.now c.loop-link.self n.self
             (g.E.Sink.taken c.args.err.now) (g.E.Sink.taken c.loop-link.err) (g.E.Sink.taken n.err)
             c.loop-link.link h.0 (h.1 path told (Some [])) (i.ended path told);

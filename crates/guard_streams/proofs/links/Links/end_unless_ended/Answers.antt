@@ -4,16 +4,10 @@ use Rattle.guard_frames.specs.declared.gateway.Gateway.{Gateway}
 use Rattle.guard_frames.specs.declared.kept.Kept.{Kept}
 use Rattle.guard_frames.specs.GatewayView.{gateway_view}
 use Rattle.guard_frames.specs.Gateways.{AbstractGateway}
-use Rattle.guard_streams.specs.inside.Begun.{begun_note}
+use Rattle.guard_streams.specs.inside.Noting.{noted_link, fault_note}
 use Rattle.guard_streams.proofs.Doings.{end_taken, end_cut, was_open, had_ended, told_ok, told_err}
-use Rattle.guard_streams.proofs.Keeping.{end_kept, end_note, kept_moved}
+use Rattle.guard_streams.proofs.Noting.{end_note}
 use Rattle.guard_streams.proofs.links.Links.end_unless_ended.Goals as goal
-
-pub advance_link-begun-requires : goal.advance_link-begun-requires
-advance_link-begun-requires g c = record {
-  many = omega (arith, c.requires.kept.many, c.requires.link);
-  sound = c.requires.kept.sound;
-}
 
 pub returns-then-is_closed-clause-done : goal.returns-then-is_closed-clause-done
 returns-then-is_closed-clause-done g c =
@@ -21,26 +15,18 @@ returns-then-is_closed-clause-done g c =
     inl (had_ended c.args.self.now c.args.link e.result e.new.gateway e.ensures.step
     (sym c.is_closed.ensures ∙ c.if-is_closed.true) (g.E.Sink.taken c.args.err.now) e.ensures.ready)
 
-pub returns-then-is_closed-clause-kept : goal.returns-then-is_closed-clause-kept
-returns-then-is_closed-clause-kept g c =
-    let e = c.end_link-answer in
-    let h = had_ended c.args.self.now c.args.link e.result e.new.gateway e.ensures.step
-    (sym c.is_closed.ensures ∙ c.if-is_closed.true) (g.E.Sink.taken c.args.err.now) e.ensures.ready in
-    kept_moved _ _ _ _ _ _ refl refl (ap (λ (x : AbstractGateway). x.links) h.same) c.requires.kept
-
 pub returns-clause-done : goal.returns-clause-done
 returns-clause-done g c =
     let e = c.end_link-answer in
     let t = c.tell_answer in
-    let b = c.advance_link-begun in
     let old = c.args.self.now in
-    let noted = end_note old.seen (gateway_view old.gateway) (gateway_view e.new.gateway) c.args.link e.result nothing
-    old.begun.items b.new.begun.items b.result c.requires.kept.each b.ensures.advances e.ensures.step in
+    let note = fault_note (noted_link old.seen (gateway_view e.new.gateway) c.args.link) c.args.link e.result in
+    let noted = end_note old.seen old.gateway (gateway_view e.new.gateway) c.args.link e.result nothing e.ensures.step in
     told_ok t.result t.ensures.all (λ said. inr (
       was_open old c.args.link e.result e.new.gateway e.ensures.step
           (sym c.is_closed.ensures ∙ c.if-is_closed.false),
       λ path told out. end_taken old c.args.link e.result e.new.gateway e.ensures.step
-          (begun_note b.result c.args.link e.result) noted path told t.new.self out
+          note noted path told t.new.self out
           (g.E.Sink.taken c.args.err.now) (g.E.Sink.taken t.new.err) t.ensures.gateway e.ensures.ready said
           t.ensures.status t.ensures.seen,
     ))
@@ -49,28 +35,15 @@ pub returns-clause-cut : goal.returns-clause-cut
 returns-clause-cut g c =
     let e = c.end_link-answer in
     let t = c.tell_answer in
-    let b = c.advance_link-begun in
     let old = c.args.self.now in
-    let noted = end_note old.seen (gateway_view old.gateway) (gateway_view e.new.gateway) c.args.link e.result nothing
-    old.begun.items b.new.begun.items b.result c.requires.kept.each b.ensures.advances e.ensures.step in
+    let note = fault_note (noted_link old.seen (gateway_view e.new.gateway) c.args.link) c.args.link e.result in
+    let noted = end_note old.seen old.gateway (gateway_view e.new.gateway) c.args.link e.result nothing e.ensures.step in
     told_err t.result t.ensures.part (λ s p. (
       p.0,
       was_open old c.args.link e.result e.new.gateway e.ensures.step
           (sym c.is_closed.ensures ∙ c.if-is_closed.false),
       λ path told out failed. end_cut old c.args.link e.result e.new.gateway e.ensures.step
-          (begun_note b.result c.args.link e.result) noted path told out
+          note noted path told out
           (g.E.Sink.taken c.args.err.now) (g.E.Sink.taken t.new.err) failed
           (g.E.Sink.has_failed t.new.err) p.1 p.2.0 p.2.1 p.2.2,
     ))
-
-pub returns-clause-kept : goal.returns-clause-kept
-returns-clause-kept g c =
-    let t = c.tell_answer in
-    let e = c.end_link-answer in
-    let b = c.advance_link-begun in
-    let old = c.args.self.now in
-    let kept = end_kept old.seen (gateway_view old.gateway) (gateway_view e.new.gateway) c.args.link e.result nothing
-    old.begun.items b.new.begun.items b.result c.requires.kept b.ensures.advances e.ensures.step in
-    told_ok t.result t.ensures.all (λ said. kept_moved _ _ _ _ _ _ t.ensures.seen
-    (ap (λ x. x.items) t.ensures.begun)
-    (ap (λ (x : Gateway Kept). (gateway_view x).links) t.ensures.gateway) kept)

@@ -1,9 +1,7 @@
-use Rattle.std.proofs.Common.{◌++◌, [], ap, refl}
+use Rattle.std.proofs.Common.{◌++◌, [], refl}
 use Rattle.guard_frames.proofs.Appending.{Appends_trans, Prefix_first, Prefix_second}
 use Rattle.guard_policy.specs.PolicyView.{policy_view}
 use Rattle.guard_streams.proofs.Doings.{renewed, renewed_cut, kept_old, kept_cut, told_ok, told_err, cut_as_error, unread_none}
-use Rattle.guard_streams.proofs.Keeping.{kept_moved}
-use Rattle.guard_frames.specs.Gateways.{AbstractGateway}
 use Rattle.guard_streams.proofs.links.Links.reload.Goals as goal
 
 pub returns-in-Ok-clause-done : goal.returns-in-Ok-clause-done
@@ -11,7 +9,7 @@ returns-in-Ok-clause-done g c =
     let n = c.note_policy in
     told_ok n.result n.ensures.all (λ said out.
     renewed c.args.path.now (g.F.Files.told c.args.files.now) (g.F.Files.told c.load.new.files) c.args.self.now
-    (record { gateway = c.step.new.self; status = c.args.self.now.status; seen = c.args.self.now.seen; begun = c.args.self.now.begun })
+    (record { gateway = c.step.new.self; status = c.args.self.now.status; seen = c.args.self.now.seen })
     (policy_view c.in-Ok.policy) c.step.result c.step.ensures.added out
     (g.E.Sink.taken c.args.err.now) (g.E.Sink.taken n.new.err) c.requires.ready c.in-Ok.ensures.there c.in-Ok.ensures.later
     c.step.ensures.step c.step.ensures.took refl refl (rw (← c.messages-messages.ensures, ← c.rules-rules.ensures) said))
@@ -33,7 +31,7 @@ returns-in-Ok-report-clause-done g c =
     let n = c.note_unread in
     told_ok n.result n.ensures.all (λ said out.
     kept_old c.args.path.now (g.F.Files.told c.args.files.now) (g.F.Files.told c.load.new.files) c.args.self.now
-    (record { gateway = c.args.self.now.gateway; status = c.max-self.result; seen = c.args.self.now.seen; begun = c.args.self.now.begun })
+    (record { gateway = c.args.self.now.gateway; status = c.max-self.result; seen = c.args.self.now.seen })
     c.in-Err.fault r.0 said.0 c.in-Ok-report.status out (g.E.Sink.taken c.args.err.now) (g.E.Sink.taken c.report.new.err)
     (g.E.Sink.taken n.new.err) c.requires.ready c.in-Err.ensures.none c.in-Err.ensures.later r.1 said.1 r.2 said.2
     refl c.max-self.ensures refl)
@@ -59,14 +57,3 @@ returns-clause-cut g c = λ out failed. (
     (g.E.Sink.has_failed c.report.new.err) c.in-Err.ensures.none c.in-Err.ensures.later p.3
     (unread_none c.args.self.now.seen c.in-Err.fault) c.in-Err-report.ensures.failed
     (Prefix_first p.2 p.0 [] p.4) p.5)
-
-pub returns-in-Ok-clause-kept : goal.returns-in-Ok-clause-kept
-returns-in-Ok-clause-kept g c =
-    let n = c.note_policy in
-    told_ok n.result n.ensures.all (λ said.
-    kept_moved _ _ _ _ _ _ refl refl (ap (λ (x : AbstractGateway). x.links) c.step.ensures.step.same) c.requires.kept)
-
-pub returns-in-Ok-report-clause-kept : goal.returns-in-Ok-report-clause-kept
-returns-in-Ok-report-clause-kept g c =
-    let n = c.note_unread in
-    told_ok n.result n.ensures.all (λ said. c.requires.kept)

@@ -49,7 +49,7 @@ _derguard() {
                 if [ "$command" = show ]; then word='--message --der --frame --link --capture --explain --help'; fi
                 if [ "$command" = encode ]; then word='--message --from --to --der --help'; fi
                 if [ "$command" = test ]; then word='--cover --explain --help'; fi
-                if [ "$command" = compare ]; then word='--by-place --link --help'; fi
+                if [ "$command" = compare ]; then word='--by-place --summary --link --help'; fi
                 mapfile -t COMPREPLY < <(compgen -W "$word" -- "$current")
             elif [ -z "$policy" ] || [ "$command" = test ] || [ "$command" = compare ]; then
                 compopt -o filenames 2> /dev/null

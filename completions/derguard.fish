@@ -66,6 +66,7 @@ complete -c derguard -n '__fish_seen_subcommand_from show' -l explain -d 'show t
 complete -c derguard -n '__fish_seen_subcommand_from show' -l capture -d 'write the frame itself, as a capture of one'
 complete -c derguard -n '__fish_seen_subcommand_from compare' -l link -x -d 'the number of a link, where standard input is records'
 complete -c derguard -n '__fish_seen_subcommand_from compare' -l by-place -d 'differ too where only the place of a constraint does'
+complete -c derguard -n '__fish_seen_subcommand_from compare' -l summary -d 'count the frames of each rule in place of the lines'
 complete -c derguard -n '__fish_seen_subcommand_from check' -l digest -d 'show SHA-256 over the policy and its modules'
 complete -c derguard -n '__fish_seen_subcommand_from encode' -l der -d 'write the octets themselves'
 complete -c derguard -n '__fish_seen_subcommand_from test' -l cover -d 'list the rules that no case reaches'

@@ -224,7 +224,7 @@ test_fills = (place_fills 1 (codes "policy"), (free_place_fills 2 (codes "cases"
 
 compare_fills : AllFill built_compare.rules
 compare_fills =
-    (place_fills 1 (codes "old"), (place_fills 2 (codes "new"), (switch_fills 3 (codes "by-place"), (free_option_fills (codes "link"), (help_flag_fills 3, tt)))))
+    (place_fills 1 (codes "old"), (place_fills 2 (codes "new"), (switch_fills 3 (codes "by-place"), (switch_fills 3 (codes "summary"), (free_option_fills (codes "link"), (help_flag_fills 3, tt))))))
 
 run_fills : AllFill built_run.rules
 run_fills = (place_fills 1 (codes "policy"), (switch_fills 2 (codes "verbose"), (help_flag_fills 2, tt)))
@@ -310,9 +310,10 @@ compare_asks words e =
       old = p.0;
       new = q.0;
       by_place = flag_of (codes "by-place") rows;
+      summary = flag_of (codes "summary") rows;
       link = first_of (codes "link") rows;
     } in
-    (compare asked, (refl, p.1, q.1, refl, refl))
+    (compare asked, (refl, p.1, q.1, refl, refl, refl))
 
 run_asks : (words : List Text) → level_fault built_run [] nothing_held words false [] ≡ [] → Requests built_run words
 run_asks words e =
@@ -483,6 +484,7 @@ module _ (rows : List Row) where
     old = value_of (codes "old");
     new = value_of (codes "new");
     by_place = flag_of (codes "by-place") rows;
+    summary = flag_of (codes "summary") rows;
     link = first_of (codes "link") rows;
   }
 
@@ -546,8 +548,8 @@ module _ (rows : List Row) where
   is_request_at name (compare asked) h =
       let p = is_value (codes "old") asked.old h.1 in
       let q = is_value (codes "new") asked.new h.2 in
-      let l = sym h.4 in
-      (λ i. compare (record { old = p i; new = q i; by_place = h.3 i; link = l i })) ∙ named_at name (codes "compare") h.0
+      let l = sym h.5 in
+      (λ i. compare (record { old = p i; new = q i; by_place = h.3 i; summary = h.4 i; link = l i })) ∙ named_at name (codes "compare") h.0
   is_request_at name (run path verbose) h =
       let p = is_value (codes "policy") path h.1 in
       (λ i. run (p i) (h.2 i)) ∙ named_at name (codes "run") h.0

@@ -75,11 +75,11 @@ test_shape = command_shape (codes "test")
     (place_rule (codes "policy") ∷ free_place_rule (codes "cases") ∷ flag_rule (codes "cover")
     ∷ flag_rule (codes "explain") ∷ [])
 
--- compare OLD NEW [--by-place] [--link NUMBER]
+-- compare OLD NEW [--by-place] [--summary] [--link NUMBER]
 abbrev pub compare_shape : Shape
 compare_shape = command_shape (codes "compare")
     (place_rule (codes "old") ∷ place_rule (codes "new") ∷ flag_rule (codes "by-place")
-    ∷ free_option_rule (codes "link") ∷ [])
+    ∷ flag_rule (codes "summary") ∷ free_option_rule (codes "link") ∷ [])
 
 -- run POLICY [--verbose]
 abbrev pub run_shape : Shape
@@ -137,7 +137,7 @@ IsCommand name rows (test asked) =
 IsCommand name rows (compare asked) =
     (name ≡ codes "compare") × (first_of (codes "old") rows ≡ Some asked.old)
     × (first_of (codes "new") rows ≡ Some asked.new) × (asked.by_place ≡ flag_of (codes "by-place") rows)
-    × (first_of (codes "link") rows ≡ asked.link)
+    × (asked.summary ≡ flag_of (codes "summary") rows) × (first_of (codes "link") rows ≡ asked.link)
 IsCommand name rows (run path verbose) =
     (name ≡ codes "run") × (first_of (codes "policy") rows ≡ Some path) × (verbose ≡ flag_of (codes "verbose") rows)
 IsCommand name rows (ask path) = (name ≡ codes "ask") × (first_of (codes "policy") rows ≡ Some path)

@@ -52,6 +52,9 @@ const COMPARE_EXAMPLE: &str =
 const BY_PLACE: &str =
     "Verdicts differ too where only the place of a constraint in its module does.";
 
+const SUMMARY: &str =
+    "In place of the lines: how many frames each rule let through or stopped, under each policy.";
+
 const OF_LINK: &str =
     "The number of a link, 0 to 15, whose frames are compared; standard input is records.";
 
@@ -219,12 +222,14 @@ fn comparing_of<'a>(found: &ArgMatches<'a>) -> Comparing<'a>
     ensures new { (path : List ℕ) → first_of (codes "new") (rows_of (found_of found.now)) ≡ Some path
         → (comparing_view result).new ≡ path }
     ensures by_place { (comparing_view result).by_place ≡ flag_of (codes "by-place") (rows_of (found_of found.now)) }
+    ensures summary { (comparing_view result).summary ≡ flag_of (codes "summary") (rows_of (found_of found.now)) }
     ensures link { (comparing_view result).link ≡ first_of (codes "link") (rows_of (found_of found.now)) }
 {
     Comparing {
         old: text(found, "old"),
         new: text(found, "new"),
         by_place: flag(found, "by-place"),
+        summary: flag(found, "summary"),
         link: given(found, "link"),
     }
 }
@@ -390,6 +395,7 @@ fn compare<'a>(alloc: Global) -> Result<Command<'a>, AllocError>
         .arg(place(alloc, "old", "OLD", "The file of the policy in force."))?
         .arg(place(alloc, "new", "NEW", "The file of the new policy."))?
         .arg(switch(alloc, "by-place", BY_PLACE))?
+        .arg(switch(alloc, "summary", SUMMARY))?
         .arg(free_option(alloc, "link", OF_LINK))
 }
 

@@ -1,8 +1,8 @@
 -- The frames that come in piece by piece, compared one after another, and how that ends.
-use Rattle.std.proofs.Common.{◌≡◌, ◌∙◌, ◌+◌, ◌<◌, ◌≤◌, ◌^◌, ◌⊎◌, inl, inr, ℕ, Bool, true, List, [], ◌∷◌, ◌++◌, ap, refl, sym, subst, length, take, drop, map, arith, append_assoc, length-drop}
+use Rattle.std.proofs.Common.{◌≡◌, ◌∙◌, ◌+◌, ◌<◌, ◌^◌, ◌⊎◌, inl, inr, ℕ, Bool, true, List, [], ◌∷◌, ◌++◌, ap, refl, sym, subst, length, take, drop, map, arith, append_assoc, length-drop}
 use Rattle.std.specs.Prelude.{Option, Some, Result, Ok, Err, IfOk, IfErr}
 use Rattle.std.specs.List.{concat, All}
-use Rattle.std.specs.Io.KnownBytes.{Appends, Consumes, IsAtEnd}
+use Rattle.std.specs.Io.KnownBytes.{Appends, Consumes}
 use Rattle.std.proofs.lemmas.List.{append-nil, map-append, take-append-drop, drop-drop}
 use Rattle.std.proofs.lemmas.List.Elements.{All-append}
 use Rattle.std.proofs.lemmas.List.Folds.{concat-append}
@@ -27,9 +27,13 @@ use Rattle.guard_authors.specs.declared.comparing.Origin.TheVariants.{Stream, Li
 use Rattle.guard_authors.specs.declared.comparing.Uncompared.{Uncompared}
 use Rattle.guard_authors.specs.declared.comparing.Uncompared.TheVariants as why
 use Rattle.guard_authors.specs.declared.differing.Tally.{Tally}
+use Rattle.guard_authors.specs.declared.summary.Sums.{Sums}
 use Rattle.guard_authors.specs.Comparing.{ComparesFrames, Ends, Gives, GivesOfLink, IsBad, IsFailed, IsStopped, LeavesOpen, Progress, Reaches, of_link}
-use Rattle.guard_authors.specs.Differing.{AbstractComparison, AbstractTexts, AreLines, AreVerdictTexts, IsLine, after, compared_line, compared_status, no_frames, total_line}
+use Rattle.guard_authors.specs.Differing.{AbstractComparison, AbstractTexts, AreLines, AreVerdictTexts, IsLine, after, compared_line, compared_status, no_frames, total_line, written}
+use Rattle.guard_authors.specs.inside.Counting.{AreCounted, BeginsCounting, CountsFrame, summed, total_text}
 use Rattle.guard_authors.specs.inside.Pieces.{AddsPiece, AreCompared, EndsBehind, HasPassed, HasTaken, StopsReading, StopsTaking}
+use Rattle.guard_authors.proofs.RowsCounted.{frames_begun, frames_counted, frames_none, frames_one, frames_then}
+use Rattle.guard_authors.proofs.SummaryLines.{is_summary}
 
 -- ---- lines
 
@@ -42,12 +46,12 @@ lines_then c t m e (f ∷ fs) gs l k (line, rest, is, others, joined) q = (
   rest ++ k,
   is,
   lines_then c (after t line) m e fs gs rest k others q,
-  ap (λ s. s ++ k) joined ∙ append_assoc line rest k,
+  ap (λ s. s ++ k) joined ∙ append_assoc (written c.summary line) rest k,
 )
 
 pub one_line : (c : AbstractComparison) (t : Tally) (f line : List ℕ) → IsLine c (later t.frames 1) (body_in (drop 4 f)) line
-    → AreLines c t (f ∷ []) line (after t line)
-one_line c t f line is = (line, [], is, (refl, refl), sym (append-nil line))
+    → AreLines c t (f ∷ []) (written c.summary line) (after t line)
+one_line c t f line is = (line, [], is, (refl, refl), sym (append-nil (written c.summary line)))
 
 -- what both policies say on the route of a body
 pub line_is : (c : AbstractComparison) (n : ℕ) (b : AbstractBody) (route : AbstractRoute) (old new : AbstractTexts) (line : List ℕ)
@@ -69,11 +73,11 @@ joined_frames frames others a b c e f =
     e ∙ ap (λ s. concat frames ++ s) f ∙ sym (append_assoc (concat frames) (concat others) c)
     ∙ ap (λ s. s ++ c) (sym (concat-append frames others))
 
-pub nothing_compared : (c : AbstractComparison) (octets : List ℕ) (t : Tally) → AreCompared c octets t octets [] t
+pub nothing_compared : (c : AbstractComparison) (octets : List ℕ) (t : Sums) → AreCompared c octets t octets [] t
 nothing_compared c octets t =
-    record { frames = []; each = All_none IsFrame; split = refl; are = (refl, refl) }
+    record { frames = []; each = All_none IsFrame; split = refl; are = (refl, refl); counted = frames_none c t }
 
-pub none_passed : (c : AbstractComparison) (octets : List ℕ) (t : Tally) (before : List ℕ)
+pub none_passed : (c : AbstractComparison) (octets : List ℕ) (t : Sums) (before : List ℕ)
     → HasPassed c octets t before 0 t before
 none_passed c octets t before = record {
   frames = [];
@@ -82,22 +86,28 @@ none_passed c octets t before = record {
   within = omega arith;
   lines = [];
   are = (refl, refl);
+  counted = frames_none c t;
   added = sym (append-nil before);
 }
 
-pub one_passed : (c : AbstractComparison) (octets : List ℕ) (old : Tally) (before : List ℕ) (at : ℕ) (t : Tally) (lines : List ℕ)
-    (rest : List ℕ) (frame : Frame) (new : Tally) (more line : List ℕ) → HasPassed c octets old before at t lines
-    → rest ≡ drop at octets → IsFirst rest frame → IsLine c (later t.frames 1) (body_in frame.body.now) line
-    → new ≡ after t line → more ≡ lines ++ line → HasPassed c octets old before (at + length frame.octets.now) new more
-one_passed c octets old before at t lines rest frame new more line h same first is counted added =
+pub one_passed : (c : AbstractComparison) (octets : List ℕ) (old : Sums) (before : List ℕ) (at : ℕ) (t : Sums) (lines : List ℕ)
+    (rest : List ℕ) (frame : Frame) (new : Sums) (more line : List ℕ) → HasPassed c octets old before at t lines
+    → rest ≡ drop at octets → IsFirst rest frame → IsLine c (later t.tally.frames 1) (body_in frame.body.now) line
+    → new.tally ≡ after t.tally line → more ≡ lines ++ written c.summary line
+    → (c.summary ≡ true → CountsFrame c (body_in frame.body.now) t new)
+    → HasPassed c octets old before (at + length frame.octets.now) new more
+one_passed c octets old before at t lines rest frame new more line h same first is counted added rows =
     let f = frame.octets.now in
     let size = length f in
     let drops = length-drop at octets in
     let was = h.within in
     let within = first.within in
     let sized = ap length same in
-    let line_is : IsLine c (later t.frames 1) (body_in (drop 4 f)) line =
-    subst (λ (s : List ℕ). IsLine c (later t.frames 1) (body_in s) line) first.body is in
+    let line_is : IsLine c (later t.tally.frames 1) (body_in (drop 4 f)) line =
+    subst (λ (s : List ℕ). IsLine c (later t.tally.frames 1) (body_in s) line) first.body is in
+    let rows_are : c.summary ≡ true → CountsFrame c (body_in (drop 4 f)) t new =
+    subst (λ (s : List ℕ). c.summary ≡ true → CountsFrame c (body_in s) t new) first.body rows in
+    let shown = written c.summary line in
     let whole : drop at octets ≡ concat (f ∷ []) ++ drop (at + size) octets =
     sym (take-append-drop size (drop at octets))
     ∙ ap (λ s. s ++ drop size (drop at octets)) (sym (first.front ∙ ap (take size) same) ∙ sym (append-nil f))
@@ -107,10 +117,11 @@ one_passed c octets old before at t lines rest frame new more line h same first 
       each = All_more IsFrame h.frames f h.each first.is;
       split = joined_frames h.frames (f ∷ []) octets (drop at octets) (drop (at + size) octets) h.split whole;
       within = omega (arith, within, drops, was, sized);
-      lines = h.lines ++ line;
-      are = lines_then c old t new h.frames (f ∷ []) h.lines line h.are
-          (subst (AreLines c t (f ∷ []) line) (sym counted) (one_line c t f line line_is));
-      added = added ∙ ap (λ s. s ++ line) h.added ∙ append_assoc before h.lines line;
+      lines = h.lines ++ shown;
+      are = lines_then c old.tally t.tally new.tally h.frames (f ∷ []) h.lines shown h.are
+          (subst (AreLines c t.tally (f ∷ []) shown) (sym counted) (one_line c t.tally f line line_is));
+      counted = frames_then c h.frames (f ∷ []) old t new h.counted (frames_one c f t new rows_are);
+      added = added ∙ ap (λ s. s ++ shown) h.added ∙ append_assoc before h.lines shown;
     }
 
 -- ---- what came in
@@ -228,19 +239,20 @@ failed_at (Link link) a b y z failed asked = (short_none [] (omega arith), inr a
 
 -- ---- the frames so far
 
-pub record ComparedSoFar (c : AbstractComparison) (origin : Origin) (a b o o₁ : Option (List ℕ)) (held : List ℕ) (t : Tally) : Type 0 where
+pub record ComparedSoFar (c : AbstractComparison) (origin : Origin) (a b o o₁ : Option (List ℕ)) (held : List ℕ) (t : Sums) : Type 0 where
   pub octets : List ℕ
   pub came : CameSoFar origin a b octets
   pub frames : List (List ℕ)
   pub each : All IsFrame frames
   pub split : octets ≡ concat frames ++ held
   pub lines : List ℕ
-  pub are : AreLines c no_frames frames lines t
+  pub are : AreLines c no_frames frames lines t.tally
+  pub counted : AreCounted c frames t
   pub unfinished : IsUnfinished held
   pub sent : Appends o o₁ lines
 
-pub none_compared : (c : AbstractComparison) (origin : Origin) (a o : Option (List ℕ)) (held : List ℕ) (t : Tally)
-    → held ≡ [] → t ≡ no_frames → ComparedSoFar c origin a a o o held t
+pub none_compared : (c : AbstractComparison) (origin : Origin) (a o : Option (List ℕ)) (held : List ℕ) (t : Sums)
+    → held ≡ [] → BeginsCounting c t → ComparedSoFar c origin a a o o held t
 none_compared c origin a o held t none first = record {
   octets = [];
   came = came_none origin a;
@@ -248,18 +260,19 @@ none_compared c origin a o held t none first = record {
   each = All_none IsFrame;
   split = sym none;
   lines = [];
-  are = (refl, first);
+  are = (refl, first.0);
+  counted = frames_begun c t first;
   unfinished = subst IsUnfinished (sym none) empty_unfinished;
   sent = Appends_none o;
 }
 
-module _ (c : AbstractComparison) (origin : Origin) (a b o o₁ : Option (List ℕ)) (held : List ℕ) (t : Tally)
+module _ (c : AbstractComparison) (origin : Origin) (a b o o₁ : Option (List ℕ)) (held : List ℕ) (t : Sums)
     (so_far : ComparedSoFar c origin a b o o₁ held t) where
   -- the progress so far, with this rest
   abbrev progress : List ℕ → Progress
-  progress rest = record { lines = so_far.lines; tally = t; left = held; rest = rest }
+  progress rest = record { lines = so_far.lines; tally = t.tally; left = held; rest = rest }
 
-  reaches : (b₁ : Option (List ℕ)) (y z : ℕ) (failed : Bool) (rest : List ℕ)
+  abbrev reaches : (b₁ : Option (List ℕ)) (y z : ℕ) (failed : Bool) (rest : List ℕ)
       → Gives origin (input_of a b₁ y z failed) so_far.octets rest
       → Reaches c origin (input_of a b₁ y z failed) (progress rest)
   reaches b₁ y z failed rest given = record {
@@ -272,9 +285,9 @@ module _ (c : AbstractComparison) (origin : Origin) (a b o o₁ : Option (List �
   }
 
   -- with one more piece, of which the frames are these
-  compared_more : (b₁ : Option (List ℕ)) (y z : ℕ) (failed : Bool) (piece left lines : List ℕ) (new : Tally)
+  compared_more : (b₁ : Option (List ℕ)) (y z : ℕ) (failed : Bool) (piece left lines : List ℕ) (new : Sums)
       → AddsPiece origin b b₁ piece → AreCompared c (held ++ piece) t left lines new
-      → Reaches c origin (input_of a b₁ y z failed) (record { lines = so_far.lines ++ lines; tally = new; left = left; rest = [] })
+      → Reaches c origin (input_of a b₁ y z failed) (record { lines = so_far.lines ++ lines; tally = new.tally; left = left; rest = [] })
   compared_more b₁ y z failed piece left lines new adds h = record {
     octets = so_far.octets ++ piece;
     given = gives origin a b₁ b₁ y z failed (so_far.octets ++ piece)
@@ -283,10 +296,10 @@ module _ (c : AbstractComparison) (origin : Origin) (a b o o₁ : Option (List �
     each = All-append IsFrame so_far.frames h.frames so_far.each h.each;
     split = joined_frames so_far.frames h.frames (so_far.octets ++ piece) (held ++ piece) left
         (ap (λ s. s ++ piece) so_far.split ∙ append_assoc (concat so_far.frames) held piece) h.split;
-    compared = lines_then c no_frames t new so_far.frames h.frames so_far.lines lines so_far.are h.are;
+    compared = lines_then c no_frames t.tally new.tally so_far.frames h.frames so_far.lines lines so_far.are h.are;
   }
 
-  pub one_taken : (b₁ o₂ : Option (List ℕ)) (f : Bool) (piece left : List ℕ) (new : Tally) → AddsPiece origin b b₁ piece
+  pub one_taken : (b₁ o₂ : Option (List ℕ)) (f : Bool) (piece left : List ℕ) (new : Sums) → AddsPiece origin b b₁ piece
       → HasTaken c (held ++ piece) t left new (device o₁ o₂ f) → ComparedSoFar c origin a b₁ o o₂ left new
   one_taken b₁ o₂ f piece left new adds (lines, h, unfinished, took) =
       record {
@@ -297,7 +310,8 @@ module _ (c : AbstractComparison) (origin : Origin) (a b o o₁ : Option (List �
         split = joined_frames so_far.frames h.frames (so_far.octets ++ piece) (held ++ piece) left
             (ap (λ s. s ++ piece) so_far.split ∙ append_assoc (concat so_far.frames) held piece) h.split;
         lines = so_far.lines ++ lines;
-        are = lines_then c no_frames t new so_far.frames h.frames so_far.lines lines so_far.are h.are;
+        are = lines_then c no_frames t.tally new.tally so_far.frames h.frames so_far.lines lines so_far.are h.are;
+        counted = frames_counted c so_far.frames h.frames t new so_far.counted h.counted;
         unfinished = unfinished;
         sent = Appends_trans o o₁ o₂ so_far.lines lines so_far.sent took;
       }
@@ -309,14 +323,14 @@ module _ (c : AbstractComparison) (origin : Origin) (a b o o₁ : Option (List �
       × IsStopped u origin (input_of a b₁ y z failed) g (device o o₂ f)
   stopped_taking why.Torn b₁ o₂ y z failed f piece adds h = absurd h
   stopped_taking why.TooLong b₁ o₂ y z failed f piece adds (left, lines, new, h, long, took) = (
-    record { lines = so_far.lines ++ lines; tally = new; left = left; rest = [] },
+    record { lines = so_far.lines ++ lines; tally = new.tally; left = left; rest = [] },
     compared_more b₁ y z failed piece left lines new adds h,
     (refl, long, Appends_trans o o₁ o₂ so_far.lines lines so_far.sent took),
   )
   stopped_taking why.BadRecord b₁ o₂ y z failed f piece adds h = absurd h
   stopped_taking why.Lost b₁ o₂ y z failed f piece adds h = absurd h
   stopped_taking why.WriteFailed b₁ o₂ y z failed f piece adds (left, lines, new, h, (part, inside, sent, broken)) = (
-    record { lines = so_far.lines ++ lines; tally = new; left = left; rest = [] },
+    record { lines = so_far.lines ++ lines; tally = new.tally; left = left; rest = [] },
     compared_more b₁ y z failed piece left lines new adds h,
     (
       refl,
@@ -329,18 +343,18 @@ module _ (c : AbstractComparison) (origin : Origin) (a b o o₁ : Option (List �
     ),
   )
   stopped_taking why.NoMemory b₁ o₂ y z failed f piece adds (left, lines, new, h, took) = (
-    record { lines = so_far.lines ++ lines; tally = new; left = left; rest = [] },
+    record { lines = so_far.lines ++ lines; tally = new.tally; left = left; rest = [] },
     compared_more b₁ y z failed piece left lines new adds h,
     Appends_trans o o₁ o₂ so_far.lines lines so_far.sent took,
   )
 
   -- no more come
   all_compared : (b₁ : Option (List ℕ)) (y z : ℕ) (failed f : Bool) → EndsBehind origin b b₁ → held ≡ []
-      → (g : Progress) × Reaches c origin (input_of a b₁ y z failed) g × Ends origin (input_of a b₁ y z failed) g.rest
-      × (g.left ≡ []) × (g.tally ≡ t) × TookAll g.lines (device o o₁ f)
+      → (g : Progress) × (r : Reaches c origin (input_of a b₁ y z failed) g) × Ends origin (input_of a b₁ y z failed) g.rest
+      × (g.left ≡ []) × (g.tally ≡ t.tally) × AreCounted c r.frames t × TookAll g.lines (device o o₁ f)
   all_compared b₁ y z failed f behind none =
       let e = ends origin a b b₁ y z failed so_far.octets so_far.came behind in
-      (progress e.0, reaches b₁ y z failed e.0 e.1, e.2, none, refl, so_far.sent)
+      (progress e.0, reaches b₁ y z failed e.0 e.1, e.2, none, refl, so_far.counted, so_far.sent)
 
   torn_at_end : (b₁ : Option (List ℕ)) (y z : ℕ) (failed f : Bool) → EndsBehind origin b b₁ → 0 < length held
       → (g : Progress) × Reaches c origin (input_of a b₁ y z failed) g
@@ -350,15 +364,23 @@ module _ (c : AbstractComparison) (origin : Origin) (a b o o₁ : Option (List �
       (progress e.0, reaches b₁ y z failed e.0 e.1, (e.2, some, so_far.unfinished, so_far.sent))
 
   -- by what is said of the end, of which a slice has the octets that are held
-  pub ended_whole : (b₁ : Option (List ℕ)) (y z : ℕ) (failed f : Bool) (r : Result Tally Uncompared) (slice : List ℕ) → slice ≡ held
+  pub ended_whole : (b₁ : Option (List ℕ)) (y z : ℕ) (failed f : Bool) (r : Result Sums Uncompared) (slice : List ℕ) → slice ≡ held
       → IfOk r (λ x. (x ≡ t) × (slice ≡ [])) → EndsBehind origin b b₁
-      → IfOk r (λ x. (g : Progress) × Reaches c origin (input_of a b₁ y z failed) g × Ends origin (input_of a b₁ y z failed) g.rest
-      × (g.left ≡ []) × (g.tally ≡ x) × TookAll g.lines (device o o₁ f))
+      → IfOk r (λ x. (g : Progress) × (made : Reaches c origin (input_of a b₁ y z failed) g) × Ends origin (input_of a b₁ y z failed) g.rest
+      × (g.left ≡ []) × (g.tally ≡ x.tally) × AreCounted c made.frames x × TookAll g.lines (device o o₁ f))
   ended_whole b₁ y z failed f (Ok x) slice same (is, none) behind =
-      let h = all_compared b₁ y z failed f behind (sym same ∙ none) in (h.0, h.1, h.2, h.3, h.4 ∙ sym is, h.5)
+      let h = all_compared b₁ y z failed f behind (sym same ∙ none) in (
+        h.0,
+        h.1,
+        h.2,
+        h.3,
+        h.4 ∙ ap (λ (s : Sums). s.tally) (sym is),
+        subst (λ (s : Sums). AreCounted c h.1.frames s) (sym is) h.5,
+        h.6,
+      )
   ended_whole b₁ y z failed f (Err u) slice same h behind = tt
 
-  pub ended_torn : (b₁ : Option (List ℕ)) (y z : ℕ) (failed f : Bool) (r : Result Tally Uncompared) (slice : List ℕ) → slice ≡ held
+  pub ended_torn : (b₁ : Option (List ℕ)) (y z : ℕ) (failed f : Bool) (r : Result Sums Uncompared) (slice : List ℕ) → slice ≡ held
       → IfErr r (λ u. (u ≡ why.Torn) × (0 < length slice)) → EndsBehind origin b b₁
       → IfErr r (λ u. (g : Progress) × Reaches c origin (input_of a b₁ y z failed) g
       × IsStopped u origin (input_of a b₁ y z failed) g (device o o₁ f))
@@ -391,52 +413,60 @@ module _ (c : AbstractComparison) (origin : Origin) (a b o o₁ : Option (List �
     (failed_at origin a b y z failed asked, so_far.unfinished, so_far.sent),
   )
 
--- ---- the last line
+-- ---- the last lines
 
-pub total_written : (c : AbstractComparison) (origin : Origin) (input : Input) (t : Tally) (o o₁ o₂ : Option (List ℕ)) (f₁ f : Bool)
+pub total_written : (c : AbstractComparison) (origin : Origin) (input : Input) (t : Sums) (o o₁ o₂ : Option (List ℕ)) (f₁ f : Bool)
     (err : Device) (status : ℕ)
-    → ((g : Progress) × Reaches c origin input g × Ends origin input g.rest × (g.left ≡ []) × (g.tally ≡ t)
-    × TookAll g.lines (device o o₁ f₁))
-    → Writes (total_line t) (compared_status t) (device o₁ o₂ f) err status ⊎ ((o₂ ≡ o₁) × TellsNoMemory err status)
+    → ((g : Progress) × (r : Reaches c origin input g) × Ends origin input g.rest × (g.left ≡ []) × (g.tally ≡ t.tally)
+    × AreCounted c r.frames t × TookAll g.lines (device o o₁ f₁))
+    → Writes (total_text c t) (compared_status t.tally) (device o₁ o₂ f) err status ⊎ ((o₂ ≡ o₁) × TellsNoMemory err status)
     → ComparesFrames c origin input (device o o₂ f) err status
-total_written c origin input t o o₁ o₂ f₁ f err status (g, r, e, none, same, took) (inl w) =
+total_written c origin input t o o₁ o₂ f₁ f err status (g, r, e, none, same, counted, took) (inl w) =
+    let table = summed c.summary c t in
     inl (
       g,
       r,
       e,
       none,
-      subst (λ (x : Tally). Writes (g.lines ++ total_line x) (compared_status x) (device o o₂ f) err status) (sym same)
-          (elim w [
-            | inl h ↦ inl (Appends_trans o o₁ o₂ g.lines (total_line t) took h.0, h.1, h.2)
-            | inr h ↦ inr (
-              (
-                g.lines ++ h.0.0,
-                Prefix_second h.0.0 g.lines (total_line t) h.0.1,
-                Appends_trans o o₁ o₂ g.lines h.0.0 took h.0.2,
-                h.0.3,
-              ),
-              h.1,
-            )
-          ]),
+      (
+        table,
+        is_summary c r.frames t counted,
+        subst (λ (x : Tally). Writes (g.lines ++ (table ++ total_line x)) (compared_status x) (device o o₂ f) err status) (sym same)
+            (elim w [
+              | inl h ↦ inl (Appends_trans o o₁ o₂ g.lines (total_text c t) took h.0, h.1, h.2)
+              | inr h ↦ inr (
+                (
+                  g.lines ++ h.0.0,
+                  Prefix_second h.0.0 g.lines (total_text c t) h.0.1,
+                  Appends_trans o o₁ o₂ g.lines h.0.0 took h.0.2,
+                  h.0.3,
+                ),
+                h.1,
+              )
+            ]),
+      ),
     )
-total_written c origin input t o o₁ o₂ f₁ f err status (g, r, e, none, same, took) (inr (kept, told)) =
+total_written c origin input t o o₁ o₂ f₁ f err status (g, r, e, none, same, counted, took) (inr (kept, told)) =
     inr (why.NoMemory, g, r, subst (λ (x : Option (List ℕ)). Appends o x g.lines) (sym kept) took, told)
 
 -- there is no memory to begin with
+pub nothing_begun : (c : AbstractComparison) (origin : Origin) (a o : Option (List ℕ)) (y : ℕ) (failed f : Bool)
+    → (g : Progress) × Reaches c origin (input_of a a y y failed) g
+    × IsStopped why.NoMemory origin (input_of a a y y failed) g (device o o f)
+nothing_begun c origin a o y failed f = (
+  record { lines = []; tally = no_frames; left = []; rest = [] },
+  record {
+    octets = [];
+    given = gives origin a a a y y failed [] (came_none origin a) (Consumes_none a);
+    frames = [];
+    each = All_none IsFrame;
+    split = refl;
+    compared = (refl, refl);
+  },
+  Appends_none o,
+)
+
 pub none_begun : (c : AbstractComparison) (origin : Origin) (a o : Option (List ℕ)) (y : ℕ) (failed f : Bool) (err : Device) (status : ℕ)
     → TellsNoMemory err status → ComparesFrames c origin (input_of a a y y failed) (device o o f) err status
 none_begun c origin a o y failed f err status told =
-    inr (
-      why.NoMemory,
-      record { lines = []; tally = no_frames; left = []; rest = [] },
-      record {
-        octets = [];
-        given = gives origin a a a y y failed [] (came_none origin a) (Consumes_none a);
-        frames = [];
-        each = All_none IsFrame;
-        split = refl;
-        compared = (refl, refl);
-      },
-      Appends_none o,
-      told,
-    )
+    let h = nothing_begun c origin a o y failed f in inr (why.NoMemory, h.0, h.1, h.2, told)

@@ -6,6 +6,9 @@ pub mod CasesFound
 pub mod TriedCases
 pub mod FaultyCases
 pub mod ReachedLaws
+pub mod RowsCounted
+pub mod SummaryLines
 pub mod FramesCompared
+pub mod PiecesStopped
 pub mod PlacesTaken
 pub mod TextsJoined

@@ -1,4 +1,5 @@
--- What comes of `compare`: the frames that come in under two policies. With Differing.antt this is the page to read of it.
+-- What comes of `compare`: the frames that come in under two policies. With Differing.antt and
+-- Summary.antt this is the page to read of it.
 use Rattle.std.specs.Prelude.{◌≡◌, ◌<◌, ◌≤◌, ◌^◌, ◌⊎◌, ℕ, Bool, true, nat_eq, List, [], ◌++◌, codes, length, map, Option, Some, None, option_map, if◌then◌else◌}
 use Rattle.std.specs.List.{concat, All}
 use Rattle.std.specs.Io.KnownBytes.{Consumes, IsAtEnd}
@@ -6,7 +7,7 @@ use Rattle.std.specs.Str.Parse.{IsNumeral, digits_value, without_leading_plus}
 use Rattle.guard_policy.specs.Policies.{AbstractPolicy}
 use Rattle.guard_frames.specs.Frames.{IsFrame, IsTooLong, IsUnfinished}
 use Rattle.guard_frames.specs.Totals.{WentUpBy}
-use Rattle.guard_frames.specs.declared.running.RunFault.TheVariants.{FrameTooLong, TornFrame, ReadFailed}
+use Rattle.guard_frames.specs.declared.running.RunFault.TheVariants.{FrameTooLong, TornFrame}
 use Rattle.guard_files.specs.declared.fault.Fault.{Fault}
 use Rattle.guard_files.specs.declared.fault.Fault.TheVariants.{Run}
 use Rattle.guard_files.specs.Devices.{Input, Device, IsUnread, IsUntouched}
@@ -22,6 +23,7 @@ use Rattle.guard_authors.specs.declared.comparing.Uncompared.{Uncompared}
 use Rattle.guard_authors.specs.declared.comparing.Uncompared.TheVariants as why
 use Rattle.guard_authors.specs.declared.differing.Tally.{Tally}
 use Rattle.guard_authors.specs.Differing.{AbstractComparison, AreLines, no_frames, total_line, compared_status}
+use Rattle.guard_authors.specs.Summary.{IsSummary}
 
 -- ---- what came in
 
@@ -86,11 +88,12 @@ pub record Reaches (c : AbstractComparison) (origin : Origin) (input : Input) (g
 
 -- ---- what is written
 
--- All octets are frames. A line for each that differs goes to standard output, and how many.
+-- All octets are frames. A line for each that differs goes to standard output, or their summary; and how many.
 abbrev pub ComparesAll : AbstractComparison → Origin → Input → Device → Device → ℕ → Type 0
 ComparesAll c origin input out err status =
-    (g : Progress) × Reaches c origin input g × Ends origin input g.rest × (g.left ≡ [])
-    × Writes (g.lines ++ total_line g.tally) (compared_status g.tally) out err status
+    (g : Progress) × (r : Reaches c origin input g) × Ends origin input g.rest × (g.left ≡ [])
+    × ((table : List ℕ) × IsSummary c.summary c r.frames table
+    × Writes (g.lines ++ (table ++ total_line g.tally)) (compared_status g.tally) out err status)
 
 -- Why they aren't compared to the end. Standard output has the lines of all frames that came whole before that, or failed
 -- inside them; where memory ran out, it has those of the first frames, and maybe not of all.
@@ -119,11 +122,13 @@ ComparesFrames c origin input out err status =
 
 -- ---- what is asked
 
--- the paths of both policies, whether the places of constraints count, and the number of the link
+-- the paths of both policies, whether the places of constraints count, whether a summary stands for the lines of frames,
+-- and the number of the link
 pub record AbstractComparing : Type 0 where
   pub old : List ℕ
   pub new : List ℕ
   pub by_place : Bool
+  pub summary : Bool
   pub link : Option (List ℕ)
 
 abbrev pub comparing_view : Comparing → AbstractComparing
@@ -132,6 +137,7 @@ comparing_view a =
       old = a.old.now;
       new = a.new.now;
       by_place = a.by_place;
+      summary = a.summary;
       link = option_map (λ number. number.now) a.link;
     }
 
@@ -157,7 +163,8 @@ OnlyTells Says input out err status = IsUnread input × IsUntouched out × Says 
 abbrev pub ComparesWith : AbstractPolicy → Told → AbstractComparing → Origin → Input → Device → Device → ℕ → Type 0
 ComparesWith p told a origin input out err status =
     ((q : AbstractPolicy) × IsPolicyAt told a.new q
-    × ComparesFrames (record { old = p; new = q; by_place = a.by_place }) origin input out err status)
+    × ComparesFrames (record { old = p; new = q; by_place = a.by_place; summary = a.summary }) origin input out err
+    status)
     ⊎ ((f : Fault) × IsNoPolicyAt told a.new f × OnlyTells (Tells f) input out err status)
 
 abbrev pub ComparesUnder : Told → AbstractComparing → Origin → Input → Device → Device → ℕ → Type 0

@@ -1,5 +1,5 @@
 -- When a frame has another verdict under a new policy than under an old one, and what is said of it.
-use Rattle.std.specs.Prelude.{◌≡◌, ℕ, Bool, not, ◌&&◌, ◌||◌, bytes_eq, nat_eq, List, [], ◌∷◌, ◌++◌, codes, decimal, drop, map, Option, Some, None, if◌then◌else◌}
+use Rattle.std.specs.Prelude.{◌≡◌, ℕ, Bool, true, false, not, ◌&&◌, ◌||◌, bytes_eq, nat_eq, List, [], ◌∷◌, ◌++◌, codes, decimal, drop, map, Option, Some, None, if◌then◌else◌}
 use Rattle.guard_eval.specs.Violations.{AbstractViolation}
 use Rattle.guard_model.specs.declared.site.Site.{Site}
 use Rattle.guard_policy.specs.Decisions.{IsReason}
@@ -15,14 +15,16 @@ use Rattle.guard_authors.specs.declared.differing.Comparison.{Comparison}
 use Rattle.guard_authors.specs.declared.differing.VerdictTexts.{VerdictTexts}
 use Rattle.guard_authors.specs.declared.differing.Tally.{Tally}
 
--- the two policies, and whether the places of constraints count
+-- the two policies, whether the places of constraints count, and whether a summary stands for the lines of frames
 pub record AbstractComparison : Type 0 where
   pub old : AbstractPolicy
   pub new : AbstractPolicy
   pub by_place : Bool
+  pub summary : Bool
 
 abbrev pub comparison_view : Comparison → AbstractComparison
-comparison_view c = record { old = policy_view c.old.now; new = policy_view c.new.now; by_place = c.by_place }
+comparison_view c =
+    record { old = policy_view c.old.now; new = policy_view c.new.now; by_place = c.by_place; summary = c.summary }
 
 -- ---- a verdict without the places of its constraints
 
@@ -93,12 +95,17 @@ abbrev pub after : Tally → List ℕ → Tally
 after t [] = record { frames = later t.frames 1; differ = t.differ }
 after t (o ∷ line) = record { frames = later t.frames 1; differ = later t.differ 1 }
 
--- the lines of these frames, in order, and how many there are after them
+-- with a summary none is written
+abbrev pub written : Bool → List ℕ → List ℕ
+written false line = line
+written true line = []
+
+-- what is written of these frames, in order, and how many there are after them
 abbrev pub AreLines : AbstractComparison → Tally → List (List ℕ) → List ℕ → Tally → Type 0
 AreLines c t [] lines last = (lines ≡ []) × (last ≡ t)
 AreLines c t (f ∷ fs) lines last =
     (line : List ℕ) × (rest : List ℕ) × IsLine c (later t.frames 1) (body_in (drop 4 f)) line
-    × AreLines c (after t line) fs rest last × (lines ≡ line ++ rest)
+    × AreLines c (after t line) fs rest last × (lines ≡ written c.summary line ++ rest)
 
 -- ---- how many
 

@@ -14,6 +14,9 @@ pub mod Checked
 pub mod Digested
 -- ---- two policies
 pub mod Differing
+pub mod Summary
 pub mod Comparing
 -- ---- what only private contracts and proofs cite
 pub mod inside
+-- ---- worked examples
+pub mod rows

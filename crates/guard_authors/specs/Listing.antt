@@ -1,11 +1,11 @@
 -- What `check --explain` lists of a policy that is accepted: each message with its rules in the order of the file, and
 -- of each rule what keeps it from letting anything pass; and what of it `check --strict` remarks.
-use Rattle.std.specs.Prelude.{ℕ, ◌+◌, Bool, true, false, not, ◌&&◌, ◌||◌, is_some, List, [], ◌∷◌, ◌++◌, codes, bytes_eq, Option, Some, None, if◌then◌else◌}
+use Rattle.std.specs.Prelude.{ℕ, ◌+◌, Bool, true, false, not, ◌&&◌, ◌||◌, is_some, List, [], ◌∷◌, ◌++◌, length, nat_eq, codes, bytes_eq, Option, Some, None, if◌then◌else◌}
 use Rattle.std.specs.List.{list_any}
 use Rattle.std.specs.Option.{option_map_or}
 use Rattle.std.specs.Str.{str_eq_ignore_ascii_case}
 use Rattle.guard_model.specs.declared.site.Site.{Site}
-use Rattle.guard_model.specs.AbstractType.{AbstractType, at}
+use Rattle.guard_model.specs.AbstractType.{AbstractType}
 use Rattle.guard_model.specs.SameType.{same_site}
 use Rattle.guard_policy.specs.Barren.{is_barren_rule}
 use Rattle.guard_policy.specs.Decisions.{is_allowing, speaks_of}
@@ -132,6 +132,11 @@ abbrev pub messages_lines : Bool → List FoundRule → List AbstractMessage →
 messages_lines strict rules [] = []
 messages_lines strict rules (m ∷ ms) = message_lines strict rules m.name ++ messages_lines strict rules ms
 
+-- there is no message at all
+abbrev pub no_message_text : Bool → List ℕ
+no_message_text true = codes "  no message is declared, so nothing can pass\n"
+no_message_text false = []
+
 -- ---- names of parties
 
 -- the names that rules give for senders and receivers, in order
@@ -168,7 +173,9 @@ case_lines before (b ∷ bs) = case_lines_at before b ++ case_lines (before ++ b
 
 -- strictly, what is remarked and no more
 abbrev pub told_lines : Bool → AbstractPolicy → List ℕ
-told_lines strict p = messages_lines strict (found_rules p) p.messages ++ case_lines [] (parties (found_rules p))
+told_lines strict p =
+    no_message_text (nat_eq (length p.messages) 0) ++ messages_lines strict (found_rules p) p.messages
+    ++ case_lines [] (parties (found_rules p))
 
 -- what the remarks rest on
 abbrev pub last_line : List ℕ

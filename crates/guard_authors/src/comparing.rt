@@ -11,13 +11,15 @@ ghost use Rattle.guard_files.specs.Writing.{TellsNoMemory, TookAll, Writes};
 ghost use Rattle.guard_authors.specs.Comparing.{comparing_view, Compares, ComparesFrames, ComparesUnder, ComparesWith};
 ghost use Rattle.guard_authors.specs.Comparing.{Ends, IsLink, IsMeant, IsStopped, LeavesOpen, Progress, Reaches};
 ghost use Rattle.guard_authors.specs.Comparing.{of_link, TellsStopped};
-ghost use Rattle.guard_authors.specs.Differing.{comparison_view, compared_status, total_line};
+ghost use Rattle.guard_authors.specs.Differing.{comparison_view, compared_status};
 ghost use Rattle.guard_authors.specs.declared.comparing.Origin.TheVariants.{Stream, Link};
 ghost use Rattle.guard_authors.specs.declared.comparing.Uncompared.TheVariants as why;
+ghost use Rattle.guard_authors.specs.inside.Counting.{total_text, AreCounted};
 ghost use Rattle.guard_authors.specs.inside.Pieces.{of_stop, AddsPiece, EndsBehind, HasPassed, HasTaken, StopsReading};
 ghost use Rattle.guard_authors.specs.inside.Pieces.{StopsTaking};
 
-use crate::differing::{Comparison, Tally, add_frame};
+use crate::differing::{Comparison, add_frame};
+use crate::summary::{Sums, summary_text};
 use guard_files::{
     Fault, Files, Header, Stop, add, load, new_room, next_record, tell, tell_bad_record,
     tell_failed_read, tell_failed_write, tell_no_memory, tell_text, write,
@@ -27,13 +29,14 @@ use guard_model::OutOfMemory;
 use guard_policy::Policy;
 use std::alloc::Global;
 
-/// What the words give: the paths of the policies, whether the places of constraints count, and the number of the link
-/// whose frames are compared, where records come in.
+/// What the words give: the paths of the policies, whether the places of constraints count, whether a summary stands
+/// for the lines of frames, and the number of the link whose frames are compared, where records come in.
 #[derive(Clone, Copy, Debug, PartialEq, Eq)]
 pub struct Comparing<'a> {
     pub old: &'a str,
     pub new: &'a str,
     pub by_place: bool,
+    pub summary: bool,
     pub link: Option<&'a str>,
 }
 
@@ -97,10 +100,10 @@ impl From<Stop> for Uncompared {
     }
 }
 
-/// Writes a line for each frame that has another verdict under the new policy than under the old one, and how many
-/// there were, and answers the status: 0 where none differs, 1 where some do, 2 where the link or a policy isn't there,
-/// 3 where the stream or a device failed. A fault is reported on standard error, behind the lines of the frames before
-/// it.
+/// Writes a line for each frame that has another verdict under the new policy than under the old one, or with a summary
+/// how many frames each rule of both has, and how many frames there were. It answers the status: 0 where none differs,
+/// 1 where some do, 2 where the link or a policy isn't there, 3 where the stream or a device failed. A fault is
+/// reported on standard error, behind the lines of the frames before it.
 pub fn compare<F: Files, S: Source, O: Sink, E: Sink>(
     alloc: Global,
     asked: &Comparing,
@@ -184,6 +187,7 @@ fn compare_with<F: Files, S: Source, O: Sink, E: Sink>(
                 old,
                 new: &new,
                 by_place: asked.by_place,
+                summary: asked.summary,
             };
             compare_frames(alloc, &comparison, origin, input, out, err)
         }
@@ -208,22 +212,38 @@ fn compare_frames<S: Source, O: Sink, E: Sink>(
         return tell_no_memory(err);
     };
     match compare_all(alloc, comparison, origin, room.as_mut_slice(), input, out) {
-        Ok(tally) => write_total(alloc, tally, out, err),
+        Ok(sums) => write_total(alloc, comparison, &sums, out, err),
         Err(reason) => tell_stopped(alloc, reason, err),
     }
 }
 
-fn write_total<O: Sink, E: Sink>(alloc: Global, tally: Tally, out: &mut O, err: &mut E) -> u8
-    ensures { Writes (total_line tally) (compared_status tally)
+fn write_total<O: Sink, E: Sink>(
+    alloc: Global,
+    comparison: &Comparison,
+    sums: &Sums,
+    out: &mut O,
+    err: &mut E,
+) -> u8
+    ensures { Writes (total_text (comparison_view comparison.now) sums.now) (compared_status sums.now.tally)
         (device_of O.taken O.has_failed out.old out.new)
         (device_of E.taken E.has_failed err.old err.new) result
         ⊎ ((O.taken out.new ≡ O.taken out.old)
         × TellsNoMemory (device_of E.taken E.has_failed err.old err.new) result) }
 {
-    match tally.text(alloc) {
-        Ok(text) => write(text.as_bytes(), tally.status(), out, err),
+    match total_text(alloc, comparison, sums) {
+        Ok(text) => write(&text, sums.tally.status(), out, err),
         Err(_) => tell_no_memory(err),
     }
+}
+
+/// The summary where it is asked for, and how many frames there were.
+fn total_text(alloc: Global, comparison: &Comparison, sums: &Sums) -> Result<Vec<u8>, OutOfMemory>
+    ensures { IfOk result (λ text. text.items ≡ total_text (comparison_view comparison.now) sums.now) }
+{
+    let mut text = summary_text(alloc, comparison, sums)?;
+    let total = sums.tally.text(alloc)?;
+    add(&mut text, total.as_bytes())?;
+    Ok(text)
 }
 
 /// Reports why frames aren't compared to the end.
@@ -243,7 +263,7 @@ fn tell_stopped<E: Sink>(alloc: Global, reason: Uncompared, err: &mut E) -> u8
 // ---- the frames
 
 /// Compares each frame that comes, writes the lines of those that differ, and answers how many there were. Of the
-/// octets no more is held than a frame and a piece.
+/// octets no more is held than a frame and a piece, and of the frames a number for each rule.
 fn compare_all<S: Source, O: Sink>(
     alloc: Global,
     comparison: &Comparison,
@@ -251,12 +271,12 @@ fn compare_all<S: Source, O: Sink>(
     room: &mut [u8],
     input: &mut S,
     out: &mut O,
-) -> Result<Tally, Uncompared>
+) -> Result<Sums, Uncompared>
     requires { length room.old ≡ 1048576 }
-    ensures all { IfOk result (λ tally. (g : Progress) × Reaches (comparison_view comparison.now) origin
-        (source_of S.tells S.takes S.has_failed input.old input.new) g
+    ensures all { IfOk result (λ sums. (g : Progress) × (r : Reaches (comparison_view comparison.now) origin
+        (source_of S.tells S.takes S.has_failed input.old input.new) g)
         × Ends origin (source_of S.tells S.takes S.has_failed input.old input.new) g.rest
-        × (g.left ≡ []) × (g.tally ≡ tally)
+        × (g.left ≡ []) × (g.tally ≡ sums.tally) × AreCounted (comparison_view comparison.now) r.frames sums
         × TookAll g.lines (device_of O.taken O.has_failed out.old out.new)) }
     ensures stopped { IfErr result (λ reason. (g : Progress) × Reaches (comparison_view comparison.now) origin
         (source_of S.tells S.takes S.has_failed input.old input.new) g
@@ -264,24 +284,24 @@ fn compare_all<S: Source, O: Sink>(
         (device_of O.taken O.has_failed out.old out.new)) }
 {
     let mut held = Vec::new(alloc);
-    let mut tally = Tally::none();
+    let mut sums = Sums::none(alloc, comparison)?;
     let mut reads = MOST_READS;
     for _ in 0..MOST_READS {
         let Some(size) = next_piece(input, origin, room, &mut reads)? else {
-            return ended(&held, tally);
+            return ended(&held, sums);
         };
-        take_piece(alloc, comparison, &room[..size], &mut held, &mut tally, out)?;
+        take_piece(alloc, comparison, &room[..size], &mut held, &mut sums, out)?;
     }
     Err(Uncompared::Lost)
 }
 
 /// What comes of the end: nothing may be left of a frame.
-fn ended(held: &[u8], tally: Tally) -> Result<Tally, Uncompared>
-    ensures whole { IfOk result (λ t. (t ≡ tally) × (held.now ≡ [])) }
+fn ended(held: &[u8], sums: Sums) -> Result<Sums, Uncompared>
+    ensures whole { IfOk result (λ s. (s ≡ sums) × (held.now ≡ [])) }
     ensures torn { IfErr result (λ u. (u ≡ why.Torn) × (0 < length held.now)) }
 {
     if held.is_empty() {
-        Ok(tally)
+        Ok(sums)
     } else {
         Err(Uncompared::Torn)
     }
@@ -293,17 +313,17 @@ fn take_piece<O: Sink>(
     comparison: &Comparison,
     piece: &[u8],
     held: &mut Vec<u8>,
-    tally: &mut Tally,
+    sums: &mut Sums,
     out: &mut O,
 ) -> Result<(), Uncompared>
-    ensures taken { OnOk result (HasTaken (comparison_view comparison.now) (held.old.items ++ piece.now) tally.old
-        held.new.items tally.new (device_of O.taken O.has_failed out.old out.new)) }
+    ensures taken { OnOk result (HasTaken (comparison_view comparison.now) (held.old.items ++ piece.now) sums.old
+        held.new.items sums.new (device_of O.taken O.has_failed out.old out.new)) }
     ensures stopped { IfErr result (λ u. StopsTaking (comparison_view comparison.now) (held.old.items ++ piece.now)
-        tally.old u (device_of O.taken O.has_failed out.old out.new)) }
+        sums.old u (device_of O.taken O.has_failed out.old out.new)) }
 {
     add(held, piece)?;
     let mut lines = Vec::new(alloc);
-    let left = pass(alloc, comparison, held.as_slice(), tally, &mut lines)?;
+    let left = pass(alloc, comparison, held.as_slice(), sums, &mut lines)?;
     put_all(out, &lines)?;
     match left.rest {
         Rest::Unfinished => drop_front(alloc, held, left.at)?,
@@ -317,11 +337,11 @@ fn pass(
     alloc: Global,
     comparison: &Comparison,
     octets: &[u8],
-    tally: &mut Tally,
+    sums: &mut Sums,
     lines: &mut Vec<u8>,
 ) -> Result<Left, OutOfMemory>
-    ensures { IfOk result (λ left. HasPassed (comparison_view comparison.now) octets.now tally.old lines.old.items
-        left.at tally.new lines.new.items × IsRest (drop left.at octets.now) left.rest) }
+    ensures { IfOk result (λ left. HasPassed (comparison_view comparison.now) octets.now sums.old lines.old.items
+        left.at sums.new lines.new.items × IsRest (drop left.at octets.now) left.rest) }
 {
     let mut at = 0;
     loop {
@@ -329,7 +349,7 @@ fn pass(
             Cut::Frame(frame) => frame,
             Cut::Rest(rest) => return Ok(Left { at, rest }),
         };
-        add_frame(alloc, comparison, frame.body, tally, lines)?;
+        add_frame(alloc, comparison, frame.body, sums, lines)?;
         at += frame.octets.len();
     }
 }

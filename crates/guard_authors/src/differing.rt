@@ -1,5 +1,5 @@
 //! The line of a frame that has another verdict under a new policy than under an old one.
-ghost use Rattle.std.specs.Prelude.{◌≡◌, ◌++◌, ℕ, List, Some, map, string_bytes, IfOk, OnOk};
+ghost use Rattle.std.specs.Prelude.{◌≡◌, ◌++◌, ℕ, List, Some, map, string_bytes, true, IfOk, OnOk};
 ghost use Rattle.guard_eval.specs.Violations.{shortfall_view};
 ghost use Rattle.guard_frames.specs.Bodies.{body_in, body_view};
 ghost use Rattle.guard_frames.specs.OfPolicy.{route_of};
@@ -9,8 +9,10 @@ ghost use Rattle.guard_policy.specs.Verdicts.{verdict_view};
 ghost use Rattle.guard_report.specs.Lines.{route_text};
 ghost use Rattle.guard_authors.specs.Differing.{after, are_alike, comparison_view, compared_line, compared_status};
 ghost use Rattle.guard_authors.specs.Differing.{differing_line, displaced_shortfall, no_frames, texts_view, total_line};
-ghost use Rattle.guard_authors.specs.Differing.{without_places, AreVerdictTexts, IsLine};
+ghost use Rattle.guard_authors.specs.Differing.{without_places, written, AreVerdictTexts, IsLine};
+ghost use Rattle.guard_authors.specs.inside.Counting.{CountsFrame};
 
+use crate::summary::Sums;
 use guard_eval::Violation;
 use guard_files::add;
 use guard_frames::{Body, read_body};
@@ -20,12 +22,13 @@ use guard_report::verdict_text;
 use itoa::Buffer;
 use std::alloc::{AllocError, Global};
 
-/// Two policies, and whether the places of constraints count.
+/// Two policies, whether the places of constraints count, and whether a summary stands for the lines of frames.
 #[derive(Clone, Copy)]
 pub struct Comparison<'p> {
     pub old: &'p Policy,
     pub new: &'p Policy,
     pub by_place: bool,
+    pub summary: bool,
 }
 
 /// How many frames there were, and how many of them differ.
@@ -87,22 +90,46 @@ impl Tally {
     }
 }
 
-/// Adds the line of the frame with this body, if there is one, and counts it.
+/// Adds the line of the frame with this body, if there is one, and counts it; with a summary no line is added.
 pub fn add_frame(
     alloc: Global,
     comparison: &Comparison,
     body: &[u8],
-    tally: &mut Tally,
+    sums: &mut Sums,
     lines: &mut Vec<u8>,
 ) -> Result<(), OutOfMemory>
-    ensures { OnOk result ((line : List ℕ) × IsLine (comparison_view comparison.now) (later tally.old.frames 1)
-        (body_in body.now) line × (tally.new ≡ after tally.old line)
-        × (lines.new.items ≡ lines.old.items ++ line)) }
+    ensures line { OnOk result ((line : List ℕ)
+        × IsLine (comparison_view comparison.now) (later sums.old.tally.frames 1) (body_in body.now) line
+        × (sums.new.tally ≡ after sums.old.tally line)
+        × (lines.new.items ≡ lines.old.items ++ written comparison.now.summary line)) }
+    ensures counted { OnOk result (comparison.now.summary ≡ true
+        → CountsFrame (comparison_view comparison.now) (body_in body.now) sums.old sums.new) }
 {
-    let line = frame_line(alloc, comparison, tally.next_number(), body)?;
-    add(lines, &line)?;
-    *tally = tally.after(&line);
+    let line = frame_line(alloc, comparison, sums.tally.next_number(), body)?;
+    note_frame(alloc, comparison, body, &line, sums, lines)?;
+    sums.tally = sums.tally.after(&line);
     Ok(())
+}
+
+/// Adds the line of the frame with this body, or with a summary counts it in its rows.
+fn note_frame(
+    alloc: Global,
+    comparison: &Comparison,
+    body: &[u8],
+    line: &[u8],
+    sums: &mut Sums,
+    lines: &mut Vec<u8>,
+) -> Result<(), OutOfMemory>
+    ensures line { OnOk result (lines.new.items ≡ lines.old.items ++ written comparison.now.summary line.now) }
+    ensures counted { OnOk result (comparison.now.summary ≡ true
+        → CountsFrame (comparison_view comparison.now) (body_in body.now) sums.old sums.new) }
+    ensures kept { sums.new.tally ≡ sums.old.tally }
+{
+    if comparison.summary {
+        sums.count(alloc, comparison, body)
+    } else {
+        add(lines, line)
+    }
 }
 
 /// The line of the frame with this body; empty where its verdicts are alike.
@@ -135,7 +162,7 @@ fn body_line(
     compared_line(alloc, comparison.by_place, number, &route, &old, &new)
 }
 
-fn route_in<'a>(body: &Body<'a>) -> Route<'a>
+pub fn route_in<'a>(body: &Body<'a>) -> Route<'a>
     ensures { route_view result ≡ route_of (body_view body.now) }
 {
     Route {

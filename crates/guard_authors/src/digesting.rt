@@ -3,17 +3,14 @@ ghost use Rattle.std.specs.Prelude.{◌≡◌, ◌++◌, ℕ, List, map, IfOk, I
 ghost use Rattle.sha2.specs.Hashers.{Holds256};
 ghost use Rattle.guard_frames.specs.Texts.{SayPolicy};
 ghost use Rattle.guard_policy.specs.Policies.{AbstractPolicy};
-ghost use Rattle.guard_policy.specs.PolicyView.{policy_view};
 ghost use Rattle.guard_files.specs.Answers.{answer_view};
 ghost use Rattle.guard_files.specs.Reading.{IsNoPolicyAt, SayNoneLoaded};
 ghost use Rattle.guard_authors.specs.Checked.{counts_text};
 ghost use Rattle.guard_authors.specs.Digested.{digest_line, digest_of, with_length, IsDigested};
 
 use crate::checking::counts;
-use guard_files::{Answer, Fault, Files, Texts, add_line};
-use guard_frames::load_texts;
+use guard_files::{Answer, Fault, Files, Texts, add_line, said_by};
 use guard_model::OutOfMemory;
-use guard_policy::Policy;
 use sha2::{Digest, Sha256};
 use std::alloc::Global;
 
@@ -39,17 +36,6 @@ fn digested(alloc: Global, texts: &Texts) -> Result<Answer, Fault>
     let mut out = counts(alloc, &policy)?;
     add_digest(alloc, &mut out, texts)?;
     Ok(Answer { out, status: 0 })
-}
-
-/// The policy that the texts say.
-fn said_by(alloc: Global, texts: &Texts) -> Result<Policy, Fault>
-    ensures there { IfOk result (λ p. SayPolicy
-        (map (λ text. text.items) texts.now.modules.items) texts.now.policy.items (policy_view p)) }
-    ensures none { IfErr result (SayNoneLoaded (map (λ text. text.items) texts.now.modules.items)
-        texts.now.policy.items) }
-{
-    let modules = texts.module_slices(alloc)?;
-    Ok(load_texts(alloc, &modules, &texts.policy)?)
 }
 
 /// Adds the line of the number.

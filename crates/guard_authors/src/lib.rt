@@ -12,6 +12,7 @@
 //! | What is said of a text that writes no value? | `no_value.rt` | `specs/NoValue.antt` |
 //! | Which rules does no case reach? | `reached.rt` | `specs/Reached.antt` |
 //! | Which frames have another verdict under a new policy? | `differing.rt`, `comparing.rt` | `specs/Differing.antt`, `specs/Comparing.antt` |
+//! | How many frames has each rule before and after? | `summary.rt` | `specs/Summary.antt` |
 #![tactic(auto)]
 
 mod cases;
@@ -26,6 +27,7 @@ mod no_value;
 mod parties;
 mod reached;
 mod strictness;
+mod summary;
 mod testing;
 mod written;
 

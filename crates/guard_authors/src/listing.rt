@@ -10,7 +10,7 @@ ghost use Rattle.guard_authors.specs.Listing.{denies_all_of, first_denier, may_l
 ghost use Rattle.guard_authors.specs.Listing.{denied_text, closed_text, denier_of, remarks, rule_line};
 ghost use Rattle.guard_authors.specs.Listing.{line_of_message, rule_lines, unused_line, message_lines};
 ghost use Rattle.guard_authors.specs.Listing.{messages_lines, has_remark, is_told, told_lines, listing};
-ghost use Rattle.guard_authors.specs.Listing.{strict_remarks};
+ghost use Rattle.guard_authors.specs.Listing.{no_message_text, strict_remarks};
 
 use crate::parties::{add_case_lines, parties};
 use guard_files::{add, add_said};
@@ -55,6 +55,7 @@ fn told_lines(alloc: Global, policy: &Policy, strict: bool) -> Result<Vec<u8>, O
 {
     let rules = found_rules(alloc, policy)?;
     let mut text = Vec::new(alloc);
+    add(&mut text, no_message_text(policy.messages() == 0))?;
     add_messages(&mut text, policy, &rules, strict)?;
     let parties = parties(alloc, &rules)?;
     add_case_lines(&mut text, &parties)?;
@@ -344,6 +345,17 @@ fn barren_text(barren: bool) -> &'static [u8]
 {
     if barren {
         b"; its type has no value of the declared type"
+    } else {
+        b""
+    }
+}
+
+/// Where there is no message at all.
+fn no_message_text(none: bool) -> &'static [u8]
+    ensures { result.now ≡ no_message_text none }
+{
+    if none {
+        b"  no message is declared, so nothing can pass\n"
     } else {
         b""
     }

@@ -45,7 +45,7 @@ pub use frames::{NoFrame, frame_or_rest, new_frame_room, next_frame};
 pub use giving::{give, give_explained};
 pub use intake::{Unread, read_all};
 pub use loaded::Loaded;
-pub use loading::{load, load_explained, read_explained};
+pub use loading::{load, load_explained, read_explained, said_by};
 pub use octets::{add, add_line};
 pub use outputs::{
     FAILED, report, tell, tell_bad_record, tell_failed_read, tell_failed_write, tell_line,

@@ -92,8 +92,8 @@ fn said_explained(alloc: Global, path: &str, texts: &Texts) -> Result<Policy, Re
     }
 }
 
-/// The policy that the texts say.
-fn said_by(alloc: Global, texts: &Texts) -> Result<Policy, Fault>
+/// The policy that the texts say. It refuses with Schema or Policy, by the first fault of the texts.
+pub fn said_by(alloc: Global, texts: &Texts) -> Result<Policy, Fault>
     ensures there { IfOk result (λ p. SayPolicy
         (map (λ text. text.items) texts.now.modules.items) texts.now.policy.items (policy_view p)) }
     ensures none { IfErr result (λ f. SayNothing

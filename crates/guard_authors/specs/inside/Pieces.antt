@@ -14,9 +14,10 @@ use Rattle.guard_authors.specs.declared.comparing.Origin.{Origin}
 use Rattle.guard_authors.specs.declared.comparing.Origin.TheVariants.{Stream, Link}
 use Rattle.guard_authors.specs.declared.comparing.Uncompared.{Uncompared}
 use Rattle.guard_authors.specs.declared.comparing.Uncompared.TheVariants as why
-use Rattle.guard_authors.specs.declared.differing.Tally.{Tally}
+use Rattle.guard_authors.specs.declared.summary.Sums.{Sums}
 use Rattle.guard_authors.specs.Comparing.{LeavesOpen, of_link}
 use Rattle.guard_authors.specs.Differing.{AbstractComparison, AreLines}
+use Rattle.guard_authors.specs.inside.Counting.{CountsFrames}
 
 -- why no record could be read
 abbrev pub of_stop : Stop → Uncompared
@@ -56,36 +57,38 @@ StopsReading why.NoMemory origin before after failed reads = ⊥
 -- ---- octets that are held and the piece behind them
 
 -- the octets up to this place are frames, and their lines were added
-pub record HasPassed (c : AbstractComparison) (octets : List ℕ) (old : Tally) (before : List ℕ) (at : ℕ) (new : Tally)
+pub record HasPassed (c : AbstractComparison) (octets : List ℕ) (old : Sums) (before : List ℕ) (at : ℕ) (new : Sums)
     (behind : List ℕ) : Type 0 where
   pub frames : List (List ℕ)
   pub each : All IsFrame frames
   pub split : octets ≡ concat frames ++ drop at octets
   pub within : at ≤ length octets
   pub lines : List ℕ
-  pub are : AreLines c old frames lines new
+  pub are : AreLines c old.tally frames lines new.tally
+  pub counted : CountsFrames c frames old new
   pub added : behind ≡ before ++ lines
 
 -- the octets are frames and what is left, and these are the lines
-pub record AreCompared (c : AbstractComparison) (octets : List ℕ) (old : Tally) (left lines : List ℕ) (new : Tally) : Type 0 where
+pub record AreCompared (c : AbstractComparison) (octets : List ℕ) (old : Sums) (left lines : List ℕ) (new : Sums) : Type 0 where
   pub frames : List (List ℕ)
   pub each : All IsFrame frames
   pub split : octets ≡ concat frames ++ left
-  pub are : AreLines c old frames lines new
+  pub are : AreLines c old.tally frames lines new.tally
+  pub counted : CountsFrames c frames old new
 
-abbrev pub HasTaken : AbstractComparison → List ℕ → Tally → List ℕ → Tally → Device → Type 0
+abbrev pub HasTaken : AbstractComparison → List ℕ → Sums → List ℕ → Sums → Device → Type 0
 HasTaken c octets old left new out =
     (lines : List ℕ) × AreCompared c octets old left lines new × IsUnfinished left × TookAll lines out
 
 -- A length is too great, standard output failed, or memory ran out, before the lines were written or behind that.
-abbrev pub StopsTaking : AbstractComparison → List ℕ → Tally → Uncompared → Device → Type 0
+abbrev pub StopsTaking : AbstractComparison → List ℕ → Sums → Uncompared → Device → Type 0
 StopsTaking c octets old why.TooLong out =
-    (left : List ℕ) × (lines : List ℕ) × (new : Tally) × AreCompared c octets old left lines new × IsTooLong left
+    (left : List ℕ) × (lines : List ℕ) × (new : Sums) × AreCompared c octets old left lines new × IsTooLong left
     × TookAll lines out
 StopsTaking c octets old why.WriteFailed out =
-    (left : List ℕ) × (lines : List ℕ) × (new : Tally) × AreCompared c octets old left lines new × TookPart lines out
+    (left : List ℕ) × (lines : List ℕ) × (new : Sums) × AreCompared c octets old left lines new × TookPart lines out
 StopsTaking c octets old why.NoMemory out =
-    (left : List ℕ) × (lines : List ℕ) × (new : Tally) × AreCompared c octets old left lines new × TookAll lines out
+    (left : List ℕ) × (lines : List ℕ) × (new : Sums) × AreCompared c octets old left lines new × TookAll lines out
 StopsTaking c octets old why.Torn out = ⊥
 StopsTaking c octets old why.BadRecord out = ⊥
 StopsTaking c octets old why.Lost out = ⊥

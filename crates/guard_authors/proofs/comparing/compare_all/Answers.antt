@@ -3,19 +3,24 @@ use Rattle.std.proofs.lemmas.Result.{err_from_is_err_and}
 use Rattle.guard_frames.specs.Totals.{WentUpBy}
 use Rattle.guard_files.proofs.RecordLaws.{found_size, asked_more, asked_all}
 use Rattle.guard_authors.specs.inside.Pieces.{AddsPiece}
-use Rattle.guard_authors.proofs.FramesCompared.{none_compared, one_taken, stopped_taking, ended_whole, ended_torn, stopped_reading, lost_at_last}
+use Rattle.guard_authors.proofs.FramesCompared.{none_compared, nothing_begun, one_taken, stopped_taking, ended_whole, ended_torn, stopped_reading, lost_at_last}
 use Rattle.guard_authors.proofs.comparing.compare_all.Goals as goal
 
 pub loop-init : goal.loop-init
 loop-init g c = record {
-  so_far = none_compared _ _ _ _ _ _ c.new-held.ensures.items c.none-tally.ensures;
+  so_far = none_compared _ _ _ _ _ _ c.new-held.ensures.items c.in_ok-sums.ensures;
   asked = omega arith;
   left = omega arith;
 }
 
+pub returns-in_err-sums-clause-stopped : goal.returns-in_err-sums-clause-stopped
+returns-in_err-sums-clause-stopped g c =
+    let e = err_from_is_err_and c.from_residual.result c.from_residual.ensures.1 in
+    rw (e.1, e.2) (nothing_begun _ _ _ _ _ _ (g.O.Sink.has_failed c.args.out.now))
+
 pub returns-in_err-size-clause-stopped : goal.returns-in_err-size-clause-stopped
 returns-in_err-size-clause-stopped g c =
-    let e = err_from_is_err_and c.from_residual.result c.from_residual.ensures.1 in
+    let e = err_from_is_err_and c.from_residual-in_err-size.result c.from_residual-in_err-size.ensures.1 in
     let i = c.loop.invariant in
     let n = c.in_err-size.ensures in
     let few : c.loop.reads ≤ 2 ^ 40 = omega (arith, i.left) in

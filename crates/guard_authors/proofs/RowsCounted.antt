@@ -1,0 +1,267 @@
+-- The rows of frames, counted one after another.
+use Rattle.std.proofs.Common.{◌≡◌, ◌∙◌, ◌+◌, ◌<◌, ◌≤◌, ◌||◌, inr, ℕ, Bool, true, false, true≢false, cond, List, [], ◌∷◌, ◌++◌, ap, refl, sym, subst, length, drop, set, get_or, replicate, arith, append_assoc}
+use Rattle.std.specs.Prelude.{nat_eq, slice_get, unwrap_or, Option, Some, None, Result, Ok, Err, OnOk}
+use Rattle.std.proofs.lemmas.Grind.{get_or_default_zero}
+use Rattle.std.specs.List.{count_by, list_any}
+use Rattle.std.proofs.lemmas.Bool.{eqb-true, eqb-false}
+use Rattle.std.proofs.lemmas.List.{append-nil, get_or-set_same, get_or-set_other, get_or-replicate, length-set, length-replicate}
+use Rattle.std.proofs.lemmas.List.Sums.{sum_by_push}
+use Rattle.guard_eval.specs.Violations.{AbstractViolation, violation}
+use Rattle.guard_model.specs.AbstractType.{AbstractType}
+use Rattle.guard_model.specs.AbstractValue.{AbstractValue}
+use Rattle.guard_policy.specs.Consistency.{IsConsistent}
+use Rattle.guard_policy.specs.Decisions.{IsReason, NumberedRule, allows, by_allowing, by_rules, first_denying, is_allowing, judged, rules_of, shortfalls}
+use Rattle.guard_policy.specs.Policies.{AbstractPolicy, AbstractRoute}
+use Rattle.guard_policy.specs.Verdicts.{AbstractVerdict, pass, denied_by, not_allowed, no_rule, outside_type}
+use Rattle.guard_policy.proofs.OneReason.{one_reason}
+use Rattle.guard_frames.specs.Bodies.{AbstractBody, body_in}
+use Rattle.guard_frames.specs.OfPolicy.{route_of}
+use Rattle.guard_frames.specs.Totals.{later}
+use Rattle.guard_files.specs.Allowed.{OfValue, allowing}
+use Rattle.guard_authors.specs.declared.summary.Counts.{Counts}
+use Rattle.guard_authors.specs.declared.summary.Row.{Row}
+use Rattle.guard_authors.specs.declared.summary.Row.TheVariants.{Rule, Reason}
+use Rattle.guard_authors.specs.declared.summary.Sums.{Sums}
+use Rattle.guard_authors.specs.Differing.{AbstractComparison, written}
+use Rattle.guard_authors.specs.Summary.{AreRows, IsRow, IsRowOf, how_often, reasons_in, rules_in}
+use Rattle.guard_authors.specs.inside.Counting.{AreCounted, AreCounts, BeginsCounting, CountsBodies, CountsBody, CountsFrame, CountsFrames, IsCount, IsCounted, count_at}
+
+-- ---- a number more
+
+often_more : (numbers : List ℕ) (n i : ℕ) → how_often (numbers ++ n ∷ []) i ≡ later (how_often numbers i) (cond (nat_eq n i) 1 0)
+often_more numbers n i =
+    let more = sum_by_push (λ x. cond (nat_eq x i) 1 0) numbers n in
+    let of_one : later 0 (count_by (λ x. nat_eq x i) (numbers ++ n ∷ [])) ≡ later 0 (count_by (λ x. nat_eq x i) numbers + cond (nat_eq n i) 1 0) =
+    ap (later 0) more in
+    of_one ∙ omega arith
+
+often_same : (numbers : List ℕ) (n i : ℕ) → nat_eq n i ≡ true → how_often (numbers ++ n ∷ []) i ≡ later (how_often numbers i) 1
+often_same numbers n i same = often_more numbers n i ∙ ap (λ b. later (how_often numbers i) (cond b 1 0)) same
+
+often_other : (numbers : List ℕ) (n i : ℕ) → nat_eq n i ≡ false → how_often (numbers ++ n ∷ []) i ≡ how_often numbers i
+often_other numbers n i other =
+    let none : later (how_often numbers i) 0 ≡ how_often numbers i = omega arith in
+    often_more numbers n i ∙ ap (λ b. later (how_often numbers i) (cond b 1 0)) other ∙ none
+
+-- ---- a count
+
+pub none_counted : (many : ℕ) (counts : List ℕ) → counts ≡ replicate many 0 → IsCount many [] counts
+none_counted many counts same = (
+  ap length same ∙ length-replicate many 0,
+  λ i lt. ap (λ xs. count_at xs i) same ∙ get_or-replicate many i 0 0 lt,
+)
+
+one_at : (many : ℕ) (numbers counts : List ℕ) (n : ℕ) → IsCount many numbers counts → n < length counts → (i : ℕ) → i < many
+    → (b : Bool) → nat_eq n i ≡ b → count_at (set counts n (later (count_at counts n) 1)) i ≡ how_often (numbers ++ n ∷ []) i
+one_at many numbers counts n h inside i lt true e =
+    let same : n ≡ i = eqb-true n i e in
+    subst (λ (j : ℕ). count_at (set counts n (later (count_at counts n) 1)) j ≡ later (count_at counts j) 1) same
+    (get_or-set_same counts n (later (count_at counts n) 1) 0 inside)
+    ∙ ap (λ k. later k 1) (h.1 i lt) ∙ sym (often_same numbers n i e)
+one_at many numbers counts n h inside i lt false e =
+    get_or-set_other counts n i (later (count_at counts n) 1) 0 (λ is. eqb-false n i e (sym is))
+    ∙ h.1 i lt ∙ sym (often_other numbers n i e)
+
+pub one_counted : (many : ℕ) (numbers counts : List ℕ) (n : ℕ) → n < length counts → IsCount many numbers counts
+    → IsCount many (numbers ++ n ∷ []) (set counts n (later (count_at counts n) 1))
+one_counted many numbers counts n inside h = (
+  length-set counts n (later (count_at counts n) 1) ∙ h.0,
+  λ i lt. one_at many numbers counts n h inside i lt (nat_eq n i) refl,
+)
+
+-- as the code has it: a number is read, and one more is written
+pub counted_at : (counts : List ℕ) (n was is : ℕ) → n < length counts → was ≡ get_or counts n was → is ≡ later was 1
+    → (many : ℕ) (numbers : List ℕ) → IsCount many numbers counts → IsCount many (numbers ++ n ∷ []) (set counts n is)
+counted_at counts n was is inside read more many numbers h =
+    let same : is ≡ later (count_at counts n) 1 =
+    more ∙ ap (λ (k : ℕ). later k 1) (read ∙ get_or_default_zero counts n was inside) in
+    subst (λ (k : ℕ). IsCount many (numbers ++ n ∷ []) (set counts n k)) (sym same) (one_counted many numbers counts n inside h)
+
+-- one that has no count
+pub other_counted : (many : ℕ) (numbers counts : List ℕ) (n : ℕ) → length counts ≤ n → IsCount many numbers counts
+    → IsCount many (numbers ++ n ∷ []) counts
+other_counted many numbers counts n past h = (
+  h.0,
+  λ i lt. h.1 i lt ∙ sym (elim (nat_eq n i) as (λ b. nat_eq n i ≡ b → how_often (numbers ++ n ∷ []) i ≡ how_often numbers i) [
+    | true ↦ λ e. let same : n ≡ i = eqb-true n i e in let size = h.0 in absurd (omega (arith, past, lt, same, size))
+    | false ↦ λ e. often_other numbers n i e
+  ] refl),
+)
+
+-- ---- a row more
+
+rules_then : (a b : List Row) → rules_in (a ++ b) ≡ rules_in a ++ rules_in b
+rules_then [] b = refl
+rules_then (Rule i ∷ a) b = ap (λ ns. i ∷ ns) (rules_then a b)
+rules_then (Reason k ∷ a) b = rules_then a b
+
+reasons_then : (a b : List Row) → reasons_in (a ++ b) ≡ reasons_in a ++ reasons_in b
+reasons_then [] b = refl
+reasons_then (Rule i ∷ a) b = reasons_then a b
+reasons_then (Reason k ∷ a) b = ap (λ ns. k ∷ ns) (reasons_then a b)
+
+abbrev pub CountsNumber : ℕ → List ℕ → List ℕ → Type 0
+CountsNumber n before after =
+    (many : ℕ) (numbers : List ℕ) → IsCount many numbers before → IsCount many (numbers ++ n ∷ []) after
+
+pub counts_rule : (n : ℕ) (rules rules₁ reasons : List ℕ) → CountsNumber n rules rules₁ → (many : ℕ) (rows : List Row)
+    → IsCount many (rules_in rows) rules × IsCount 6 (reasons_in rows) reasons
+    → IsCount many (rules_in (rows ++ Rule n ∷ [])) rules₁ × IsCount 6 (reasons_in (rows ++ Rule n ∷ [])) reasons
+counts_rule n rules rules₁ reasons counts many rows h = (
+  subst (λ (ns : List ℕ). IsCount many ns rules₁) (sym (rules_then rows (Rule n ∷ []))) (counts many (rules_in rows) h.0),
+  subst (λ (ns : List ℕ). IsCount 6 ns reasons) (sym (reasons_then rows (Rule n ∷ []) ∙ append-nil (reasons_in rows))) h.1,
+)
+
+pub counts_reason : (n : ℕ) (rules reasons reasons₁ : List ℕ) → CountsNumber n reasons reasons₁ → (many : ℕ) (rows : List Row)
+    → IsCount many (rules_in rows) rules × IsCount 6 (reasons_in rows) reasons
+    → IsCount many (rules_in (rows ++ Reason n ∷ [])) rules × IsCount 6 (reasons_in (rows ++ Reason n ∷ [])) reasons₁
+counts_reason n rules reasons reasons₁ counts many rows h = (
+  subst (λ (ns : List ℕ). IsCount many ns rules) (sym (rules_then rows (Reason n ∷ []) ∙ append-nil (rules_in rows))) h.0,
+  subst (λ (ns : List ℕ). IsCount 6 ns reasons₁) (sym (reasons_then rows (Reason n ∷ []))) (counts 6 (reasons_in rows) h.1),
+)
+
+-- ---- the frames
+
+rows_then : (p : AbstractPolicy) (fs gs : List (List ℕ)) (a b : List Row) → AreRows p fs a → AreRows p gs b → AreRows p (fs ++ gs) (a ++ b)
+rows_then p [] gs a b none h = subst (λ (rows : List Row). AreRows p gs (rows ++ b)) (sym none) h
+rows_then p (f ∷ fs) gs a b (row, others, is, more, joined) h =
+    (row, others ++ b, is, rows_then p fs gs others b more h, ap (λ rows. rows ++ b) joined)
+
+bodies_then : (p : AbstractPolicy) (fs gs : List (List ℕ)) (a b c : Counts) → CountsBodies p fs a b → CountsBodies p gs b c
+    → CountsBodies p (fs ++ gs) a c
+bodies_then p fs gs a b c h k = (
+  h.0 ++ k.0,
+  rows_then p fs gs h.0 k.0 h.1 k.1,
+  λ rows before. subst (λ (x : List Row). AreCounts (length p.rules) x c) (append_assoc rows h.0 k.0)
+      (k.2 (rows ++ h.0) (h.2 rows before)),
+)
+
+bodies_none : (p : AbstractPolicy) (a : Counts) → CountsBodies p [] a a
+bodies_none p a = (
+  [],
+  refl,
+  λ rows before. subst (λ (x : List Row). AreCounts (length p.rules) x a) (sym (append-nil rows)) before,
+)
+
+bodies_one : (p : AbstractPolicy) (f : List ℕ) (a b : Counts) → CountsBody p (body_in (drop 4 f)) a b → CountsBodies p (f ∷ []) a b
+bodies_one p f a b h = (h.0 ∷ [], (h.0, [], h.1, refl, refl), h.2)
+
+bodies_counted : (p : AbstractPolicy) (fs gs : List (List ℕ)) (a b : Counts) → IsCounted p fs a → CountsBodies p gs a b → IsCounted p (fs ++ gs) b
+bodies_counted p fs gs a b h k = (h.0 ++ k.0, rows_then p fs gs h.0 k.0 h.1 k.1, k.2 h.0 h.2)
+
+-- ---- under both policies
+
+pub frames_then : (c : AbstractComparison) (fs gs : List (List ℕ)) (a b e : Sums) → CountsFrames c fs a b → CountsFrames c gs b e
+    → CountsFrames c (fs ++ gs) a e
+frames_then c fs gs a b e h k = λ asked. (
+  bodies_then c.old fs gs a.under_old b.under_old e.under_old (h asked).0 (k asked).0,
+  bodies_then c.new fs gs a.under_new b.under_new e.under_new (h asked).1 (k asked).1,
+)
+
+pub frames_none : (c : AbstractComparison) (a : Sums) → CountsFrames c [] a a
+frames_none c a = λ asked. (bodies_none c.old a.under_old, bodies_none c.new a.under_new)
+
+pub frames_one : (c : AbstractComparison) (f : List ℕ) (a b : Sums)
+    → (c.summary ≡ true → CountsFrame c (body_in (drop 4 f)) a b) → CountsFrames c (f ∷ []) a b
+frames_one c f a b h = λ asked. (
+  bodies_one c.old f a.under_old b.under_old (h asked).0,
+  bodies_one c.new f a.under_new b.under_new (h asked).1,
+)
+
+pub frames_begun : (c : AbstractComparison) (a : Sums) → BeginsCounting c a → AreCounted c [] a
+frames_begun c a h = λ asked. (([], refl, h.1), ([], refl, h.2))
+
+pub frames_counted : (c : AbstractComparison) (fs gs : List (List ℕ)) (a b : Sums) → AreCounted c fs a → CountsFrames c gs a b
+    → AreCounted c (fs ++ gs) b
+frames_counted c fs gs a b h k = λ asked. (
+  bodies_counted c.old fs gs a.under_old b.under_old (h asked).0 (k asked).0,
+  bodies_counted c.new fs gs a.under_new b.under_new (h asked).1 (k asked).1,
+)
+
+-- ---- what is written of a frame, where a test has this answer
+
+pub ok_if : {A E P : Type 0} (r : Result A E) → P → OnOk r P
+ok_if (Ok x) p = p
+ok_if (Err e) p = tt
+
+pub none_written : (asked : Bool) (lines line : List ℕ) → asked ≡ true → lines ≡ lines ++ written asked line
+none_written true lines line is = sym (append-nil lines)
+none_written false lines line is = absurd cc
+
+pub one_written : (asked : Bool) (before after line : List ℕ) → asked ≡ false → after ≡ before ++ line → after ≡ before ++ written asked line
+one_written true before after line is added = absurd cc
+one_written false before after line is added = added
+
+-- ---- the row of a frame
+
+pub row_is : (p : AbstractPolicy) (b : AbstractBody) (route : AbstractRoute) (w : AbstractVerdict) (row : Row) → route ≡ route_of b
+    → IsReason p route b.message_octets w → IsRow p route b.message_octets w row → IsRowOf p (Some b) row
+row_is p b route w row same reason is = (
+  w,
+  subst (λ (r : AbstractRoute). IsReason p r b.message_octets w) same reason,
+  subst (λ (r : AbstractRoute). IsRow p r b.message_octets w row) same is,
+)
+
+-- of a message that goes some rule allows the value
+
+unviolated : (x : Option AbstractViolation) (k : AbstractVerdict) → (elim x [ Some w ↦ outside_type w | None ↦ k ]) ≡ pass → k ≡ pass
+unviolated None k e = e
+unviolated (Some w) k e = absurd cc
+
+undenied : (x : Option ℕ) (k : AbstractVerdict) → (elim x [ Some i ↦ denied_by i | None ↦ k ]) ≡ pass → k ≡ pass
+undenied None k e = e
+undenied (Some i) k e = absurd cc
+
+abbrev some_allows : List NumberedRule → AbstractValue → Bool
+some_allows rules v = list_any (λ r. allows r.rule v) rules
+
+allowed : (b c : Bool) (found : List (ℕ × AbstractViolation)) → cond b pass (cond c (not_allowed found) no_rule) ≡ pass → b ≡ true
+allowed true c found e = refl
+allowed false true found e = absurd cc
+allowed false false found e = absurd cc
+
+judged_allowed : (t : AbstractType) (rules : List NumberedRule) (v : AbstractValue) → judged t rules v ≡ pass → some_allows rules v ≡ true
+judged_allowed t rules v e =
+    allowed (some_allows rules v) (list_any (λ r. is_allowing r.rule) rules) (shortfalls rules v)
+    (undenied (first_denying rules v) (by_allowing rules v) (unviolated (violation t v) (by_rules rules v) e))
+
+none_listed : (rules : List NumberedRule) (v : AbstractValue) → allowing rules v ≡ [] → some_allows rules v ≡ false
+none_listed [] v e = refl
+none_listed (r ∷ rs) v e =
+    (elim (allows r.rule v) as (λ b. cond b (r.number ∷ allowing rs v) (allowing rs v) ≡ [] → (b || some_allows rs v) ≡ false) [
+      | true ↦ λ is. absurd cc
+      | false ↦ λ is. none_listed rs v is
+    ]) e
+
+pub some_listed : (p : AbstractPolicy) (route : AbstractRoute) (octets numbers : List ℕ) → IsConsistent p.messages p.rules
+    → IsReason p route octets pass → OfValue p route.message octets (λ t v. numbers ≡ allowing (rules_of p route) v)
+    → numbers ≡ [] → ⊥
+some_listed p route octets numbers ok reason (t, v, declared, fitting, encoded, are) none =
+    let e : pass ≡ judged t (rules_of p route) v =
+    one_reason p route octets pass (judged t (rules_of p route) v) ok reason (inr (t, declared, inr (v, fitting, encoded, refl))) in
+    true≢false (sym (judged_allowed t (rules_of p route) v (sym e)) ∙ none_listed (rules_of p route) v (sym are ∙ none))
+
+-- the first of the numbers, as the code reads it
+
+nothing_first : (numbers : List ℕ) → slice_get numbers 0 ≡ None → numbers ≡ []
+nothing_first [] e = refl
+nothing_first (i ∷ others) e = absurd cc
+
+something_first : (numbers : List ℕ) (i : ℕ) → slice_get numbers 0 ≡ Some i → (others : List ℕ) × (numbers ≡ i ∷ others)
+something_first [] i e = absurd cc
+something_first (j ∷ others) i e = (others, ap (λ k. k ∷ others) (ap (λ o. unwrap_or o j) e))
+
+pub none_first : (numbers slice : List ℕ) (first : Option ℕ) → slice ≡ numbers → first ≡ slice_get slice 0 → first ≡ None → numbers ≡ []
+none_first numbers slice first same read none =
+    nothing_first numbers (ap (λ s. slice_get s 0) (sym same) ∙ sym read ∙ none)
+
+pub some_first : (numbers slice : List ℕ) (first : Option ℕ) (i : ℕ) → slice ≡ numbers → first ≡ slice_get slice 0 → first ≡ Some i
+    → (others : List ℕ) × (numbers ≡ i ∷ others)
+some_first numbers slice first i same read is =
+    something_first numbers i (ap (λ s. slice_get s 0) (sym same) ∙ sym read ∙ is)
+
+pub first_listed : (p : AbstractPolicy) (route : AbstractRoute) (octets numbers others : List ℕ) (i : ℕ)
+    → OfValue p route.message octets (λ t v. numbers ≡ allowing (rules_of p route) v)
+    → numbers ≡ i ∷ others → IsRow p route octets pass (Rule i)
+first_listed p route octets numbers others i (t, v, declared, fitting, encoded, are) first =
+    (t, v, declared, fitting, encoded, (i, others, sym are ∙ first, refl))

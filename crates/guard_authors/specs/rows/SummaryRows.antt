@@ -1,0 +1,62 @@
+-- The table of a policy with two rules, of five frames: three that the first rule let through, one that the second one
+-- stopped, and one on a route of which no rule speaks.
+use Rattle.std.specs.Prelude.{◌≡◌, ℕ, List, [], ◌∷◌, ◌++◌, codes, None, refl}
+use Rattle.std.specs.Fmt.{digits}
+use Rattle.guard_model.specs.AbstractType.{AbstractType}
+use Rattle.guard_policy.specs.declared.policy.Effect.{Effect}
+use Rattle.guard_policy.specs.declared.policy.Effect.TheVariants.{Allow, Deny}
+use Rattle.guard_policy.specs.Policies.{AbstractPolicy, AbstractRule}
+use Rattle.guard_authors.specs.declared.summary.Row.{Row}
+use Rattle.guard_authors.specs.declared.summary.Row.TheVariants.{Rule, Reason}
+use Rattle.guard_authors.specs.Summary.{IsRowOf, counted_lines, how_often, reasons_in, rules_in}
+
+abbrev rule : AbstractType → List ℕ → Effect → AbstractRule
+rule t name effect = record {
+  name = name;
+  effect = effect;
+  from = codes "north";
+  to = codes "south";
+  message = codes "order";
+  ty = t;
+}
+
+abbrev policy : AbstractType → AbstractPolicy
+policy t = record {
+  messages = record { name = codes "order"; home = codes "Orders"; ty = t } ∷ [];
+  rules = rule t (codes "small") Allow ∷ rule t (codes "big") Deny ∷ [];
+  modules = codes "Orders" ∷ [];
+}
+
+abbrev five : List Row
+five = Rule 0 ∷ Reason 5 ∷ Rule 0 ∷ Rule 1 ∷ Rule 0 ∷ []
+
+pub let_through : how_often (rules_in five) 0 ≡ 3
+let_through = refl
+
+pub stopped : how_often (rules_in five) 1 ≡ 1
+stopped = refl
+
+pub of_no_rule : how_often (reasons_in five) 5 ≡ 1
+of_no_rule = refl
+
+pub no_bad_header : how_often (reasons_in five) 0 ≡ 0
+no_bad_header = refl
+
+pub table : (t : AbstractType) → counted_lines (policy t) five
+    ≡ codes "  north>south order: allow small 3\n" ++ codes "  north>south order: deny big 1\n" ++ codes "  no-rule 1\n"
+unfolding digits
+table t = refl
+
+-- each reason by its number, and a rule that has no frame
+abbrev each : List Row
+each = Reason 0 ∷ Reason 1 ∷ Reason 2 ∷ Reason 3 ∷ Reason 4 ∷ Reason 5 ∷ Reason 4 ∷ Rule 1 ∷ []
+
+pub reasons : (t : AbstractType) → counted_lines (policy t) each
+    ≡ codes "  north>south order: allow small 0\n" ++ codes "  north>south order: deny big 1\n"
+    ++ codes "  bad-header 1\n" ++ codes "  unknown-message 1\n" ++ codes "  undecodable 1\n"
+    ++ codes "  outside-type 1\n" ++ codes "  not-allowed 2\n" ++ codes "  no-rule 1\n"
+unfolding digits
+reasons t = refl
+
+pub not_three_names : (t : AbstractType) → IsRowOf (policy t) None (Reason 0)
+not_three_names t = refl

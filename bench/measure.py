@@ -8,7 +8,7 @@ HERE = os.path.dirname(os.path.abspath(__file__))
 TOP = os.path.dirname(HERE)
 OUT = os.path.join(HERE, "out")
 GUARD = os.environ.get("DERGUARD", os.path.join(TOP, "crates/derguard/out/derguard"))
-WALK = os.environ.get("BENCH_WALK", os.path.join(TOP, "crates/bench_walk/out/bench_walk"))
+WALK = os.environ.get("BENCH_WALK", os.path.join(TOP, "crates/conformance/out/conformance"))
 TURNS = int(os.environ.get("BENCH_TURNS", "5"))
 SECONDS = float(os.environ.get("BENCH_SECONDS", "0.3"))
 page = []
@@ -98,12 +98,12 @@ def nanoseconds(streams):
 # ---- in process
 
 def walk_ns(declared, rules, octets, text):
-    """Nanoseconds of one walk, as bench_walk measures them: the least of its rounds."""
+    """Nanoseconds of one walk, as `conformance` measures them: the least of its rounds."""
     stream = text.encode() + b"\0" + octets
     times = max(1, min(20_000, 4_000_000 // (len(octets) + 20)))
     done = subprocess.run([WALK, str(times), declared, *rules], input=stream, capture_output=True)
     if done.returncode:
-        give_up(f"bench_walk {declared} ended with {done.returncode}: {done.stderr.decode()}")
+        give_up(f"conformance {declared} ended with {done.returncode}: {done.stderr.decode()}")
     return float(done.stdout.split()[-1]) / times
 
 

@@ -9,7 +9,7 @@ AIMS = {"order": 1.4, "bulk": 0.6, "nest": 1.1, "text": 1.4, "set": 3, "set-of":
 
 def walk(work):
     if not os.path.exists(WALK):
-        say("The walk in process: left out, since crates/bench_walk isn't built (`cd crates/bench_walk && rt run`).\n")
+        say("The walk in process: left out, since crates/conformance isn't built (`cd crates/conformance && rt run`).\n")
         return []
     say("### The walk beside C written for the one type\n")
     say("| message | octets | walk, ns | C, ns | walk / C | aim | copy, ns |\n|---|---|---|---|---|---|---|")
@@ -27,6 +27,7 @@ def walk(work):
         found.append((name, ratio, aim))
     say()
     many_rules()
+    many_items()
     spelled(work)
     return [("The walk, times C written for the one type", found)]
 
@@ -42,6 +43,23 @@ def many_rules():
 def ranges(rules):
     lines = "\n".join(f"R{n} ::= Number ({n}..{n + 100_000})" for n in range(rules))
     return f"Bench DEFINITIONS AUTOMATIC TAGS ::= BEGIN\nNumber ::= INTEGER\n{lines}\nEND\n"
+
+
+def many_items():
+    octets = {many: element(10, number(2 * many - 2)) for many in (2, 70_000)}
+    times = in_turn({many: lambda many=many: walk_ns("Items", [], octets[many], items(many)) for many in octets})
+    say(f"The last of 70,000 items, no two of them side by side: {times[70_000]:.1f} ns, "
+        f"{times[70_000] / times[2]:.1f} times as long as of two (aim 3).\n")
+
+
+def items(many):
+    lines = ",".join(f"a{letters(n)}({2 * n})" for n in range(many))
+    return f"Bench DEFINITIONS AUTOMATIC TAGS ::= BEGIN\nItems ::= ENUMERATED {{{lines}}}\nEND\n"
+
+
+def letters(n):
+    """A number in letters, so that the names of 70,000 items leave room for their numbers in a mebioctet."""
+    return (letters(n // 26) if n >= 26 else "") + chr(ord("a") + n % 26)
 
 
 def spelled(work):

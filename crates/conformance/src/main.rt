@@ -12,11 +12,13 @@
 //!
 //! Each of these crates is built on no more layers than its rows ask, so that most are proved before the program that
 //! they try at last. On the octets of the rows of `der`, `eval`, `tagging` and `schema`, and of `policy` and `frames`,
-//! two ways to judge them are compared: `walked.rt`. Files of rows are read by the crate `conformance_rows`.
+//! two ways to judge them are compared: `walked.rt`. Files of rows are read by the crate `conformance_rows`. With words
+//! behind its name the program tries no rows, but times the walk over one message: `timing.rt`.
 #![tactic(auto)]
 
 mod memory;
 mod programs;
+mod timing;
 mod walked;
 
 use anyhow::ensure;
@@ -30,23 +32,33 @@ use conformance_texts::{
     Echo, Headers, IntSets, Lexer, NamesRows, Parser, Printed, SetTrees, TaggingRows,
 };
 use programs::Programs;
-use std::io;
 use std::rt::Files;
+use std::{env, io};
+use timing::time_walk;
 use walked::try_walks;
 
 fn main(rt: HostRuntime) -> anyhow::Result<()> {
+    let words: Vec<String> = env::args(&rt)?.collect(rt.alloc())?;
+    match words.as_slice() {
+        [] | [_] => try_rows(&rt),
+        [_, ..] => time_walk(&rt, &words),
+    }
+}
+
+/// Tries all rows, and fails where one has another answer.
+fn try_rows(rt: &HostRuntime) -> anyhow::Result<()> {
     let mut tally = Tally::new();
-    check_files::<HostRuntime, Echo>(&rt, &mut tally, &["rows/written.rows"])?;
-    try_model(&rt, &mut tally)?;
-    try_texts(&rt, &mut tally)?;
-    try_definitions(&rt, &mut tally)?;
-    try_schemas(&rt, &mut tally)?;
-    try_octets(&rt, &mut tally)?;
-    try_messages(&rt, &mut tally)?;
-    try_policies(&rt, &mut tally)?;
-    try_streams(&rt, &mut tally)?;
-    let walk_agrees = try_walks(&rt)?;
-    let as_expected = tally.close(&rt)?;
+    check_files::<HostRuntime, Echo>(rt, &mut tally, &["rows/written.rows"])?;
+    try_model(rt, &mut tally)?;
+    try_texts(rt, &mut tally)?;
+    try_definitions(rt, &mut tally)?;
+    try_schemas(rt, &mut tally)?;
+    try_octets(rt, &mut tally)?;
+    try_messages(rt, &mut tally)?;
+    try_policies(rt, &mut tally)?;
+    try_streams(rt, &mut tally)?;
+    let walk_agrees = try_walks(rt)?;
+    let as_expected = tally.close(rt)?;
     ensure!(as_expected && walk_agrees, "a row has another answer");
     Ok(())
 }

@@ -1,7 +1,7 @@
 -- A policy may go to another thread, and threads may read it at the same time: it is plain data in boxes, vectors and
 -- maps. Types that hold a recursive one are shown here, field by field; the others have it from the checker.
 use mir.Syntax.{w8}
-use denote.Builtin.{i128, usize}
+use denote.Builtin.{usize}
 use denote.Plain.{UInt}
 use denote.RattleType.{RattleType}
 use denote.Param.Send.{IsSend, IsSync, view_send, view_sync, sendable}
@@ -27,6 +27,7 @@ use Rattle.guard_tables.specs.contracts.node.Implication as implication
 use Rattle.guard_tables.specs.contracts.node_list.Nodes as nodes
 use Rattle.guard_tables.specs.contracts.table.Table as table
 use Rattle.guard_tables.proofs.conditions_list.Conditions.TheSendSync as conditions
+use Rattle.guard_tables.proofs.items.Items.TheSendSync as items
 use Rattle.guard_tables.proofs.node.Form.TheLaws.TheKnot as forms
 use Rattle.guard_tables.proofs.node.Hot.TheSendSync as hots
 use Rattle.guard_tables.proofs.slots.Slots.TheSendSync as slots
@@ -76,13 +77,13 @@ implication_sync = declared_sync implication.the_type (slots.the_sync, (form_syn
 cold_send : IsSend cold.the_row
 cold_send = declared_send cold.the_type (
   options.the_send tag.the_row tags.the_send,
-  (Vec-send i128 (search sendable), (conditions.the_send, (slots.the_send, (slots.the_send, (options.the_send Octets octets_send, (Vec-send implication.the_row implication_send, tt)))))),
+  (items.the_send, (conditions.the_send, (slots.the_send, (slots.the_send, (options.the_send Octets octets_send, (Vec-send implication.the_row implication_send, tt)))))),
 )
 
 cold_sync : IsSync cold.the_row
 cold_sync = declared_sync cold.the_type (
   options.the_sync tag.the_row tags.the_sync,
-  (Vec-sync i128 (search sendable), (conditions.the_sync, (slots.the_sync, (slots.the_sync, (options.the_sync Octets octets_sync, (Vec-sync implication.the_row implication_sync, tt)))))),
+  (items.the_sync, (conditions.the_sync, (slots.the_sync, (slots.the_sync, (options.the_sync Octets octets_sync, (Vec-sync implication.the_row implication_sync, tt)))))),
 )
 
 nodes_send : IsSend nodes.the_row

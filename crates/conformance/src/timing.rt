@@ -1,11 +1,9 @@
 //! Times the walk over the octets of one message, for `bench/run`.
 //!
-//!     bench_walk TIMES DECLARED RULE.. < a module named Bench, an octet 0, and the message
+//!     conformance TIMES DECLARED RULE.. < a module named Bench, an octet 0, and the message
 //!
 //! prints how many of the rules have the message, and then, where TIMES isn't 0, how many nanoseconds so many calls of
 //! `walk` take, the least of nine rounds.
-#![tactic(auto)]
-
 ghost use Rattle.std.specs.Prelude.{All, IsTrue, IfOk};
 ghost use Rattle.guard_der.specs.Sound.{is_sound};
 ghost use Rattle.guard_model.specs.TypeView.{type_view};
@@ -17,21 +15,20 @@ use guard_reader::walk;
 use guard_schema::Schema;
 use guard_tables::Table;
 use std::alloc::{AllocError, Global};
-use std::env;
 use std::io::Read;
 use std::time::Instant;
 
 const ROUNDS: u32 = 9;
 
-fn main(rt: HostRuntime) -> Result<()> {
-    let words: Vec<String> = env::args(&rt)?.collect(rt.alloc())?;
+/// Times the walk, or only walks once, as the words of the command line ask.
+pub fn time_walk(rt: &HostRuntime, words: &[String]) -> Result<()> {
     let mut input = Vec::new(rt.alloc());
     rt.stdin().read_to_end(&mut input)?;
     let Some(end) = input.iter().position(|octet| *octet == 0) else {
         bail!("no octet 0 after the module");
     };
-    let [_, times, declared, rules @ ..] = words.as_slice() else {
-        bail!("bench_walk TIMES DECLARED RULE..");
+    let [_, times, declared, rules @ ..] = words else {
+        bail!("conformance TIMES DECLARED RULE..");
     };
     let times = times.as_str().parse::<u64>()?;
     let schema = Schema::build(rt.alloc(), &[&input[..end]])?;
@@ -43,7 +40,7 @@ fn main(rt: HostRuntime) -> Result<()> {
     input.push(0)?;
     println!(rt; "{}", had(&table, &input[end + 1..], kept.len()))?;
     if times > 0 {
-        println!(rt; "{}", least(&rt, &table, &mut input[end + 1..], times)?)?;
+        println!(rt; "{}", least(rt, &table, &mut input[end + 1..], times)?)?;
     }
     Ok(())
 }

@@ -5,7 +5,7 @@ use Rattle.std.specs.Prelude.{IsTrue}
 use Rattle.guard_der.specs.Sound.{is_sound}
 use Rattle.guard_model.specs.TypeView.{type_view}
 use Rattle.guard_tables.specs.Tables.{types_view}
-use Rattle.bench_walk.proofs.add_copies.Goals as goal
+use Rattle.conformance.proofs.timing.add_copies.Goals as goal
 
 pub loop-preserved : goal.loop-preserved
 loop-preserved c =

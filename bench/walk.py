@@ -49,7 +49,7 @@ def many_items():
     octets = {many: element(10, number(2 * many - 2)) for many in (2, 70_000)}
     times = in_turn({many: lambda many=many: walk_ns("Items", [], octets[many], items(many)) for many in octets})
     say(f"The last of 70,000 items, no two of them side by side: {times[70_000]:.1f} ns, "
-        f"{times[70_000] / times[2]:.1f} times as long as of two (aim 3).\n")
+        f"{times[70_000] / times[2]:.1f} times as long as the last of two.\n")
 
 
 def items(many):

@@ -2,3 +2,5 @@
 pub mod LengthsInside
 pub mod FaultOrValue
 pub mod CodeAnswers
+pub mod LongLists
+pub mod EarlyEnds

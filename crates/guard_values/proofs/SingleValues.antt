@@ -3,3 +3,4 @@ pub mod DigitsInOctets
 pub mod CharactersInTurn
 pub mod ArcsInTurn
 pub mod NamedBits
+pub mod PlacesInOctets

@@ -1,5 +1,5 @@
 //! A BIT STRING with named bits: names in braces, and values without trailing zero bits (X.680 22.4 to 22.7).
-ghost use Rattle.std.specs.Prelude.{◌≡◌, ◌<◌, ◌+◌, All, map, replicate, IfOk};
+ghost use Rattle.std.specs.Prelude.{◌≡◌, ◌-◌, ◌%◌, ◌^◌, map, IfOk, Ok};
 ghost use Rattle.guard_model.specs.Answer.{Gives};
 ghost use Rattle.guard_model.specs.inside.Each.{each};
 ghost use Rattle.guard_model.specs.TypeView.{named_view};
@@ -8,32 +8,37 @@ ghost use Rattle.guard_syntax.specs.Trees.{entries_of};
 ghost use Rattle.guard_syntax.specs.Views.{entry_view, name_view};
 ghost use Rattle.guard_values.specs.NamedBits as named_bits;
 ghost use Rattle.guard_values.specs.NamedBits.{bits_to_last};
-ghost use Rattle.guard_values.specs.inside.Reading.{read_named_bits, read_place};
+ghost use Rattle.guard_values.specs.Simple.{bits_value};
+ghost use Rattle.guard_values.specs.Strings.{octets_of_bits};
+ghost use Rattle.guard_values.specs.inside.Reading.{kept_read, read_named_bits, read_place};
 ghost use Rattle.guard_values.specs.Views.{named};
 
 use crate::fault::ValueFault;
-use crate::strings::bit_string;
+use crate::strings::bits_in;
 use guard_model::{Named, NamedList, Site, Value};
 use guard_syntax::{EntryTree, ValueForm};
 use std::alloc::{AllocError, Global};
 
-/// The value of names in braces: ones at the bits that are named, and zeros before the last of them. Without named bits
-/// there is no such form.
+/// The value of names in braces: ones at the bits that are named, and zeros before the last of them; or NULL where nothing
+/// is sorted, so that faults are found and no octets made. Without named bits there is no such form.
 pub fn value_of_names(
     alloc: Global,
+    sorted: bool,
     names: &NamedList,
     site: Site,
     entries: &[EntryTree],
 ) -> Result<Value, ValueFault>
     ensures { Gives value_view named result
-        (read_named_bits site names.now (entries_of (map entry_view entries.now))) }
+        (kept_read sorted (read_named_bits site names.now (entries_of (map entry_view entries.now)))) }
 {
     if names.is_empty() {
         return Err(ValueFault::WrongNotation(site));
     }
     let places = places(alloc, names, entries)?;
-    let bits = ones_at(alloc, &places)?;
-    bit_string(alloc, &bits)
+    if !sorted {
+        return Ok(Value::Null);
+    }
+    ones_at(alloc, &places)
 }
 
 /// The bits that entries name, in written order.
@@ -80,16 +85,29 @@ fn named_bit(name: &[u8], names: &NamedList) -> Option<u16>
     }
 }
 
-/// Ones at these places, and zeros before the last of them.
-fn ones_at(alloc: Global, places: &[u16]) -> Result<Vec<u8>, AllocError>
-    ensures bits { IfOk result (λ v. v.items ≡ named_bits.ones_at places.now) }
-    ensures small { IfOk result (λ v. All (λ b. b < 2) v.items) }
+/// The BIT STRING with ones at these places, and zeros before the last of them.
+fn ones_at(alloc: Global, places: &[u16]) -> Result<Value, ValueFault>
+    ensures { Gives value_view named result (Ok (bits_value (named_bits.ones_at places.now))) }
 {
-    let mut bits = zeros(alloc, bits_to_last(places))?;
+    bits_in(octets_at(alloc, places)?, bits_to_last(places))
+}
+
+/// These bits in octets: as many as the last of them needs, and zeros at all other places.
+fn octets_at(alloc: Global, places: &[u16]) -> Result<Vec<u8>, AllocError>
+    ensures { IfOk result (λ v. v.items ≡ octets_of_bits (named_bits.ones_at places.now)) }
+{
+    let mut octets = Vec::from_elem(alloc, 0u8, bits_to_last(places).div_ceil(8))?;
     for place in places {
-        bits[usize::from(*place)] = 1;
+        octets[usize::from(*place / 8)] |= bit_of_octet(*place);
     }
-    Ok(bits)
+    Ok(octets)
+}
+
+/// The bit at this place in its octet, where the first one is the highest.
+fn bit_of_octet(place: u16) -> u8
+    ensures { result ≡ 2 ^ (7 - place % 8) }
+{
+    1 << (7 - place % 8)
 }
 
 fn bits_to_last(places: &[u16]) -> usize
@@ -102,16 +120,6 @@ fn bits_to_last(places: &[u16]) -> usize
         }
     }
     count
-}
-
-fn zeros(alloc: Global, count: usize) -> Result<Vec<u8>, AllocError>
-    ensures { IfOk result (λ v. v.items ≡ replicate count 0) }
-{
-    let mut bits = Vec::with_capacity(alloc, count)?;
-    for _place in 0..count {
-        bits.push(0)?;
-    }
-    Ok(bits)
 }
 
 /// The bits of a string that are kept. Where bits are named, trailing zero bits have no part in a value (22.7).

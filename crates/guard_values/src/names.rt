@@ -6,7 +6,7 @@ ghost use Rattle.guard_model.specs.ValueView.{value_view};
 ghost use Rattle.guard_model.specs.Limits.{fits_128_bits};
 ghost use Rattle.guard_values.specs.Meanings as meanings;
 ghost use Rattle.guard_values.specs.Simple.{numbered_value};
-ghost use Rattle.guard_values.specs.inside.Reading.{read_reference, read_visible, answered};
+ghost use Rattle.guard_values.specs.inside.Reading.{read_reference, read_visible, kept_read, answered};
 ghost use Rattle.guard_values.specs.Views.{named, shared_view, visible_view, values_of};
 
 use crate::fault::ValueFault;
@@ -15,8 +15,27 @@ use guard_model::{Kind, Site, Ty, Value};
 use std::alloc::Global;
 use std::sync::Arc;
 
-/// The value of a name. A name of the type's own list comes before a visible one.
+/// The value of a name; or NULL where nothing is sorted, so that its faults are found and nothing is copied.
 pub fn reference(
+    alloc: Global,
+    scope: ModuleScope,
+    sorted: bool,
+    ty: &Ty,
+    site: Site,
+    name: &[u8],
+) -> Result<Value, ValueFault>
+    ensures { Gives value_view named result
+        (kept_read sorted (read_reference (values_of scope.entry) (type_view ty.now) site name.now)) }
+{
+    if sorted {
+        return copied_reference(alloc, scope, ty, site, name);
+    }
+    let _value = shared_reference(alloc, scope, ty, site, name)?;
+    Ok(Value::Null)
+}
+
+/// The value of a name. A name of the type's own list comes before a visible one.
+fn copied_reference(
     alloc: Global,
     scope: ModuleScope,
     ty: &Ty,

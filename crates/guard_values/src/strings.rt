@@ -1,7 +1,8 @@
 //! What strings of bits and hexadecimal digits say (X.680 clauses 22 and 23), and those in double quotes.
-ghost use Rattle.std.specs.Prelude.{◌≡◌, ◌∷◌, [], ◌^◌, ◌<◌, ◌≤◌, ◌*◌, ◌+◌, ◌-◌, length};
+ghost use Rattle.std.specs.Prelude.{◌≡◌, ◌∷◌, [], ◌^◌, ◌<◌, ◌≤◌, ◌*◌, ◌+◌, ◌-◌, ◌%◌, length};
 ghost use Rattle.std.specs.Prelude.{drop, slice_index, All, IfOk, Ok};
 ghost use Rattle.guard_model.specs.Answer.{Gives};
+ghost use Rattle.guard_model.specs.AbstractValue as value;
 ghost use Rattle.guard_model.specs.ValueView.{value_view};
 ghost use Rattle.guard_values.specs.Simple.{bits_value};
 ghost use Rattle.guard_values.specs.Views.{named};
@@ -107,8 +108,15 @@ pub fn bit_string(alloc: Global, bits: &[u8]) -> Result<Value, ValueFault>
     requires { All (λ d. d < 2) bits.now }
     ensures { Gives value_view named result (Ok (bits_value bits.now)) }
 {
-    let octets = ArcSlice::from_vec(octets_of_bits(alloc, bits)?)?;
-    let unused = ((8 - bits.len() % 8) % 8) as u8;
+    bits_in(octets_of_bits(alloc, bits)?, bits.len())
+}
+
+/// The BIT STRING of so many bits, which these octets have.
+pub fn bits_in(octets: Vec<u8>, count: usize) -> Result<Value, ValueFault>
+    ensures { Gives value_view named result (Ok (value.bit_string octets.items ((8 - count % 8) % 8))) }
+{
+    let octets = ArcSlice::from_vec(octets)?;
+    let unused = ((8 - count % 8) % 8) as u8;
     Ok(Value::Bits(Bits { octets, unused }))
 }
 

@@ -5,20 +5,25 @@ ghost use Rattle.guard_model.specs.Slots.{all_absent};
 ghost use Rattle.guard_model.specs.TypeView.{type_view, kind_view, component_view, components_of};
 ghost use Rattle.guard_model.specs.ValueView.{value_view, fields_view};
 ghost use Rattle.guard_der.specs.Der.{der};
+ghost use Rattle.guard_der.specs.Encoding.{longest_encoding};
 ghost use Rattle.guard_der.specs.Sound.{is_proper, is_proper_kind, are_proper};
 ghost use Rattle.guard_syntax.specs.Trees.{entries_of};
 ghost use Rattle.guard_syntax.specs.Views as trees;
 ghost use Rattle.guard_values.specs.Meanings.{AreFitting};
 ghost use Rattle.guard_values.specs.Arrangement.{AreEncodings, encoded_value};
 ghost use Rattle.guard_values.specs.inside.Reading as reading;
-ghost use Rattle.guard_values.specs.inside.Reading.{read_form, read_chosen, read_list, read_items, read_set_items};
-ghost use Rattle.guard_values.specs.inside.Reading.{read_fields, read_entries, read_elements, entry_at, element_at};
-ghost use Rattle.guard_values.specs.inside.Reading.{read_whole, read_sorted, read_first_fault};
+ghost use Rattle.guard_values.specs.inside.Reading.{build, build_form, build_list, build_items, build_set_items};
+ghost use Rattle.guard_values.specs.inside.Reading.{build_entries, build_elements, entry_at, element_at, read_chosen};
+ghost use Rattle.guard_values.specs.inside.Reading.{read_fields};
+ghost use Rattle.guard_values.specs.inside.Reading.{build_whole, build_sorted, build_first_fault};
 ghost use Rattle.guard_values.specs.Views.{named, encoded_view, shared_view, values_of};
 
 use crate::arrangement::Encoded;
 use crate::components::{alternative, completed, place_of};
-use crate::elements::{encoded, encoding, listed, listed_set, object_identifier_fault};
+use crate::elements::{
+    MOST_OCTETS, encoded, encoding, is_counted, kept, listed, listed_set, object_identifier_fault,
+    room_after, room_without,
+};
 use crate::fault::ValueFault;
 use crate::named_bits::value_of_names;
 use crate::names::{reference, shared_reference};
@@ -39,7 +44,7 @@ pub fn value_within_limit(
     requires proper { IsTrue (is_proper (type_view ty.now)) }
     requires fitting { AreFitting (values_of scope) }
     ensures { Gives shared_view named result
-        (read_whole (values_of scope.entry) (type_view ty.now) (trees.value_view tree.now)) }
+        (build_whole (values_of scope.entry) (type_view ty.now) (trees.value_view tree.now)) }
 {
     let value = shared_value(alloc, scope, tree, ty)?;
     let _octets = encoding(alloc, ty, tree.site, &value)?;
@@ -47,7 +52,7 @@ pub fn value_within_limit(
 }
 
 /// The value, its own encoding aside. A name gives a share of the value that it means.
-#[tactic(auto, unfolding(crate::specs::inside::Reading::read))]
+#[tactic(auto, unfolding(crate::specs::inside::Reading::build))]
 fn shared_value(
     alloc: Global,
     scope: ModuleScope,
@@ -57,7 +62,7 @@ fn shared_value(
     requires proper { IsTrue (is_proper (type_view ty.now)) }
     requires fitting { AreFitting (values_of scope) }
     ensures { Gives shared_view named result
-        (read_sorted (values_of scope.entry) (type_view ty.now) (trees.value_view tree.now)) }
+        (build_sorted (values_of scope.entry) (type_view ty.now) (trees.value_view tree.now)) }
 {
     if let ValueForm::Reference(name) = &tree.form {
         return shared_reference(alloc, scope, ty, tree.site, name);
@@ -77,7 +82,7 @@ fn sorted_value(
     requires proper { IsTrue (is_proper (type_view ty.now)) }
     requires fitting { AreFitting (values_of scope) }
     ensures { Gives value_view named result
-        (read_sorted (values_of scope.entry) (type_view ty.now) (trees.value_view tree.now)) }
+        (build_sorted (values_of scope.entry) (type_view ty.now) (trees.value_view tree.now)) }
 {
     match read(alloc, scope, true, tree, ty) {
         Ok(value) => Ok(value),
@@ -96,15 +101,17 @@ fn first_fault(
     requires proper { IsTrue (is_proper (type_view ty.now)) }
     requires fitting { AreFitting (values_of scope) }
     ensures { Gives value_view named result
-        (read_first_fault (values_of scope.entry) (type_view ty.now) (trees.value_view tree.now)) }
+        (build_first_fault (values_of scope.entry) (type_view ty.now) (trees.value_view tree.now)) }
 {
     let _value = read(alloc, scope, false, tree, ty)?;
     Err(ValueFault::TooLarge(tree.site))
 }
 
-/// The value, its own encoding aside: each SET OF sorted, or as it is written.
+/// The value, its own encoding aside: each SET OF sorted, and no list whose elements have more octets than an encoding may
+/// have, as far as they are counted. Or as it is written, for its faults alone: NULL stands for each element of a list, and
+/// for what names mean.
 #[cycle(values)]
-#[tactic(auto, unfolding(crate::specs::inside::Reading::read))]
+#[tactic(auto, unfolding(crate::specs::inside::Reading::build))]
 fn read(
     alloc: Global,
     scope: ModuleScope,
@@ -115,13 +122,13 @@ fn read(
     requires proper { IsTrue (is_proper (type_view ty.now)) }
     requires fitting { AreFitting (values_of scope) }
     ensures { Gives value_view named result
-        (reading.read (values_of scope.entry) sorted (type_view ty.now) (trees.value_view tree.now)) }
+        (build (values_of scope.entry) sorted (type_view ty.now) (trees.value_view tree.now)) }
 {
     form(alloc, scope, sorted, &tree.form, tree.site, ty)
 }
 
 #[cycle(values)]
-#[tactic(auto, unfolding(crate::specs::inside::Reading::read))]
+#[tactic(auto, unfolding(crate::specs::inside::Reading::build))]
 fn form(
     alloc: Global,
     scope: ModuleScope,
@@ -133,14 +140,14 @@ fn form(
     requires proper { IsTrue (is_proper (type_view ty.now)) }
     requires fitting { AreFitting (values_of scope) }
     ensures { Gives value_view named result
-        (read_form (values_of scope.entry) sorted (type_view ty.now) site (trees.value_form_view form.now)) }
+        (build_form (values_of scope.entry) sorted (type_view ty.now) site (trees.value_form_view form.now)) }
 {
     match form {
         ValueForm::Boolean(truth) => boolean(&ty.kind, site, *truth),
         ValueForm::Null => null(&ty.kind, site),
         ValueForm::Integer(number) => integer(&ty.kind, site, number),
         ValueForm::Text(string, spelling) => text(alloc, &ty.kind, site, *string, spelling),
-        ValueForm::Reference(name) => reference(alloc, scope, ty, site, name),
+        ValueForm::Reference(name) => reference(alloc, scope, sorted, ty, site, name),
         ValueForm::Chosen(name, tree) => chosen(alloc, scope, sorted, tree, name, site, &ty.kind),
         ValueForm::List(entries) => braces(alloc, scope, sorted, entries, site, &ty.kind),
         ValueForm::Arcs(all) => arcs(alloc, &ty.kind, site, all),
@@ -161,7 +168,7 @@ fn chosen(
     requires proper { IsTrue (is_proper_kind (kind_view kind.now)) }
     requires fitting { AreFitting (values_of scope) }
     ensures { Gives value_view named result (read_chosen site (kind_view kind.now) name.now
-        (λ u. reading.read (values_of scope.entry) sorted u (trees.value_view tree.now))) }
+        (λ u. build (values_of scope.entry) sorted u (trees.value_view tree.now))) }
 {
     let (place, ty) = alternative(kind, site, name)?;
     let value = read(alloc, scope, sorted, tree, ty)?;
@@ -180,7 +187,7 @@ fn braces(
 ) -> Result<Value, ValueFault>
     requires proper { IsTrue (is_proper_kind (kind_view kind.now)) }
     requires fitting { AreFitting (values_of scope) }
-    ensures { Gives value_view named result (read_list (values_of scope.entry) sorted site (kind_view kind.now)
+    ensures { Gives value_view named result (build_list (values_of scope.entry) sorted site (kind_view kind.now)
         (entries_of (map trees.entry_view entries.now))) }
 {
     match kind {
@@ -189,7 +196,7 @@ fn braces(
         Kind::SequenceOf(ty) => items(alloc, scope, sorted, entries, site, ty),
         Kind::SetOf(ty) => set_items(alloc, scope, sorted, entries, site, ty),
         Kind::Oid => Err(object_identifier_fault(site, entries)),
-        Kind::Bits(names) => value_of_names(alloc, names, site, entries),
+        Kind::Bits(names) => value_of_names(alloc, sorted, names, site, entries),
         _ => Err(ValueFault::WrongNotation(site)),
     }
 }
@@ -208,7 +215,7 @@ fn fields(
     requires proper { IsTrue (are_proper (components_of (map component_view comps.now))) }
     requires fitting { AreFitting (values_of scope) }
     ensures { Gives value_view named result (read_fields site (components_of (map component_view comps.now))
-        (read_entries (values_of scope.entry) sorted ordered (components_of (map component_view comps.now)) 0
+        (build_entries (values_of scope.entry) sorted ordered (components_of (map component_view comps.now)) 0
         (all_absent (components_of (map component_view comps.now))) (entries_of (map trees.entry_view entries.now)))) }
 {
     let given = entry_fields(alloc, scope, sorted, entries, ordered, comps)?;
@@ -229,7 +236,7 @@ fn entry_fields(
     requires fitting { AreFitting (values_of scope) }
     ensures count { IfOk result (λ v. length v.items ≡ length comps.now) }
     ensures given { Gives (λ v. fields_view v.items) named
-        result (read_entries (values_of scope.entry) sorted ordered (components_of (map component_view comps.now)) 0
+        result (build_entries (values_of scope.entry) sorted ordered (components_of (map component_view comps.now)) 0
         (all_absent (components_of (map component_view comps.now))) (entries_of (map trees.entry_view entries.now))) }
 {
     let mut fields = absent_fields(alloc, comps)?;
@@ -262,7 +269,7 @@ fn entry_value(
     ensures within { IfOk result (λ x. x.0 < length comps.now) }
     ensures given { Gives (λ x. (x.0, value_view x.1)) named result (entry_at ordered (components_of (map component_view
         comps.now)) next (fields_view fields.now) (trees.entry_view entry.now).site (trees.entry_view entry.now).name
-        (λ u. reading.read (values_of scope.entry) sorted u (trees.entry_view entry.now).value)) }
+        (λ u. build (values_of scope.entry) sorted u (trees.entry_view entry.now).value)) }
 {
     let (place, ty) = place_of(ordered, comps, next, fields, entry.site, entry.name)?;
     let value = read(alloc, scope, sorted, &entry.value, ty)?;
@@ -281,7 +288,7 @@ fn items(
 ) -> Result<Value, ValueFault>
     requires proper { IsTrue (is_proper (type_view ty.now)) }
     requires fitting { AreFitting (values_of scope) }
-    ensures { Gives value_view named result (read_items (values_of scope.entry) sorted site (type_view ty.now)
+    ensures { Gives value_view named result (build_items (values_of scope.entry) sorted site (type_view ty.now)
         (entries_of (map trees.entry_view entries.now))) }
 {
     let elements = elements(alloc, scope, sorted, entries, ty)?;
@@ -298,13 +305,16 @@ fn elements(
 ) -> Result<Vec<Value>, ValueFault>
     requires proper { IsTrue (is_proper (type_view ty.now)) }
     requires fitting { AreFitting (values_of scope) }
-    ensures { Gives (λ v. map value_view v.items) named result (read_elements (values_of scope.entry) sorted false
-        (type_view ty.now) (entries_of (map trees.entry_view entries.now))) }
+    ensures { Gives (λ v. map value_view v.items) named result (build_elements (values_of scope.entry) sorted false
+        (type_view ty.now) longest_encoding (entries_of (map trees.entry_view entries.now))) }
 {
     let mut elements = Vec::with_capacity(alloc, entries.len())?;
+    let counted = is_counted(sorted, ty);
+    let mut room = MOST_OCTETS;
     for entry in entries {
         let value = element(alloc, scope, sorted, entry, ty)?;
-        elements.push(value)?;
+        room = room_after(counted, ty, entry, &value, room)?;
+        elements.push(kept(sorted, value))?;
     }
     Ok(elements)
 }
@@ -321,7 +331,7 @@ fn set_items(
 ) -> Result<Value, ValueFault>
     requires proper { IsTrue (is_proper (type_view ty.now)) }
     requires fitting { AreFitting (values_of scope) }
-    ensures { Gives value_view named result (read_set_items (values_of scope.entry) sorted site (type_view ty.now)
+    ensures { Gives value_view named result (build_set_items (values_of scope.entry) sorted site (type_view ty.now)
         (entries_of (map trees.entry_view entries.now))) }
 {
     if !sorted {
@@ -341,12 +351,15 @@ fn encoded_elements(
     requires proper { IsTrue (is_proper (type_view ty.now)) }
     requires fitting { AreFitting (values_of scope) }
     ensures encodings { IfOk result (λ v. AreEncodings (type_view ty.now) (map encoded_view v.items)) }
-    ensures given { Gives (λ v. map encoded_value (map encoded_view v.items)) named result (read_elements
-        (values_of scope.entry) true true (type_view ty.now) (entries_of (map trees.entry_view entries.now))) }
+    ensures given { Gives (λ v. map encoded_value (map encoded_view v.items)) named result (build_elements
+        (values_of scope.entry) true true (type_view ty.now) longest_encoding
+        (entries_of (map trees.entry_view entries.now))) }
 {
     let mut elements = Vec::with_capacity(alloc, entries.len())?;
+    let mut room = MOST_OCTETS;
     for entry in entries {
         let element = encoded_element(alloc, scope, entry, ty)?;
+        room = room_without(entry, room, Some(element.octets.len()))?;
         elements.push(element)?;
     }
     Ok(elements)
@@ -365,7 +378,7 @@ fn encoded_element(
     ensures encoding { IfOk result (λ e. der (type_view ty.now) (value_view e.value) ≡ Some e.octets.items) }
     ensures given { Gives (λ e. value_view e.value) named result (element_at true (type_view ty.now) (trees.entry_view
         entry.now).site (trees.entry_view entry.now).name (reading.site_of (trees.entry_view entry.now).value)
-        (reading.read (values_of scope.entry) true (type_view ty.now) (trees.entry_view entry.now).value)) }
+        (build (values_of scope.entry) true (type_view ty.now) (trees.entry_view entry.now).value)) }
 {
     let value = element(alloc, scope, true, entry, ty)?;
     encoded(alloc, ty, entry.value.site, value)
@@ -384,7 +397,7 @@ fn element(
     requires fitting { AreFitting (values_of scope) }
     ensures { Gives value_view named result (element_at false (type_view ty.now) (trees.entry_view entry.now).site
         (trees.entry_view entry.now).name (reading.site_of (trees.entry_view entry.now).value)
-        (reading.read (values_of scope.entry) sorted (type_view ty.now) (trees.entry_view entry.now).value)) }
+        (build (values_of scope.entry) sorted (type_view ty.now) (trees.entry_view entry.now).value)) }
 {
     if entry.name.is_some() {
         return Err(ValueFault::WrongNotation(entry.site));

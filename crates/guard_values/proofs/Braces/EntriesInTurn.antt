@@ -1,5 +1,5 @@
 -- Entries, one after another, as loops read them.
-use Rattle.std.proofs.Common.{◌≡◌, ℕ, suc, ◌+◌, ◌<◌, ◌≤◌, Bool, false, List, [], ◌∷◌, ◌++◌, length, drop, get_or, map, add-one, Bor, Option, Some, None, Ok, Err, refl, sym, ap, ◌∙◌, append_assoc}
+use Rattle.std.proofs.Common.{◌≡◌, ℕ, suc, ◌+◌, ◌<◌, ◌≤◌, Bool, false, ◌&&◌, ◌||◌, List, [], ◌∷◌, ◌++◌, length, drop, get_or, map, add-one, Bor, Option, Some, None, Ok, Err, refl, sym, ap, ◌∙◌, append_assoc}
 use Rattle.std.proofs.lemmas.List.{at_drop_more, at_drop_all, append-nil}
 use Rattle.std.specs.Global.{Vec}
 use Rattle.guard_model.specs.Answer.{◌>>=◌, Refuses}
@@ -32,7 +32,7 @@ use Rattle.guard_syntax.specs.declared.tree.ValueForm.TheFolds.{fold_out-EntryTr
 use Rattle.guard_syntax.specs.declared.tree.ValueForm.TheViews.{out-EntryTree, out-ValueTree}
 use Rattle.guard_values.specs.declared.fault.ValueFault.{ValueFault}
 use Rattle.guard_values.specs.Meanings.{Meaning}
-use Rattle.guard_values.specs.inside.Reading.{Read, element_at, place_at, entry_at, site_of, read, read_form, read_list, read_elements, read_entries}
+use Rattle.guard_values.specs.inside.Reading.{Read, element_at, place_at, entry_at, site_of, kept, is_plain, room_after, build, build_form, build_list, build_elements, build_entries}
 
 -- ---- one level of a tree
 
@@ -46,12 +46,12 @@ pub form_list : (es : Vec EntryTree) → value_form_view (variant.List es) ≡ w
 form_list es = ap value_form_view (sym (rolls-List es)) ∙ fold-roll-ValueForm WrittenValueForm WrittenEntry WrittenValue value_form_step entry_step value_step (ValueForm-F.List es)
 
 pub list_is : (m : Meaning) (sorted : Bool) (ty : Ty) (site : Site) (form : ValueForm) (es : Vec EntryTree) → form ≡ variant.List es
-    → read_form m sorted (type_view ty) site (value_form_view form) ≡ read_list m sorted site (kind_view (out-Ty ty).kind) (entries_of (map entry_view es.items))
-unfolding read
+    → build_form m sorted (type_view ty) site (value_form_view form) ≡ build_list m sorted site (kind_view (out-Ty ty).kind) (entries_of (map entry_view es.items))
+unfolding build
 list_is m sorted ty site form es is =
-    ap (λ (f : ValueForm). read_form m sorted (type_view ty) site (value_form_view f)) is
-    ∙ ap (read_form m sorted (type_view ty) site) (form_list es)
-    ∙ ap (λ (t : AbstractType). read_list m sorted site (kind_of t) (entries_of (map entry_view es.items))) (type_view_is ty)
+    ap (λ (f : ValueForm). build_form m sorted (type_view ty) site (value_form_view f)) is
+    ∙ ap (build_form m sorted (type_view ty) site) (form_list es)
+    ∙ ap (λ (t : AbstractType). build_list m sorted site (kind_of t) (entries_of (map entry_view es.items))) (type_view_is ty)
 
 -- ---- an entry by itself
 
@@ -64,16 +64,16 @@ plain t site place name (Ok v) e = rw e refl
 plain t site place name (Err f) e = rw e refl
 
 pub plain_element : (m : Meaning) (sorted : Bool) (t : AbstractType) (e : EntryTree) → is_some (out-EntryTree e).name ≡ false
-    → element_at false t (entry_view e).site (entry_view e).name (site_of (entry_view e).value) (read m sorted t (entry_view e).value) ≡ read m sorted t (value_view (out-EntryTree e).value)
+    → element_at false t (entry_view e).site (entry_view e).name (site_of (entry_view e).value) (build m sorted t (entry_view e).value) ≡ build m sorted t (value_view (out-EntryTree e).value)
 plain_element m sorted t e none =
-    ap (λ (w : WrittenEntry). element_at false t w.site w.name (site_of w.value) (read m sorted t w.value)) (entry_view_is e)
-    ∙ plain t (out-EntryTree e).site (site_of (value_view (out-EntryTree e).value)) (name_view (out-EntryTree e).name) (read m sorted t (value_view (out-EntryTree e).value)) (no_name (out-EntryTree e).name none)
+    ap (λ (w : WrittenEntry). element_at false t w.site w.name (site_of w.value) (build m sorted t w.value)) (entry_view_is e)
+    ∙ plain t (out-EntryTree e).site (site_of (value_view (out-EntryTree e).value)) (name_view (out-EntryTree e).name) (build m sorted t (value_view (out-EntryTree e).value)) (no_name (out-EntryTree e).name none)
 
 pub entry_found : (m : Meaning) (sorted : Bool) (ordered : Bool) (cs : Components) (next : ℕ) (fs : Fields) (e : EntryTree) (l : Located) (v : AbstractValue)
-    → place_at ordered cs next fs (out-EntryTree e).site (name_view (out-EntryTree e).name) ≡ Ok l → read m sorted l.ty (value_view (out-EntryTree e).value) ≡ Ok v
-    → entry_at ordered cs next fs (entry_view e).site (entry_view e).name (λ u. read m sorted u (entry_view e).value) ≡ Ok (l.place, v)
+    → place_at ordered cs next fs (out-EntryTree e).site (name_view (out-EntryTree e).name) ≡ Ok l → build m sorted l.ty (value_view (out-EntryTree e).value) ≡ Ok v
+    → entry_at ordered cs next fs (entry_view e).site (entry_view e).name (λ u. build m sorted u (entry_view e).value) ≡ Ok (l.place, v)
 entry_found m sorted ordered cs next fs e l v h k =
-    ap (λ (w : WrittenEntry). entry_at ordered cs next fs w.site w.name (λ u. read m sorted u w.value)) (entry_view_is e) ∙ (rw (h, k) refl)
+    ap (λ (w : WrittenEntry). entry_at ordered cs next fs w.site w.name (λ u. build m sorted u w.value)) (entry_view_is e) ∙ (rw (h, k) refl)
 
 -- ---- those from a place on
 
@@ -94,58 +94,67 @@ none_left entries i le = at_drop_all (λ xs. entries_of (map entry_view xs)) ent
 abbrev pub with_front : List AbstractValue → Read (List AbstractValue) → Read (List AbstractValue)
 with_front front others = others >>= λ more. Ok (front ++ more)
 
-nothing_before : (others : Read (List AbstractValue)) → with_front [] others ≡ others
-nothing_before (Ok more) = refl
-nothing_before (Err f) = refl
-
 regroup : (front : List AbstractValue) (v : AbstractValue) (others : Read (List AbstractValue)) → with_front front (others >>= λ more. Ok (v ∷ more)) ≡ with_front (front ++ v ∷ []) others
 regroup front v (Ok more) = ap (λ (vs : List AbstractValue). Ok vs) (sym (append_assoc front (v ∷ []) more))
 regroup front v (Err f) = refl
 
 module _ (m : Meaning) (sorted : Bool) (short : Bool) (t : AbstractType) (entries : List EntryTree) where
-  -- what is read of those from a place on
-  abbrev pub elements_from : ℕ → Read (List AbstractValue)
-  elements_from i = read_elements m sorted short t (left entries i)
+  -- what is read of those from a place on, with room for so many octets
+  abbrev pub elements_from : ℕ → ℕ → Read (List AbstractValue)
+  elements_from room i = build_elements m sorted short t room (left entries i)
 
   abbrev pub one : EntryTree → Read AbstractValue
-  one e = element_at short t (entry_view e).site (entry_view e).name (site_of (entry_view e).value) (read m sorted t (entry_view e).value)
+  one e = element_at short t (entry_view e).site (entry_view e).name (site_of (entry_view e).value) (build m sorted t (entry_view e).value)
 
-  pub after_is : (i : ℕ) (e : EntryTree) → i < length entries → e ≡ get_or entries i e → elements_from i ≡ (one e >>= λ v. elements_from (i + 1) >>= λ more. Ok (v ∷ more))
-  unfolding read
-  after_is i e lt is = ap (read_elements m sorted short t) (left_is entries i e lt is)
+  abbrev pub room_left : ℕ → EntryTree → AbstractValue → Read ℕ
+  room_left room e v = room_after (sorted && (short || is_plain t)) (site_of (entry_view e).value) t v room
 
-  pub elements_on : (i : ℕ) (e : EntryTree) (front : List AbstractValue) (v : AbstractValue) (total : Read (List AbstractValue)) → i < length entries → e ≡ get_or entries i e → one e ≡ Ok v
-      → with_front front (elements_from i) ≡ total → with_front (front ++ v ∷ []) (elements_from (i + 1)) ≡ total
-  elements_on i e front v total lt is got so_far =
-      let step : elements_from i ≡ (elements_from (i + 1) >>= λ more. Ok (v ∷ more)) = after_is i e lt is ∙ ap (λ (r : Read AbstractValue). r >>= λ w. elements_from (i + 1) >>= λ more. Ok (w ∷ more)) got in
-      sym (regroup front v (elements_from (i + 1))) ∙ sym (ap (with_front front) step) ∙ so_far
+  -- after one that is read
+  abbrev pub after : ℕ → ℕ → EntryTree → AbstractValue → Read (List AbstractValue)
+  after room i e v = room_left room e v >>= λ rest. elements_from rest (i + 1) >>= λ more. Ok (kept sorted v ∷ more)
 
-  pub elements_refused : (f : Option ValueFault) (i : ℕ) (e : EntryTree) (front : List AbstractValue) (total : Read (List AbstractValue)) → i < length entries → e ≡ get_or entries i e → Refuses f (one e)
-      → with_front front (elements_from i) ≡ total → Refuses f total
-  elements_refused None i e front total lt is refused so_far = tt
-  elements_refused (Some f) i e front total lt is refused so_far =
-      sym so_far ∙ ap (with_front front) (after_is i e lt is ∙ ap (λ (r : Read AbstractValue). r >>= λ w. elements_from (i + 1) >>= λ more. Ok (w ∷ more)) refused)
+  pub after_is : (room i : ℕ) (e : EntryTree) → i < length entries → e ≡ get_or entries i e → elements_from room i ≡ (one e >>= λ v. after room i e v)
+  unfolding build
+  after_is room i e lt is = ap (build_elements m sorted short t room) (left_is entries i e lt is)
 
-  pub elements_begun : (total : Read (List AbstractValue)) → total ≡ elements_from 0 → with_front [] (elements_from 0) ≡ total
-  elements_begun total is = nothing_before (elements_from 0) ∙ sym is
+  pub elements_on : (room i : ℕ) (e : EntryTree) (front : List AbstractValue) (v : AbstractValue) (rest : ℕ) (total : Read (List AbstractValue)) → i < length entries → e ≡ get_or entries i e → one e ≡ Ok v → room_left room e v ≡ Ok rest
+      → with_front front (elements_from room i) ≡ total → with_front (front ++ kept sorted v ∷ []) (elements_from rest (i + 1)) ≡ total
+  elements_on room i e front v rest total lt is got fits so_far =
+      let step : elements_from room i ≡ (elements_from rest (i + 1) >>= λ more. Ok (kept sorted v ∷ more)) =
+      after_is room i e lt is ∙ ap (λ (r : Read AbstractValue). r >>= λ w. after room i e w) got ∙ ap (λ (r : Read ℕ). r >>= λ n. elements_from n (i + 1) >>= λ more. Ok (kept sorted v ∷ more)) fits in
+      sym (regroup front (kept sorted v) (elements_from rest (i + 1))) ∙ sym (ap (with_front front) step) ∙ so_far
 
-  pub elements_done : (i : ℕ) (front : List AbstractValue) (total : Read (List AbstractValue)) → length entries ≤ i → with_front front (elements_from i) ≡ total → total ≡ Ok front
-  unfolding read
-  elements_done i front total le so_far =
-      sym so_far ∙ ap (λ (es : WrittenEntries). with_front front (read_elements m sorted short t es)) (none_left entries i le) ∙ ap (λ (vs : List AbstractValue). Ok vs) (append-nil front)
+  pub elements_refused : (f : Option ValueFault) (room i : ℕ) (e : EntryTree) (front : List AbstractValue) (total : Read (List AbstractValue)) → i < length entries → e ≡ get_or entries i e → Refuses f (one e)
+      → with_front front (elements_from room i) ≡ total → Refuses f total
+  elements_refused None room i e front total lt is refused so_far = tt
+  elements_refused (Some f) room i e front total lt is refused so_far =
+      sym so_far ∙ ap (with_front front) (after_is room i e lt is ∙ ap (λ (r : Read AbstractValue). r >>= λ w. after room i e w) refused)
+
+  -- those so far are too long
+  pub elements_long : (f : Option ValueFault) (room i : ℕ) (e : EntryTree) (front : List AbstractValue) (v : AbstractValue) (total : Read (List AbstractValue)) → i < length entries → e ≡ get_or entries i e → one e ≡ Ok v → Refuses f (room_left room e v)
+      → with_front front (elements_from room i) ≡ total → Refuses f total
+  elements_long None room i e front v total lt is got refused so_far = tt
+  elements_long (Some f) room i e front v total lt is got refused so_far =
+      sym so_far ∙ ap (with_front front) (after_is room i e lt is ∙ ap (λ (r : Read AbstractValue). r >>= λ w. after room i e w) got
+      ∙ ap (λ (r : Read ℕ). r >>= λ n. elements_from n (i + 1) >>= λ more. Ok (kept sorted v ∷ more)) refused)
+
+  pub elements_done : (room i : ℕ) (front : List AbstractValue) (total : Read (List AbstractValue)) → length entries ≤ i → with_front front (elements_from room i) ≡ total → total ≡ Ok front
+  unfolding build
+  elements_done room i front total le so_far =
+      sym so_far ∙ ap (λ (es : WrittenEntries). with_front front (build_elements m sorted short t room es)) (none_left entries i le) ∙ ap (λ (vs : List AbstractValue). Ok vs) (append-nil front)
 
 -- ---- entries for components
 
 module _ (m : Meaning) (sorted : Bool) (ordered : Bool) (cs : Components) (entries : List EntryTree) where
   abbrev pub from : ℕ → Fields → ℕ → Read Fields
-  from next fs i = read_entries m sorted ordered cs next fs (left entries i)
+  from next fs i = build_entries m sorted ordered cs next fs (left entries i)
 
   abbrev pub at : ℕ → Fields → EntryTree → Read (ℕ × AbstractValue)
-  at next fs e = entry_at ordered cs next fs (entry_view e).site (entry_view e).name (λ u. read m sorted u (entry_view e).value)
+  at next fs e = entry_at ordered cs next fs (entry_view e).site (entry_view e).name (λ u. build m sorted u (entry_view e).value)
 
   pub from_is : (next : ℕ) (fs : Fields) (i : ℕ) (e : EntryTree) → i < length entries → e ≡ get_or entries i e → from next fs i ≡ (at next fs e >>= λ x. from (suc x.0) (fill x.0 x.1 fs) (i + 1))
-  unfolding read
-  from_is next fs i e lt is = ap (read_entries m sorted ordered cs next fs) (left_is entries i e lt is)
+  unfolding build
+  from_is next fs i e lt is = ap (build_entries m sorted ordered cs next fs) (left_is entries i e lt is)
 
   pub entries_on : (next : ℕ) (fs : Fields) (i : ℕ) (e : EntryTree) (x : ℕ × AbstractValue) (total : Read Fields) → i < length entries → e ≡ get_or entries i e → at next fs e ≡ Ok x
       → from next fs i ≡ total → from (suc x.0) (fill x.0 x.1 fs) (i + 1) ≡ total
@@ -159,8 +168,8 @@ module _ (m : Meaning) (sorted : Bool) (ordered : Bool) (cs : Components) (entri
       sym so_far ∙ from_is next fs i e lt is ∙ ap (λ (r : Read (ℕ × AbstractValue)). r >>= λ y. from (suc y.0) (fill y.0 y.1 fs) (i + 1)) refused
 
   pub entries_done : (next : ℕ) (fs : Fields) (i : ℕ) (total : Read Fields) → length entries ≤ i → from next fs i ≡ total → total ≡ Ok fs
-  unfolding read
-  entries_done next fs i total le so_far = sym so_far ∙ ap (read_entries m sorted ordered cs next fs) (none_left entries i le)
+  unfolding build
+  entries_done next fs i total le so_far = sym so_far ∙ ap (build_entries m sorted ordered cs next fs) (none_left entries i le)
 
   pub entries_put : (next : ℕ) (fields after : List (Option Value)) (i : ℕ) (e : EntryTree) (place : ℕ) (v : Value) (total : Read Fields) → i < length entries → e ≡ get_or entries i e
       → at next (fields_view fields) e ≡ Ok (place, guard.value_view v) → place < length fields → after ≡ set fields place (Some v) → from next (fields_view fields) i ≡ total → from (place + 1) (fields_view after) (i + 1) ≡ total

@@ -17,7 +17,7 @@ use Rattle.guard_syntax.specs.declared.tree.ValueForm.TheViews.{out-ValueTree}
 use Rattle.guard_values.specs.declared.fault.ValueFault.TheVariants.{UnknownName, TooLarge}
 use Rattle.guard_values.specs.Meanings.{Meaning}
 use Rattle.guard_values.specs.Places.{located}
-use Rattle.guard_values.specs.inside.Reading.{Read, answered, alternative, site_of, read, read_first_fault}
+use Rattle.guard_values.specs.inside.Reading.{Read, answered, alternative, site_of, build, build_first_fault}
 use Rattle.guard_values.proofs.Braces.EntriesInTurn.{value_view_is}
 
 -- a name of no alternative
@@ -26,6 +26,6 @@ no_alternative site kind alternatives name is none =
     ap (λ (k : Kind). alternative site (kind_view k) name) is ∙ ap (λ (k : AbstractKind). alternative site k name) (kind_view_choice alternatives) ∙ ap (answered (UnknownName site)) (sym none)
 
 -- nothing else is at fault
-pub too_long : (m : Meaning) (t : AbstractType) (tree : ValueTree) (v : AbstractValue) → read m false t (value_view tree) ≡ Ok v → read_first_fault m t (value_view tree) ≡ Err (TooLarge (out-ValueTree tree).site)
+pub too_long : (m : Meaning) (t : AbstractType) (tree : ValueTree) (v : AbstractValue) → build m false t (value_view tree) ≡ Ok v → build_first_fault m t (value_view tree) ≡ Err (TooLarge (out-ValueTree tree).site)
 too_long m t tree v e =
     ap (λ (r : Read AbstractValue). r >>= λ w. Err (TooLarge (site_of (value_view tree)))) e ∙ ap (λ (w : WrittenValue). Err (TooLarge (site_of w))) (value_view_is tree)

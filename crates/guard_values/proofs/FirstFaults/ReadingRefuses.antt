@@ -35,7 +35,7 @@ use Rattle.guard_values.specs.Denotes.{alternatives_of, are_few}
 use Rattle.guard_values.specs.Forms.{takes, are_too_few_arcs, entry_count}
 use Rattle.guard_values.specs.Conditions.{entry_type, Somewhere, InEntry, HasLongEncoding}
 use Rattle.guard_values.specs.Faults.{misses, is_below_some, where_taken, unless, faults_of_name, faults_of_arcs, faults_of_place, faults_after, faults_of_bit, faults_of_bits, faults_of_count, faults_of_list, faults_there, faults_of, faults_of_entries, faults_of_elements}
-use Rattle.guard_values.specs.inside.Reading.{Read, answered, read_bit, read_places, read_integer, read_text, limited_arcs, read_arcs, read_named, placed, entry_at, settled, completed, few, read_chosen, read_fields, read_set_of, read_braces, perhaps_limited, site_of, element_at, read, read_form, read_entries, read_elements}
+use Rattle.guard_values.specs.inside.Reading.{Read, answered, read_bit, read_places, read_named_bits, read_integer, read_text, limited_arcs, read_arcs, read_named, read_reference, placed, entry_at, settled, completed, few, read_chosen, read_fields, read_set_of, read_braces, perhaps_limited, site_of, element_at, kept, kept_read, read, read_form, read_entries, read_elements}
 use Rattle.guard_values.proofs.Denoted.SettledFields.{field_at, HasFields, has_absent, has_filled, none_filled, filled_there, unfilled_elsewhere, located_type}
 use Rattle.guard_values.proofs.Denoted.ReadIsDenoted.{read_said, entry_ok}
 
@@ -62,6 +62,10 @@ tells_in : {A : Type 0} (Long Longer : Type 0) (first : List ValueFault) (r : Re
 tells_in Long Longer first (Ok v) wider h = h
 tells_in Long Longer first (Err f) wider (inl h) = inl h
 tells_in Long Longer first (Err f) wider (inr l) = inr (wider l)
+
+kept_tells : (Long : Type 0) (sorted : Bool) (first : List ValueFault) (r : Read AbstractValue) → Tells Long first r → Tells Long first (kept_read sorted r)
+kept_tells Long true first r h = h
+kept_tells Long false first r h = tells_made Long first r (λ v. value.null) h
 
 -- ---- without a value inside
 
@@ -328,8 +332,8 @@ module _ (m : Meaning) (sorted : Bool) where
   unfolding read
   elements_count no_entries short t vs e = ap length (sym (same_Ok [] vs e))
   elements_count (entry site name tree rest) short t vs e =
-      let b = bind_ok (element_at short t site name (site_of tree) (read m sorted t tree)) (λ v. read_elements m sorted short t rest >>= λ more. Ok (v ∷ more)) vs e in
-      let c = made_ok (read_elements m sorted short t rest) (λ more. b.0 ∷ more) vs b.2 in
+      let b = bind_ok (element_at short t site name (site_of tree) (read m sorted t tree)) (λ v. read_elements m sorted short t rest >>= λ more. Ok (kept sorted v ∷ more)) vs e in
+      let c = made_ok (read_elements m sorted short t rest) (λ more. kept sorted b.0 ∷ more) vs b.2 in
       ap length (sym c.2) ∙ ap suc (elements_count rest short t c.0 c.1)
 
 -- ---- values in braces
@@ -379,8 +383,10 @@ module _ (m : Meaning) (sorted : Bool) (site : Site) (es : WrittenEntries) (Long
     braces_tell (type.sequence_of u) wider = items_tell (type.sequence_of u) wider false u (λ ws. value.items (items_of ws)) (elements (type.sequence_of u) false u (λ e. absurd cc) refl)
     braces_tell (type.set_of u) wider = set_of_tells u wider sorted refl
     braces_tell type.object_identifier wider = arcs_or_form (are_too_few_arcs es)
-    braces_tell (type.bit_string []) wider = inl refl
-    braces_tell (type.bit_string (name ∷ names)) wider = tells_made Long (faults_of_bits (name ∷ names) es) (read_places (name ∷ names) es) (λ places. bits_value (ones_at places)) (bits_tell Long (name ∷ names) es)
+    braces_tell (type.bit_string []) wider = kept_tells Long sorted (WrongNotation site ∷ []) (Err (WrongNotation site)) (inl refl)
+    braces_tell (type.bit_string (name ∷ names)) wider =
+        kept_tells Long sorted (faults_of_bits (name ∷ names) es) (read_named_bits site (name ∷ names) es)
+        (tells_made Long (faults_of_bits (name ∷ names) es) (read_places (name ∷ names) es) (λ places. bits_value (ones_at places)) (bits_tell Long (name ∷ names) es))
     braces_tell kind wider = inl refl
 
 -- ---- all trees
@@ -396,7 +402,9 @@ mutual
   form_tells m sorted written.null site t = null_tells (IsLong m sorted t (value_node site written.null)) site (kind_of t)
   form_tells m sorted (written.integer n) site t = integer_tells (IsLong m sorted t (value_node site (written.integer n))) site (kind_of t) n
   form_tells m sorted (written.text k spelling) site t = text_tells (IsLong m sorted t (value_node site (written.text k spelling))) site (kind_of t) k spelling
-  form_tells m sorted (written.reference name) site t = reference_tells (IsLong m sorted t (value_node site (written.reference name))) site t (kind_of t) name (m name)
+  form_tells m sorted (written.reference name) site t =
+      kept_tells (IsLong m sorted t (value_node site (written.reference name))) sorted (faults_of m t (value_node site (written.reference name))) (read_reference m t site name)
+      (reference_tells (IsLong m sorted t (value_node site (written.reference name))) site t (kind_of t) name (m name))
   form_tells m sorted (written.chosen name tree) site t =
       chosen_tells (IsLong m sorted t (value_node site (written.chosen name tree))) site (λ u. faults_of m u tree) (λ u. read m sorted u tree) (kind_of t) name tree
       (λ l is. tells_in (IsLong m sorted l.ty tree) (IsLong m sorted t (value_node site (written.chosen name tree))) (faults_of m l.ty tree) (read m sorted l.ty tree)
@@ -411,10 +419,10 @@ mutual
   elements_tell m sorted no_entries kind short u both is = refl
   elements_tell m sorted (entry site None tree rest) kind short u both is =
       tells_then (IsLongInside m sorted kind (entry site None tree rest)) (faults_of m u tree) (faults_of_elements m u rest) (element_at short u site None (site_of tree) (read m sorted u tree))
-      (λ v. read_elements m sorted short u rest >>= λ more. Ok (v ∷ more))
+      (λ v. read_elements m sorted short u rest >>= λ more. Ok (kept sorted v ∷ more))
       (tells_in (IsLong m sorted u tree) (IsLongInside m sorted kind (entry site None tree rest)) (faults_of m u tree) (element_at short u site None (site_of tree) (read m sorted u tree))
       (λ long. (long.0, inl (u, is, long.1))) (limited_tells m sorted short u tree (faults_of m u tree) (read m sorted u tree) both refl (read_tells m sorted tree u)))
-      (λ v got. tells_made (IsLongInside m sorted kind (entry site None tree rest)) (faults_of_elements m u rest) (read_elements m sorted short u rest) (λ more. v ∷ more)
+      (λ v got. tells_made (IsLongInside m sorted kind (entry site None tree rest)) (faults_of_elements m u rest) (read_elements m sorted short u rest) (λ more. kept sorted v ∷ more)
       (tells_in (IsLongInside m sorted kind rest) (IsLongInside m sorted kind (entry site None tree rest)) (faults_of_elements m u rest) (read_elements m sorted short u rest)
       (λ long. (long.0, inr long.1)) (elements_tell m sorted rest kind short u both is)))
   elements_tell m sorted (entry site (Some name) tree rest) kind short u both is = inl refl

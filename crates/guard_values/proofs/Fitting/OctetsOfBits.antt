@@ -44,7 +44,7 @@ filled_nothing : (base places : ℕ) → filled base places [] ≡ 0
 filled_nothing base zero = refl
 filled_nothing base (suc places) = refl
 
-filled_small : (base places : ℕ) (ds : List ℕ) → 1 ≤ base → Small base ds → filled base places ds < base ^ places
+pub filled_small : (base places : ℕ) (ds : List ℕ) → 1 ≤ base → Small base ds → filled base places ds < base ^ places
 filled_small base zero ds pos small = rw (pow-zero base) (omega arith)
 filled_small base (suc places) [] pos small =
     let power : base ^ suc places ≡ base ^ places * base = pow-suc base places in
@@ -124,7 +124,7 @@ last_dropped (suc n) (d ∷ ds) r rs e =
     let count : length (r ∷ rs) ≡ length ds - n = ap length (sym e) ∙ length-drop n ds in
     last_after d ds (omega (arith, count)) ∙ last_dropped n ds r rs e
 
-bits_after : (n : ℕ) (ds : List ℕ) → AreBits ds → AreBits (drop n ds)
+pub bits_after : (n : ℕ) (ds : List ℕ) → AreBits ds → AreBits (drop n ds)
 bits_after zero ds h = h
 bits_after (suc n) [] h = tt
 bits_after (suc n) (d ∷ ds) h = bits_after n ds h.1
@@ -201,7 +201,7 @@ small_bits : (ds : List ℕ) → Small 2 ds → AreBits ds
 small_bits [] h = tt
 small_bits (d ∷ ds) h = (h.0, small_bits ds h.1)
 
-bits_small : (ds : List ℕ) → AreBits ds → Small 2 ds
+pub bits_small : (ds : List ℕ) → AreBits ds → Small 2 ds
 bits_small [] h = tt
 bits_small (d ∷ ds) h = (h.0, bits_small ds h.1)
 

@@ -15,7 +15,7 @@ use Rattle.guard_tagcheck.specs.Limits.{nesting}
 use Rattle.guard_der.specs.Fits.{fits}
 use Rattle.guard_der.specs.Sound.{is_sound, is_proper, has_distinct_tags}
 use Rattle.guard_model.specs.Limits.{deepest_nesting}
-use Rattle.guard_syntax.specs.Trees.{WrittenValue, WrittenEntry}
+use Rattle.guard_syntax.specs.Trees.{WrittenValue}
 use Rattle.guard_names.specs.declared.names.Names.{Names}
 use Rattle.guard_names.specs.Meanings.{number_meant_in}
 use Rattle.guard_names.specs.NamesView.{modules_of, order_of}
@@ -26,11 +26,11 @@ use Rattle.guard_values.specs.Meanings.{Meaning, AreFitting}
 use Rattle.guard_values.specs.Denotes.{Denotes}
 use Rattle.guard_values.specs.Conditions.{IsFaultIn}
 use Rattle.guard_values.specs.FirstFault.{IsFirstFault}
-use Rattle.guard_values.specs.inside.Reading.{Read, element_at, site_of, read, read_sorted, read_whole}
+use Rattle.guard_values.specs.inside.Reading.{Read, element_at, read, read_whole}
 use Rattle.guard_values.specs.Views.{named, shared_view, known_definition}
 use Rattle.guard_values.proofs.Denoted.ReadIsDenoted.{read_said}
 use Rattle.guard_values.proofs.Fitting.DenotedValuesFit.{says_fits}
-use Rattle.guard_values.proofs.FirstFaults.WholeValues.{whole_first, whole_holds, sorted_ok, whole_denotes, whole_denotes_none}
+use Rattle.guard_values.proofs.FirstFaults.WholeValues.{whole_first, whole_holds, whole_denotes, whole_denotes_none}
 
 pub sound_proper : (t : AbstractType) → is_sound t ≡ true → is_proper t ≡ true
 sound_proper t sound = (and_parts (is_proper t) (has_distinct_tags t) (and_parts (is_proper t && has_distinct_tags t) (nat_le (nesting t) deepest_nesting) sound).0).0
@@ -40,15 +40,9 @@ sound_proper t sound = (and_parts (is_proper t) (has_distinct_tags t) (and_parts
 pub read_fits : (m : Meaning) → AreFitting m → (tree : WrittenValue) (t : AbstractType) (v : AbstractValue) → is_proper t ≡ true → read m true t tree ≡ Ok v → fits t v ≡ true
 read_fits m fit tree t v proper e = says_fits m fit tree t v proper (read_said m tree t v e)
 
-element_read : (t : AbstractType) (site place : Site) (name : Option (List ℕ)) (value_read : Read AbstractValue) (v : AbstractValue) → element_at false t site name place value_read ≡ Ok v → value_read ≡ Ok v
+pub element_read : (t : AbstractType) (site place : Site) (name : Option (List ℕ)) (value_read : Read AbstractValue) (v : AbstractValue) → element_at false t site name place value_read ≡ Ok v → value_read ≡ Ok v
 element_read t site place (Some name) value_read v e = absurd cc
 element_read t site place None value_read v e = let b = bind_ok value_read (λ w. Ok w) v e in b.1 ∙ b.2
-
-pub element_fits : (m : Meaning) → AreFitting m → (t : AbstractType) (e : WrittenEntry) (v : AbstractValue) → is_proper t ≡ true → element_at false t e.site e.name (site_of e.value) (read m true t e.value) ≡ Ok v → fits t v ≡ true
-element_fits m fit t e v proper h = read_fits m fit e.value t v proper (element_read t e.site (site_of e.value) e.name (read m true t e.value) v h)
-
-pub sorted_fits : (m : Meaning) → AreFitting m → (tree : WrittenValue) (t : AbstractType) (v : AbstractValue) → is_proper t ≡ true → read_sorted m t tree ≡ Ok v → fits t v ≡ true
-sorted_fits m fit tree t v proper e = read_fits m fit tree t v proper (sorted_ok m tree t v e)
 
 -- ---- what a call answers
 

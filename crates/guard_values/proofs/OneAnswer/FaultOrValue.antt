@@ -53,7 +53,7 @@ same_types t u e = cc
 abbrev ShortEntries : Meaning → Components → WrittenEntries → Type 0
 ShortEntries m cs es = (i : ℕ) (u : AbstractType) → component_type i cs ≡ Some u → is_among i (entry_places cs es) ≡ true → (v : AbstractValue) × EntrySays m cs es i u v × Within 1048576 (der u v)
 
-abbrev Long : Meaning → AbstractType → WrittenValue → Type 0
+abbrev pub Long : Meaning → AbstractType → WrittenValue → Type 0
 Long m t tree = Somewhere (HasLongEncoding m) t tree
 
 module _ (m : Meaning) (tree : WrittenValue) (inside : (u : AbstractType) (w : AbstractValue) → is_proper u ≡ true → Says m u tree w → Within 1048576 (der u w) → Long m u tree → ⊥) where
@@ -132,7 +132,7 @@ module _ (m : Meaning) (es : WrittenEntries)
   braces_short kind v proper h short long = absurd h
 
 mutual
-  none_long : (m : Meaning) (tree : WrittenValue) (t : AbstractType) (v : AbstractValue) → is_proper t ≡ true → Says m t tree v → Within 1048576 (der t v) → Long m t tree → ⊥
+  pub none_long : (m : Meaning) (tree : WrittenValue) (t : AbstractType) (v : AbstractValue) → is_proper t ≡ true → Says m t tree v → Within 1048576 (der t v) → Long m t tree → ⊥
   none_long m (value_node site form) t v proper says short (inl h) =
       let same : h.0 ≡ v = same_Ok h.0 v (sym (says_read m (value_node site form) t h.0 h.1) ∙ says_read m (value_node site form) t v says) in
       short_or_long (der t h.0) (subst (λ x. Within 1048576 (der t x)) (sym same) short) h.2
@@ -171,7 +171,7 @@ mutual
 
 -- ---- the two answers
 
-says_faultless : (m : Meaning) (tree : WrittenValue) (t : AbstractType) (v : AbstractValue) → Says m t tree v → faults_of m t tree ≡ []
+pub says_faultless : (m : Meaning) (tree : WrittenValue) (t : AbstractType) (v : AbstractValue) → Says m t tree v → faults_of m t tree ≡ []
 says_faultless m tree t v h = subst (λ (r : Read AbstractValue). Tells (IsLong m true t tree) (faults_of m t tree) r) (says_read m tree t v h) (read_tells m true tree t)
 
 -- Where a fault is the first, nothing is denoted.

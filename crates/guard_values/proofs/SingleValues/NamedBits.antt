@@ -1,24 +1,31 @@
 -- Bits that names in braces set, and those that a string keeps.
-use Rattle.std.proofs.Common.{◌≡◌, ◌≢◌, ℕ, zero, suc, ◌+◌, ◌<◌, ◌≤◌, Bool, true, false, cond, ◌||◌, List, [], ◌∷◌, ◌++◌, length, take, drop, get_or, Option, Some, None, Ok, inl, inr, ◌⊎◌, refl, sym, ap, ◌∙◌, subst, arith, add-one}
+use Rattle.std.proofs.Common.{◌≡◌, ◌≢◌, ℕ, zero, suc, ◌+◌, ◌<◌, ◌≤◌, Bool, true, false, cond, ◌||◌, List, [], ◌∷◌, ◌++◌, length, take, get_or, Option, Some, None, Ok, Err, inl, inr, ◌⊎◌, refl, sym, ap, ◌∙◌, subst, arith, add-one}
 use Rattle.std.proofs.lemmas.List.Elements.{All-cons, All-nil}
 use Rattle.std.specs.Prelude.{All, nat_eq, nat_lt, set, replicate, option_and_then}
 use Rattle.std.proofs.Math.Seq.{take-suc}
 use Rattle.std.proofs.lemmas.Bool.{eq-eqb}
 use Rattle.std.proofs.lemmas.Bool.Decides.{eqb_tells}
 use Rattle.std.proofs.lemmas.Grind.{common_steps, get_or-set_at}
-use Rattle.std.proofs.lemmas.List.{length-set, length-replicate, get_or-replicate, get_or-set_other, at_drop_all}
+use Rattle.std.proofs.lemmas.List.{length-set, length-replicate, get_or-replicate, get_or-set_other}
 use Rattle.std.proofs.lemmas.List.FromFn.{fill_by_all, get_or-map-range_with_len, length-map-range_with_len}
 use Rattle.guard_model.specs.Answer.{◌>>=◌, Refuses}
 use Rattle.guard_model.specs.inside.Each.{each}
 use Rattle.guard_model.proofs.Results.{bind_ok, made_ok, same_Ok, refuses_bind}
 use Rattle.guard_model.specs.declared.site.Site.{Site}
 use Rattle.guard_model.specs.AbstractType.{NamedNumber}
+use Rattle.guard_model.specs.AbstractValue as value
+use Rattle.guard_model.specs.ValueView.{value_view, value_step}
+use Rattle.guard_model.specs.declared.value.Value.TheFolds.{fold-roll-Value}
+use Rattle.guard_model.specs.declared.value.Value.TheOpen.{Value-F}
+use Rattle.guard_model.specs.declared.value.Value.TheVariants as variant
+use Rattle.guard_model.specs.declared.value.Value.TheVariants.{rolls-Null}
+use Rattle.guard_model.specs.AbstractValue.{AbstractValue}
 use Rattle.guard_syntax.specs.Trees.{WrittenEntry, WrittenEntries, no_entries, entry, entries_of}
 use Rattle.guard_der.specs.Fits.{last_octet}
 use Rattle.guard_values.specs.declared.fault.ValueFault.{ValueFault}
-use Rattle.guard_values.specs.declared.fault.ValueFault.TheVariants.{UnknownName}
+use Rattle.guard_values.specs.declared.fault.ValueFault.TheVariants.{WrongNotation, UnknownName}
 use Rattle.guard_values.specs.NamedBits.{name_alone, named_bit, one_more, places_named, is_in, bits_to_last, bit_among, ones_at, before_ones, to_last_one, bits_kept}
-use Rattle.guard_values.specs.inside.Reading.{Read, answered, read_bit, read_place, read_places, read_named_bits}
+use Rattle.guard_values.specs.inside.Reading.{Read, answered, kept_read, read_bit, read_place, read_places, read_named_bits}
 use Rattle.guard_values.specs.Simple.{bits_value}
 
 -- ---- what is read of names in braces is what they say
@@ -74,7 +81,7 @@ one_either : (b : Bool) (n : ℕ) → cond b n n ≡ n
 one_either true n = refl
 one_either false n = refl
 
-marked_length : (ps bits : List ℕ) → length (marked bits ps) ≡ length bits
+pub marked_length : (ps bits : List ℕ) → length (marked bits ps) ≡ length bits
 marked_length [] bits = refl
 marked_length (p ∷ ps) bits = marked_length ps (set bits p 1) ∙ length-set bits p 1
 
@@ -138,6 +145,9 @@ small_bit : (places : List ℕ) (b : Bool) → cond b 1 0 < 2
 small_bit places true = omega arith
 small_bit places false = omega arith
 
+pub ones_count : (places : List ℕ) → length (ones_at places) ≡ bits_to_last places
+ones_count places = length-map-range_with_len (bit_among places) 0 (bits_to_last places)
+
 pub ones_small : (places : List ℕ) → AreBits (ones_at places)
 ones_small places =
     let n = bits_to_last places in
@@ -179,11 +189,6 @@ bits_are : (bits : List ℕ) → AreBits bits → All (λ b. b < 2) bits
 bits_are [] h = All-nil (λ b. b < 2)
 bits_are (b ∷ bits) h = All-cons (λ c. c < 2) b bits h.0 (bits_are bits h.1)
 
-pub ones_done : (places bits : List ℕ) (i : ℕ) → length places ≤ i → marked bits (drop i places) ≡ ones_at places → All (λ b. b < 2) bits
-ones_done places bits i le e =
-    let all : bits ≡ ones_at places = sym (at_drop_all (marked bits) places i le) ∙ e in
-    subst (All (λ b. b < 2)) (sym all) (bits_are (ones_at places) (ones_small places))
-
 -- ---- a whole value
 
 pub names_refused : (f : Option ValueFault) (site : Site) (names : List NamedNumber) (es : List WrittenEntry) → 1 ≤ length names → Refuses f (each (read_place names) es) → Refuses f (read_named_bits site names (entries_of es))
@@ -196,6 +201,25 @@ pub names_read : (site : Site) (names : List NamedNumber) (es : List WrittenEntr
 names_read site [] es places some h = absurd (omega (arith, some))
 names_read site (n ∷ ns) es places some h =
     ap (λ (r : Read (List ℕ)). r >>= λ places. Ok (bits_value (ones_at places))) (each_place (n ∷ ns) es ∙ h)
+
+pub no_names : (site : Site) (names : List NamedNumber) (es : WrittenEntries) → length names ≡ 0 → read_named_bits site names es ≡ Err (WrongNotation site)
+no_names site [] es none = refl
+no_names site (n ∷ ns) es none = absurd (omega (arith, none))
+
+-- ---- what is kept
+
+pub kept_refused : (f : Option ValueFault) (sorted : Bool) (r : Read AbstractValue) → Refuses f r → Refuses f (kept_read sorted r)
+kept_refused f true r h = h
+kept_refused f false r h = refuses_bind f r (λ v. Ok value.null) h
+
+pub null_is : value_view variant.Null ≡ value.null
+null_is = ap value_view (sym rolls-Null) ∙ fold-roll-Value AbstractValue value_step Value-F.Null
+
+pub none_kept : (sorted : Bool) (r : Read AbstractValue) (v : AbstractValue) → sorted ≡ false → r ≡ Ok v → kept_read sorted r ≡ Ok value.null
+none_kept sorted r v not_sorted is = subst (λ b. kept_read b r ≡ Ok value.null) (sym not_sorted) (ap (λ (s : Read AbstractValue). s >>= λ w. Ok value.null) is)
+
+pub all_kept : (sorted : Bool) (r : Read AbstractValue) (v : AbstractValue) → sorted ≡ true → r ≡ Ok v → kept_read sorted r ≡ Ok v
+all_kept sorted r v is_sorted is = subst (λ b. kept_read b r ≡ Ok v) (sym is_sorted) is
 
 -- ---- up to the last one
 

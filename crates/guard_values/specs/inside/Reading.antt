@@ -1,5 +1,5 @@
 -- What the code reads, step by step: a value, or the first fault.
-use Rattle.std.specs.Prelude.{ℕ, suc, ℤ, Bool, true, false, ◌&&◌, List, [], ◌∷◌, nat_lt, Option, Some, None, Result, Ok, Err, if◌then◌else◌}
+use Rattle.std.specs.Prelude.{ℕ, suc, ◌-◌, ℤ, Bool, true, false, ◌&&◌, ◌||◌, List, [], ◌∷◌, nat_le, nat_lt, Option, Some, None, Result, Ok, Err, if◌then◌else◌}
 use Rattle.guard_model.specs.Answer.{◌>>=◌}
 use Rattle.guard_model.specs.declared.site.Site.{Site}
 use Rattle.guard_model.specs.AbstractType as type
@@ -7,6 +7,7 @@ use Rattle.guard_model.specs.AbstractType.{AbstractType, AbstractKind, AbstractP
 use Rattle.guard_model.specs.AbstractValue as value
 use Rattle.guard_model.specs.AbstractValue.{AbstractValue, Fields, items_of}
 use Rattle.guard_der.specs.Der.{der}
+use Rattle.guard_der.specs.Encoding.{longest_encoding, short_length}
 use Rattle.guard_der.specs.ProperConstraints.{is_short}
 use Rattle.guard_model.specs.Slots.{all_absent}
 use Rattle.guard_der.specs.Reading.{is_filled, fill, field_before}
@@ -73,6 +74,18 @@ read_named site t None visible = read_visible site t visible
 
 abbrev pub read_reference : Meaning → AbstractType → Site → List ℕ → Read AbstractValue
 read_reference m t site name = read_named site t (own_number (kind_of t) name) (m name)
+
+-- ---- what is kept
+
+-- Of an element of a list, of what a name means, and of named bits: the value; or NULL where what is read counts for its
+-- faults alone, and nothing is sorted.
+abbrev pub kept : Bool → AbstractValue → AbstractValue
+kept true v = v
+kept false v = value.null
+
+abbrev pub kept_read : Bool → Read AbstractValue → Read AbstractValue
+kept_read true value_read = value_read
+kept_read false value_read = value_read >>= λ v. Ok value.null
 
 -- ---- named bits
 
@@ -168,7 +181,7 @@ read_braces sorted site (type.sequence_of t) es entries elements = elements fals
 read_braces sorted site (type.set_of t) es entries elements = read_set_of sorted site t elements
 read_braces sorted site type.object_identifier es entries elements =
     if are_too_few_arcs es then Err (BadObjectId site) else Err (WrongNotation site)
-read_braces sorted site (type.bit_string names) es entries elements = read_named_bits site names es
+read_braces sorted site (type.bit_string names) es entries elements = kept_read sorted (read_named_bits site names es)
 read_braces sorted site type.boolean es entries elements = Err (WrongNotation site)
 read_braces sorted site (type.integer ns) es entries elements = Err (WrongNotation site)
 read_braces sorted site type.octet_string es entries elements = Err (WrongNotation site)
@@ -189,7 +202,7 @@ abbrev pub element_at : Bool → AbstractType → Site → Option (List ℕ) →
 element_at short t site (Some name) place value = Err (WrongNotation site)
 element_at short t site None place value = value >>= λ v. perhaps_limited short place t v
 
--- With each SET OF sorted, or as it is written.
+-- With each SET OF sorted; or as it is written, for its faults alone.
 unfoldable mutual
   pub read : Meaning → Bool → AbstractType → WrittenValue → Read AbstractValue
   read m sorted t (value_node site form) = read_form m sorted t site form
@@ -199,7 +212,7 @@ unfoldable mutual
   read_form m sorted t site written.null = answered (WrongNotation site) (null_value (kind_of t))
   read_form m sorted t site (written.integer n) = read_integer site (kind_of t) n
   read_form m sorted t site (written.text k spelling) = read_text site (kind_of t) k spelling
-  read_form m sorted t site (written.reference name) = read_reference m t site name
+  read_form m sorted t site (written.reference name) = kept_read sorted (read_reference m t site name)
   read_form m sorted t site (written.chosen name tree) = read_chosen site (kind_of t) name (λ u. read m sorted u tree)
   read_form m sorted t site (written.list es) =
       read_braces sorted site (kind_of t) es (λ ordered cs. read_entries m sorted ordered cs 0 (all_absent cs) es)
@@ -218,20 +231,84 @@ unfoldable mutual
   read_elements m sorted short t no_entries = Ok []
   read_elements m sorted short t (entry site name tree rest) =
       element_at short t site name (site_of tree) (read m sorted t tree) >>= λ v. read_elements m sorted short t rest
-      >>= λ more. Ok (v ∷ more)
+      >>= λ more. Ok (kept sorted v ∷ more)
+
+-- ---- as the code reads
+
+-- No component is inside: how long an encoding is can be told without comparing values with defaults.
+abbrev mutual
+  pub is_plain : AbstractType → Bool
+  is_plain (type.type_of tags kind cons) = is_plain_kind kind
+
+  pub is_plain_kind : AbstractKind → Bool
+  is_plain_kind type.boolean = true
+  is_plain_kind (type.integer ns) = true
+  is_plain_kind (type.bit_string names) = true
+  is_plain_kind type.octet_string = true
+  is_plain_kind type.null = true
+  is_plain_kind type.object_identifier = true
+  is_plain_kind (type.enumerated items) = true
+  is_plain_kind (type.characters k) = true
+  is_plain_kind (type.sequence cs) = false
+  is_plain_kind (type.set cs) = false
+  is_plain_kind (type.choice cs) = false
+  is_plain_kind (type.sequence_of t) = is_plain t
+  is_plain_kind (type.set_of t) = is_plain t
+
+-- how many octets are left after one more element
+abbrev pub room_without : Site → ℕ → Option ℕ → Read ℕ
+room_without site room None = Err (TooLarge site)
+room_without site room (Some n) = if nat_le n room then Ok (room - n) else Err (TooLarge site)
+
+abbrev pub room_after : Bool → Site → AbstractType → AbstractValue → ℕ → Read ℕ
+room_after true site t v room = room_without site room (short_length (der t v))
+room_after false site t v room = Ok room
+
+-- As `read`, but where SET OFs are sorted, a list ends at the first element from which on the encodings of its elements
+-- have more than 1,048,576 octets in all. They are counted in a SET OF, where each is made, and in lists of plain types.
+unfoldable mutual
+  pub build : Meaning → Bool → AbstractType → WrittenValue → Read AbstractValue
+  build m sorted t (value_node site form) = build_form m sorted t site form
+
+  pub build_form : Meaning → Bool → AbstractType → Site → WrittenValueForm → Read AbstractValue
+  build_form m sorted t site (written.boolean b) = answered (WrongNotation site) (boolean_value (kind_of t) b)
+  build_form m sorted t site written.null = answered (WrongNotation site) (null_value (kind_of t))
+  build_form m sorted t site (written.integer n) = read_integer site (kind_of t) n
+  build_form m sorted t site (written.text k spelling) = read_text site (kind_of t) k spelling
+  build_form m sorted t site (written.reference name) = kept_read sorted (read_reference m t site name)
+  build_form m sorted t site (written.chosen name tree) = read_chosen site (kind_of t) name (λ u. build m sorted u tree)
+  build_form m sorted t site (written.list es) =
+      read_braces sorted site (kind_of t) es (λ ordered cs. build_entries m sorted ordered cs 0 (all_absent cs) es)
+      (λ short u. build_elements m sorted short u longest_encoding es)
+  build_form m sorted t site (written.arcs arcs) = read_arcs site (kind_of t) arcs
+
+  pub build_entries : Meaning → Bool → Bool → Components → ℕ → Fields → WrittenEntries → Read Fields
+  build_entries m sorted ordered cs next fs no_entries = Ok fs
+  build_entries m sorted ordered cs next fs (entry site name tree rest) =
+      entry_at ordered cs next fs site name (λ u. build m sorted u tree)
+      >>= λ x. build_entries m sorted ordered cs (suc x.0) (fill x.0 x.1 fs) rest
+
+  -- with room for so many octets
+  pub build_elements : Meaning → Bool → Bool → AbstractType → ℕ → WrittenEntries → Read (List AbstractValue)
+  build_elements m sorted short t room no_entries = Ok []
+  build_elements m sorted short t room (entry site name tree rest) =
+      element_at short t site name (site_of tree) (build m sorted t tree)
+      >>= λ v. room_after (sorted && (short || is_plain t)) (site_of tree) t v room
+      >>= λ left. build_elements m sorted short t left rest >>= λ more. Ok (kept sorted v ∷ more)
 
 -- ---- what single calls read
 
-abbrev pub read_items : Meaning → Bool → Site → AbstractType → WrittenEntries → Read AbstractValue
-read_items m sorted site t es = read_elements m sorted false t es >>= λ vs. listed site vs
+abbrev pub build_items : Meaning → Bool → Site → AbstractType → WrittenEntries → Read AbstractValue
+build_items m sorted site t es = build_elements m sorted false t longest_encoding es >>= λ vs. listed site vs
 
-abbrev pub read_set_items : Meaning → Bool → Site → AbstractType → WrittenEntries → Read AbstractValue
-read_set_items m sorted site t es = read_set_of sorted site t (λ short u. read_elements m sorted short u es)
+abbrev pub build_set_items : Meaning → Bool → Site → AbstractType → WrittenEntries → Read AbstractValue
+build_set_items m sorted site t es =
+    read_set_of sorted site t (λ short u. build_elements m sorted short u longest_encoding es)
 
-abbrev pub read_list : Meaning → Bool → Site → AbstractKind → WrittenEntries → Read AbstractValue
-read_list m sorted site kind es =
-    read_braces sorted site kind es (λ ordered cs. read_entries m sorted ordered cs 0 (all_absent cs) es)
-    (λ short u. read_elements m sorted short u es)
+abbrev pub build_list : Meaning → Bool → Site → AbstractKind → WrittenEntries → Read AbstractValue
+build_list m sorted site kind es =
+    read_braces sorted site kind es (λ ordered cs. build_entries m sorted ordered cs 0 (all_absent cs) es)
+    (λ short u. build_elements m sorted short u longest_encoding es)
 
 -- ---- a whole written value
 
@@ -248,3 +325,13 @@ read_sorted m t tree = sorted_or (read m true t tree) (read_first_fault m t tree
 
 abbrev pub read_whole : Meaning → AbstractType → WrittenValue → Read AbstractValue
 read_whole m t tree = read_sorted m t tree >>= λ v. limited (site_of tree) t v
+
+-- as the code reads it
+abbrev pub build_first_fault : Meaning → AbstractType → WrittenValue → Read AbstractValue
+build_first_fault m t tree = build m false t tree >>= λ v. Err (TooLarge (site_of tree))
+
+abbrev pub build_sorted : Meaning → AbstractType → WrittenValue → Read AbstractValue
+build_sorted m t tree = sorted_or (build m true t tree) (build_first_fault m t tree)
+
+abbrev pub build_whole : Meaning → AbstractType → WrittenValue → Read AbstractValue
+build_whole m t tree = build_sorted m t tree >>= λ v. limited (site_of tree) t v

@@ -9,7 +9,7 @@ use crate::type_row::set_type;
 use conformance_notation::{read, value_of};
 use conformance_rows::{Layer, not_read, text_of};
 use guard_der::{fits, sound};
-use guard_eval::{first_violation, member};
+use guard_eval::{first_violation, member, member_of};
 use guard_model::{PathText, Ty, Value};
 use std::alloc::{AllocError, Global};
 
@@ -32,12 +32,18 @@ fn answered(alloc: Global, ty: &Ty, value: &Value, width: u32) -> Result<String,
     }
 }
 
-/// What `first_violation` says beside the answer of `member`.
+/// What `first_violation` says beside the answers of `member` and `member_of`.
 fn violated(alloc: Global, ty: &Ty, value: &Value, width: u32) -> Result<String, AllocError>
     requires sound { IsTrue (is_sound (type_view ty.now)) }
     requires fits { IsTrue (fits (type_view ty.now) (value_view value.now)) }
 {
-    match (member(ty, value), first_violation(ty, value)) {
+    let Ok(is_member) = member_of(alloc, ty, value) else {
+        return Err(AllocError);
+    };
+    if is_member != member(ty, value) {
+        return String::from_str(alloc, "member and member_of disagree");
+    }
+    match (is_member, first_violation(ty, value)) {
         (true, None) => String::from_str(alloc, "member"),
         (false, Some(violation)) => {
             // the notation's columns count the octets from there to the end

@@ -10,6 +10,10 @@ pub mod Law
 pub mod Walk
 pub mod Paths
 pub mod Calls
+-- ---- integers that are allowed, as sets
+pub mod WholeSets
+pub mod RuleViews
+pub mod LongLists
 -- ---- sound types
 pub mod Bases
 pub mod Soundness

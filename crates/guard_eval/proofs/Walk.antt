@@ -175,7 +175,7 @@ mutual
   chosen_walked (component name t presence cs) zero v b h = walked t v b.0 h
   chosen_walked (component name t presence cs) (suc i) v b h = chosen_walked cs i v b.1 h
 
-  all_walked : (cs : Constraints) (kind : AbstractKind) (v : AbstractValue) → AllKeepBase cs kind → IsTrue (fits_kind kind v) → first_failure cs kind v ≡ seen (first_failing cs kind v)
+  pub all_walked : (cs : Constraints) (kind : AbstractKind) (v : AbstractValue) → AllKeepBase cs kind → IsTrue (fits_kind kind v) → first_failure cs kind v ≡ seen (first_failing cs kind v)
   all_walked no_constraints kind v b h = refl
   all_walked (constraint c cs) kind v b h = or_seen (blame c kind v) (first_failing cs kind v) (by_walked c kind v b.0 h) (all_walked cs kind v b.1 h)
 

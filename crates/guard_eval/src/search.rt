@@ -93,7 +93,7 @@ fn failure_of_items(path: &mut Path, ty: &Ty, items: &[Value]) -> Option<Site>
 
 /// What the first of the constraints that doesn't have the value blames; None where all have it.
 #[cycle(search)]
-fn first_failure(path: &mut Path, cons: &[Cons], kind: &Kind, value: &Value) -> Option<Site>
+pub fn first_failure(path: &mut Path, cons: &[Cons], kind: &Kind, value: &Value) -> Option<Site>
     ensures { found_by path.new.items result
         ≡ first_failure (constraints_of (map constraint_view cons.now)) (kind_view kind.now) (value_view value.now) }
 {

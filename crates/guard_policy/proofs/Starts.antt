@@ -17,7 +17,7 @@ use Rattle.guard_model.specs.declared.ty.Limit.TheVariants.{Free, At, Past}
 use Rattle.guard_eval.specs.Elements.{has_base, is_above, is_under}
 use Rattle.guard_eval.specs.Member.{is_member, holds, holds_element, all_hold, some_hold}
 use Rattle.guard_tables.specs.Demands.{Demand, by_type, by_constraint}
-use Rattle.guard_tables.proofs.WholeSets.{integers_of}
+use Rattle.guard_eval.proofs.WholeSets.{integers_of}
 use Rattle.guard_policy.specs.Barren.{least_number, low_starts, high_starts, value_starts, starts, element_starts, type_starts, all_starts, demand_starts, starts_of, demand_has_number, all_have_number}
 
 -- each of these numbers of this profile that isn't above z isn't above p

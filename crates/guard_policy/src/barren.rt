@@ -12,10 +12,10 @@ ghost use Rattle.guard_tables.specs.inside.DemandViews.{demand_view};
 use super::asked::demands_within;
 use super::policy::Policy;
 use super::sizes::{sizes_of, sizes_of_all};
-use guard_eval::is_optional;
+use guard_eval::{is_optional, numbers_of, numbers_of_type};
 use guard_integers::IntSet;
 use guard_model::{Comp, Kind, OutOfMemory, Ty};
-use guard_tables::{Demand, numbers_of, numbers_of_type};
+use guard_tables::Demand;
 use std::alloc::Global;
 
 impl Policy {

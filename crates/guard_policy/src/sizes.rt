@@ -6,9 +6,9 @@ ghost use Rattle.guard_model.specs.TypeView.{constraint_view, element_view, cons
 ghost use Rattle.guard_policy.specs.Barren.{may_have_size, element_may_have_size, all_may_have_size};
 ghost use Rattle.guard_policy.specs.Barren.{some_may_have_size};
 
+use guard_eval::numbers_of;
 use guard_integers::IntSet;
 use guard_model::{Cons, OutOfMemory, Rule};
-use guard_tables::numbers_of;
 use std::alloc::Global;
 
 /// The sizes that values under the constraint may have, as far as SIZE tells. OutOfMemory is the only error.

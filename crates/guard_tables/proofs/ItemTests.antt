@@ -26,7 +26,7 @@ use Rattle.guard_model.specs.declared.ty.Named.{Named}
 use Rattle.guard_der.specs.Fits.{fits_kind}
 use Rattle.guard_model.specs.NamedLists.{is_item}
 use Rattle.guard_tables.specs.NodeViews.{unnamed}
-use Rattle.guard_tables.proofs.WholeSets.{one_set_more}
+use Rattle.guard_eval.proofs.WholeSets.{one_set_more}
 
 meets_ends : (n z : ℤ) → z ≡ n → (int_le n z && int_le z n) ≡ true
 meets_ends n z e = grind (arith, ints)

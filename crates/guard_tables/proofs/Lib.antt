@@ -38,9 +38,7 @@ pub mod AscendingParts
 -- ---- what loops gather
 pub mod Gathered
 -- ---- ranges of integers
-pub mod WholeSets
 pub mod JoinedRanges
-pub mod RuleViews
 pub mod ItemTests
 -- ---- formulas from lists
 pub mod FormLists

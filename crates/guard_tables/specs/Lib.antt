@@ -1,7 +1,6 @@
 -- ---- what is asked of a value at a node
 pub mod Nodes
 pub mod Conditions
-pub mod NumberSets
 -- ---- sets of slots, and what nodes stand for
 pub mod Slots
 pub mod Formulas

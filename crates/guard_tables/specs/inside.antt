@@ -3,7 +3,6 @@ pub mod DemandViews
 pub mod OnePart
 pub mod FormViews
 pub mod JoinedRanges
-pub mod NumberSets
 pub mod Counting
 pub mod Search
 pub mod SideViews

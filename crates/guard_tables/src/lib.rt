@@ -30,7 +30,6 @@
 //! | And all that is asked at a node? | `demands_at_node.rt` | `Forms.antt` |
 //! | What do the terms of a node ask of each of its parts? | `demands_of_parts.rt` | `OfParts.antt`, `DemandsOfParts.antt` |
 //! | And of a part's presence? | `demands_of_parts.rt` | `Lay.antt` |
-//! | Which numbers does a constraint have? | `number_sets.rt` | `NumberSets.antt` |
 //! | Which sizes and characters? | `simple_tests.rt` | `Lay.antt` |
 //! | How are permitted characters kept? | `alphabet.rt` | `Alphabets.antt` |
 //! | And the items of an ENUMERATED? | `items.rt` | `Items.antt` |
@@ -63,7 +62,6 @@ mod new_nodes;
 mod node;
 mod node_list;
 mod nodes;
-mod number_sets;
 mod parts;
 mod plain_interval;
 mod segments;
@@ -82,6 +80,5 @@ pub use items::Items;
 pub use node::{Cold, Condition, Form, Hot, Implication, Kind, Need, SimpleKind, Test};
 pub use node_list::Nodes;
 pub use nodes::crowded_node;
-pub use number_sets::{numbers_of, numbers_of_type};
 pub use slots::Slots;
 pub use table::Table;

@@ -14,7 +14,7 @@ ghost use Rattle.guard_tables.specs.NodeViews.{test_view};
 
 use crate::alphabet::Alphabet;
 use crate::node::Test;
-use crate::number_sets::numbers_of;
+use guard_eval::numbers_of;
 use guard_integers::IntSet;
 use guard_model::{Cons, OutOfMemory};
 use std::alloc::Global;

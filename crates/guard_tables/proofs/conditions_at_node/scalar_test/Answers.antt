@@ -6,7 +6,7 @@ use Rattle.guard_eval.specs.Member.{holds}
 use Rattle.guard_tables.specs.Lay.{scalar_tests}
 use Rattle.guard_tables.specs.Plan.{AbstractTest}
 use Rattle.guard_tables.proofs.ItemTests.{integer_view}
-use Rattle.guard_tables.proofs.WholeSets.{alike_integer}
+use Rattle.guard_eval.proofs.WholeSets.{alike_integer}
 use Rattle.guard_tables.proofs.conditions_at_node.scalar_test.Goals as goal
 
 pub returns-in_ok-number_test-in-Int : goal.returns-in_ok-number_test-in-Int

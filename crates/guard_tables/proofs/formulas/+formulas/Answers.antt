@@ -6,7 +6,7 @@ use Rattle.guard_model.specs.declared.ty.Kind.{the_lemmas}
 use Rattle.guard_tables.specs.Forms.{form_element}
 use Rattle.guard_tables.specs.inside.FormViews.{formula_of}
 use Rattle.guard_tables.proofs.FormRooms.{all_room, all_so_far, each_room, each_so_far, minus_room}
-use Rattle.guard_tables.proofs.RuleViews.{view_minus}
+use Rattle.guard_eval.proofs.RuleViews.{view_minus}
 use Rattle.guard_tables.proofs.SlotCounts.{own_up}
 use Rattle.guard_tables.proofs.formulas.+formulas.Goals as goal
 

@@ -1,5 +1,5 @@
-use Rattle.std.proofs.Common.{◌≡◌, Bool, true, ◌&&◌, ◌||◌, List, map, IfOk, refl, sym, ap, subst, ◌∙◌}
-use Rattle.guard_integers.specs.Integers.{Integers, holds, some_holds, only_fitting}
+use Rattle.std.proofs.Common.{◌≡◌, Bool, true, not, ◌&&◌, ◌||◌, List, map, IfOk, refl, sym, ap, subst, ◌∙◌}
+use Rattle.guard_integers.specs.Integers.{Integers, holds, some_holds}
 use Rattle.guard_model.specs.AbstractType as type
 use Rattle.guard_model.specs.AbstractType.{AbstractType, Element}
 use Rattle.guard_model.specs.AbstractValue as abstract
@@ -11,10 +11,10 @@ use Rattle.guard_model.specs.declared.ty.Kind.TheViews.{out-Ty}
 use Rattle.guard_model.proofs.TypeViews.{type_view_is}
 use Rattle.guard_eval.specs.Member.{holds_element, all_hold, is_member}
 use Rattle.guard_eval.proofs.Applied.{contained_integer}
-use Rattle.guard_tables.specs.NumberSets.{HasNumbers}
-use Rattle.guard_tables.proofs.RuleViews.{view_one, view_inside, view_range, view_minus, view_other}
-use Rattle.guard_tables.proofs.WholeSets.{if_ok, all_more, some_more, some_done, one_set_more, of_integer, minus_has, other_has}
-use Rattle.guard_tables.proofs.number_sets.+number_sets.Goals as goal
+use Rattle.guard_eval.specs.NumberSets.{HasNumbers}
+use Rattle.guard_eval.proofs.RuleViews.{view_one, view_inside, view_range, view_minus, view_other}
+use Rattle.guard_eval.proofs.WholeSets.{if_ok, all_more, all_done, some_more, some_done, one_set_more, of_integer, minus_has, other_has}
+use Rattle.guard_eval.proofs.number_sets.+number_sets.Goals as goal
 
 pub numbers_of_rule-returns-in-One : goal.numbers_of_rule-returns-in-One
 numbers_of_rule-returns-in-One t c =
@@ -48,8 +48,16 @@ numbers_of_rule-returns-in_ok-numbers_of-in-Other t c =
 
 pub numbers_of_all-loop-constraint-preserved : goal.numbers_of_all-loop-constraint-preserved
 numbers_of_all-loop-constraint-preserved t c = λ kind whole z.
-    all_more kind z c.args.constraints.now c.loop-constraint.constraint-index c.constraint-item.result (holds c.loop-constraint.left z) (holds c.in_ok-left-2.left z) _ (fits_128_bits z) _ c.loop-constraint-test.true
-    c.constraint-item.is (c.in_ok-left-2.ensures z) (c.in_ok-numbers_of.ensures kind whole z) (only_fitting c.loop-constraint.left z) (c.loop-constraint.invariant kind whole z)
+    let added : some_holds c.push.new.self.items z ≡ (some_holds c.loop-constraint.left_out.items z || holds c.in_ok-complement.field-0 z) =
+    ap (λ (sets : List Integers). some_holds sets z) c.in_ok-push.ensures.items ∙ one_set_more c.loop-constraint.left_out.items c.in_ok-complement.field-0 z in
+    all_more kind z c.args.constraints.now c.loop-constraint.constraint-index c.constraint-item.result (some_holds c.loop-constraint.left_out.items z) _ _ _ (fits_128_bits z) _ c.loop-constraint-test.true
+    c.constraint-item.is added (c.in_ok-complement.ensures z) (c.in_ok-numbers.ensures kind whole z) (c.loop-constraint.invariant kind whole z)
+
+pub numbers_of_all-returns : goal.numbers_of_all-returns
+numbers_of_all-returns t c =
+    if_ok c.complement-3.result _ _
+    (λ set h kind whole z. h z ∙ ap (λ (b : Bool). fits_128_bits z && not b) (c.in_ok-union_of.ensures z ∙ ap (λ (sets : List Integers). some_holds sets z) c.deref.ensures.value)
+    ∙ all_done kind z c.args.constraints.now c.loop-constraint.constraint-index (some_holds c.loop-constraint.left_out.items z) (fits_128_bits z) _ c.loop-constraint-test.false (c.loop-constraint.invariant kind whole z)) c.complement-3.ensures
 
 pub numbers_of_some-loop-constraint-preserved : goal.numbers_of_some-loop-constraint-preserved
 numbers_of_some-loop-constraint-preserved t c = λ kind whole z.

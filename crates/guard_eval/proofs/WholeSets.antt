@@ -28,23 +28,26 @@ and_false false = refl
 
 -- ---- all of them
 
-common_of : (l f h rest total : Bool) → l ≡ (f && l) → (l && (h && rest)) ≡ total → ((l && (f && h)) && rest) ≡ total
-common_of false f h rest total within so_far = so_far
-common_of true true h rest total within so_far = so_far
-common_of true false h rest total within so_far = absurd cc
+-- what none of them leaves out so far, and what one more leaves out
+none_of : (a f h rest : Bool) → (f && (not (a || (f && not (f && h))) && rest)) ≡ (f && (not a && (h && rest)))
+none_of a false h rest = refl
+none_of true true h rest = refl
+none_of false true true rest = refl
+none_of false true false rest = refl
 
-pub all_more : (kind : AbstractKind) (z : ℤ) (cs : List Cons) (i : ℕ) (c : Cons) (l l2 r f total : Bool) → i < length cs → c ≡ get_or cs i c
-    → l2 ≡ (l && r) → r ≡ (f && holds (constraint_view c) kind (value.integer z)) → l ≡ (f && l)
-    → (l && all_hold (rest_of (drop i cs)) kind (value.integer z)) ≡ total → (l2 && all_hold (rest_of (drop (i + 1) cs)) kind (value.integer z)) ≡ total
-all_more kind z cs i c l l2 r f total lt is left allowed within so_far =
+pub all_more : (kind : AbstractKind) (z : ℤ) (cs : List Cons) (i : ℕ) (c : Cons) (a a2 g r f total : Bool) → i < length cs → c ≡ get_or cs i c
+    → a2 ≡ (a || g) → g ≡ (f && not r) → r ≡ (f && holds (constraint_view c) kind (value.integer z))
+    → (f && (not a && all_hold (rest_of (drop i cs)) kind (value.integer z))) ≡ total → (f && (not a2 && all_hold (rest_of (drop (i + 1) cs)) kind (value.integer z))) ≡ total
+all_more kind z cs i c a a2 g r f total lt is added left_out allowed so_far =
     let rest = all_hold (rest_of (drop (i + 1) cs)) kind (value.integer z) in
     let first = at_drop_more (λ (ds : List Cons). all_hold (rest_of ds) kind (value.integer z)) cs i c lt ∙ ap (λ (d : Cons). all_hold (rest_of (d ∷ drop (i + 1) cs)) kind (value.integer z)) (sym is) in
-    ap (λ (b : Bool). b && rest) left ∙ ap (λ (b : Bool). (l && b) && rest) allowed
-    ∙ common_of l f (holds (constraint_view c) kind (value.integer z)) rest total within (ap (λ (b : Bool). l && b) (sym first) ∙ so_far)
+    ap (λ (b : Bool). f && (not b && rest)) added ∙ ap (λ (b : Bool). f && (not (a || b) && rest)) left_out ∙ ap (λ (b : Bool). f && (not (a || (f && not b)) && rest)) allowed
+    ∙ none_of a f (holds (constraint_view c) kind (value.integer z)) rest ∙ ap (λ (b : Bool). f && (not a && b)) (sym first) ∙ so_far
 
-pub all_done : (kind : AbstractKind) (z : ℤ) (cs : List Cons) (i : ℕ) (l total : Bool) → length cs ≤ i → (l && all_hold (rest_of (drop i cs)) kind (value.integer z)) ≡ total → l ≡ total
-all_done kind z cs i l total ends so_far =
-    sym (and_true l) ∙ ap (λ (b : Bool). l && b) (sym (at_drop_all (λ (ds : List Cons). all_hold (rest_of ds) kind (value.integer z)) cs i ends)) ∙ so_far
+pub all_done : (kind : AbstractKind) (z : ℤ) (cs : List Cons) (i : ℕ) (a f total : Bool) → length cs ≤ i → (f && (not a && all_hold (rest_of (drop i cs)) kind (value.integer z))) ≡ total → (f && not a) ≡ total
+all_done kind z cs i a f total ends so_far =
+    sym (ap (λ (b : Bool). f && b) (and_true (not a)))
+    ∙ ap (λ (b : Bool). f && (not a && b)) (sym (at_drop_all (λ (ds : List Cons). all_hold (rest_of ds) kind (value.integer z)) cs i ends)) ∙ so_far
 
 -- ---- one of them
 

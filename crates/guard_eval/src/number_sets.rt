@@ -7,8 +7,8 @@ ghost use Rattle.guard_model.specs.Same.{same};
 ghost use Rattle.guard_model.specs.ValueView.{value_view};
 ghost use Rattle.guard_eval.specs.Elements.{is_above, is_under, is_between};
 ghost use Rattle.guard_eval.specs.Member.{holds, holds_element, is_member, all_hold, some_hold};
-ghost use Rattle.guard_tables.specs.NumberSets.{HasNumbers};
-ghost use Rattle.guard_tables.specs.inside.NumberSets.{begins, ends};
+ghost use Rattle.guard_eval.specs.NumberSets.{HasNumbers};
+ghost use Rattle.guard_eval.specs.inside.NumberSets.{begins, ends};
 
 use guard_integers::IntSet;
 use guard_model::{Cons, Limit, OutOfMemory, Rule, Ty, Value};
@@ -44,17 +44,19 @@ fn numbers_of_rule(alloc: Global, rule: &Rule) -> Result<IntSet, OutOfMemory>
     }
 }
 
-/// The integers that all of these allow.
+/// The integers that all of these allow: those that none of them leaves out. A set that is common to many isn't made anew
+/// for each of them.
 #[cycle(number_sets)]
 fn numbers_of_all(alloc: Global, constraints: &[Cons]) -> Result<IntSet, OutOfMemory>
     ensures { IfOk result (λ set. HasNumbers set (λ kind z.
         all_hold (constraints_of (map constraint_view constraints.now)) kind (abstract.integer z))) }
 {
-    let mut left = IntSet::all(alloc)?;
+    let mut left_out = Vec::new(alloc);
     for constraint in constraints {
-        left = left.intersection(alloc, &numbers_of(alloc, constraint)?)?;
+        let numbers = numbers_of(alloc, constraint)?;
+        left_out.push(numbers.complement(alloc)?)?;
     }
-    Ok(left)
+    IntSet::union_of(alloc, &left_out)?.complement(alloc)
 }
 
 /// The integers that one of these allows.

@@ -1,17 +1,17 @@
-use Rattle.std.proofs.Common.{◌≡◌, ◌&&◌, ◌||◌, ℤ, map, drop, IsTrue}
-use Rattle.guard_integers.specs.Integers.{holds, some_holds}
+use Rattle.std.proofs.Common.{◌≡◌, not, ◌&&◌, ◌||◌, ℤ, map, drop, IsTrue}
+use Rattle.guard_integers.specs.Integers.{some_holds}
 use Rattle.guard_model.specs.AbstractType.{AbstractKind}
 use Rattle.guard_model.specs.AbstractValue as abstract
 use Rattle.guard_model.specs.Kinds.{is_integer}
 use Rattle.guard_model.specs.Limits.{fits_128_bits}
 use Rattle.guard_model.specs.TypeView.{constraint_view, constraints_of}
 use Rattle.guard_eval.specs.Member.{all_hold, some_hold}
-use Rattle.guard_tables.proofs.number_sets.+number_sets.Given as goal
+use Rattle.guard_eval.proofs.number_sets.+number_sets.Given as goal
 
--- those of them that the constraints to come allow are those that all allow
+-- those that none leaves out so far, and that the constraints to come allow, are those that all allow
 abbrev pub invariant-numbers_of_all-loop-constraint : goal.invariant-numbers_of_all-loop-constraint
 invariant-numbers_of_all-loop-constraint l =
-    (kind : AbstractKind) → IsTrue (is_integer kind) → (z : ℤ) → (holds l.left z && all_hold (constraints_of (map constraint_view (drop l.constraint-index l.constraints))) kind (abstract.integer z))
+    (kind : AbstractKind) → IsTrue (is_integer kind) → (z : ℤ) → (fits_128_bits z && (not (some_holds l.left_out.items z) && all_hold (constraints_of (map constraint_view (drop l.constraint-index l.constraints))) kind (abstract.integer z)))
     ≡ (fits_128_bits z && all_hold (constraints_of (map constraint_view l.constraints)) kind (abstract.integer z))
 
 -- with those that a constraint to come allows they are those that one allows

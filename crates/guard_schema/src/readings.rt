@@ -14,7 +14,7 @@ ghost use Rattle.guard_schema.specs.Readings.{ReadsValue, ReadsMember, ReadsCons
 
 use crate::fault::SchemaFault;
 use guard_constraints::constraint;
-use guard_eval::member;
+use guard_eval::member_of;
 use guard_model::{Cons, Ty, Value};
 use guard_syntax::{ConsTree, ValueTree};
 use guard_values::{Scope, shared_value};
@@ -35,7 +35,8 @@ pub fn read_member(
     ensures fits { IfOk result (λ v. IsTrue (fits (type_view ty.now) (shared_view v))) }
 {
     let value = read_value(alloc, scope, ty, tree)?;
-    if member(ty, &value) {
+    let is_member = member_of(alloc, ty, &value)?;
+    if is_member {
         Ok(value)
     } else {
         Err(SchemaFault::DefaultOutside(tree.site))

@@ -3,7 +3,7 @@ ghost use Rattle.std.specs.Prelude.{Some};
 
 use crate::streams::shown;
 use arrayvec::ArrayVec;
-use guard_frames::{Failed, Kept, Link, Sink};
+use guard_frames::{Failed, Kept, Link, Sink, Unwatched};
 use guard_policy::Policy;
 use std::alloc::{AllocError, Global};
 
@@ -69,7 +69,14 @@ pub fn fed(alloc: Global, policy: &Policy, stream: &[u8]) -> Result<String, Allo
     };
     let mut out = Array::new();
     let mut reports = Array::new();
-    let fed = link.feed(alloc, policy, stream, &mut out, &mut reports);
+    let fed = link.feed(
+        alloc,
+        policy,
+        stream,
+        &mut out,
+        &mut reports,
+        &mut Unwatched,
+    );
     let out = shown(alloc, out.held())?;
     let reports = shown(alloc, reports.held())?;
     match fed {

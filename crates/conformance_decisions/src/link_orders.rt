@@ -2,7 +2,7 @@
 //! its own stream.
 use crate::devices::{Pieces, Room};
 use crate::links::{Links, Record};
-use guard_frames::{Event, Gateway, Kept, run};
+use guard_frames::{Event, Gateway, Kept, Unwatched, run};
 use guard_policy::Policy;
 use std::alloc::{AllocError, Global};
 
@@ -98,7 +98,11 @@ fn takes(
             return Ok(false);
         }
         if gateway
-            .step(alloc, Event::Piece(record.link, record.octets))
+            .step(
+                alloc,
+                Event::Piece(record.link, record.octets),
+                &mut Unwatched,
+            )
             .is_err()
         {
             return Ok(false);
@@ -123,7 +127,11 @@ fn give(
 
 fn reload(alloc: Global, links: &Links, gateway: &mut Gateway<Kept>) -> Result<bool, AllocError> {
     match links.policy(alloc, 1)? {
-        Some(policy) => Ok(gateway.step(alloc, Event::Reload(policy)).is_ok()),
+        Some(policy) => Ok(
+            gateway
+                .step(alloc, Event::Reload(policy), &mut Unwatched)
+                .is_ok(),
+        ),
         None => Ok(false),
     }
 }

@@ -5,7 +5,7 @@ use crate::arrays::{Array, Holds};
 use crate::link_orders::each_order;
 use crate::streams::shown;
 use conformance_rows::{Layer, unknown};
-use guard_frames::{Ends, Event, Gateway, Kept, Sink, StepFault, load_texts};
+use guard_frames::{Ends, Event, Gateway, Kept, Sink, StepFault, Unwatched, load_texts};
 use guard_policy::Policy;
 use std::alloc::{AllocError, Global};
 
@@ -114,7 +114,7 @@ impl Links {
                 None => return Ok(Ok(())),
             },
         };
-        Ok(gateway.step(alloc, event))
+        Ok(gateway.step(alloc, event, &mut Unwatched))
     }
 }
 

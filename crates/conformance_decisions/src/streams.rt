@@ -3,7 +3,8 @@ use crate::arrays::fed;
 use crate::devices::{Breaking, Pieces, Room};
 use conformance_rows::{Layer, text_of, texts_of, unknown};
 use guard_frames::{
-    Kept, Link, LinkFault, RunFault, Sink, Source, Through, Totals, load_texts, put_all, run,
+    Kept, Link, LinkFault, RunFault, Sink, Source, Through, Totals, Unwatched, load_texts, put_all,
+    run,
 };
 use guard_policy::Policy;
 use std::alloc::{AllocError, Global};
@@ -346,11 +347,18 @@ fn of_link(alloc: Global, policy: &Policy, stream: &[u8], out: Room) -> Result<S
     };
     let mut out = out;
     let mut reports = Room::ample(alloc);
-    let fed = link.feed(alloc, policy, stream, &mut out, &mut reports);
-    let more = link.feed(alloc, policy, b"\0", &mut out, &mut reports);
+    let fed = link.feed(
+        alloc,
+        policy,
+        stream,
+        &mut out,
+        &mut reports,
+        &mut Unwatched,
+    );
+    let more = link.feed(alloc, policy, b"\0", &mut out, &mut reports, &mut Unwatched);
     let ended = link.end();
     let again = link.end();
-    let late = link.feed(alloc, policy, b"\0", &mut out, &mut reports);
+    let late = link.feed(alloc, policy, b"\0", &mut out, &mut reports, &mut Unwatched);
     let mut text = String::new(alloc);
     for answer in [fed, more, ended, again, late] {
         add_answer(&mut text, answer)?;

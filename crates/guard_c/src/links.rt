@@ -12,7 +12,7 @@ use crate::handle::Handle;
 use crate::held::{Held, HeldLink, policy_in};
 use crate::status::Status;
 use crate::telling::{put, tell_text};
-use guard_frames::{Kept, Link, LinkFault};
+use guard_frames::{Kept, Link, LinkFault, Unwatched};
 use guard_model::OutOfMemory;
 use guard_policy::Policy;
 use std::alloc::Global;
@@ -156,9 +156,10 @@ fn feed_link(
     if room < piece.len() || room - piece.len() < link.link.pending() {
         return (Status::TooSmall, sent);
     }
+    let reports = &mut link.reports;
     let answer = link
         .link
-        .feed(alloc, policy, piece, &mut sent, &mut link.reports);
+        .feed(alloc, policy, piece, &mut sent, reports, &mut Unwatched);
     (status_of(answer), sent)
 }
 

@@ -14,7 +14,7 @@ use Rattle.guard_policy.specs.Told.{AreMarksOf, Tells, is_going}
 use Rattle.guard_policy.proofs.Reasons.{if_some_map}
 use Rattle.guard_frames.specs.Bodies.{AbstractBody, IsBody, HasNames, named, parts_in, body_in, has_names}
 use Rattle.guard_frames.specs.OfPolicy.{route_of, decision_of, marks_of}
-use Rattle.guard_frames.specs.Outcomes.{Decision, BodyGoes, IsDecided}
+use Rattle.guard_frames.specs.Outcomes.{Decision, IsDecided}
 use Rattle.guard_frames.proofs.HeaderLaws.{names_in, names_again, parts_take, same_parts, one_body, no_body}
 
 -- ---- the names, and the message after them

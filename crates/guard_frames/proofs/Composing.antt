@@ -1,5 +1,5 @@
 -- Feeding a stream after some of its frames were decided.
-use Rattle.std.proofs.Common.{◌≡◌, ℕ, List, ◌++◌, ◌∙◌, ap, sym, refl, subst, length, append_assoc, length-append, arith}
+use Rattle.std.proofs.Common.{◌≡◌, ◌⊎◌, inl, inr, Bool, true, ℕ, List, ◌++◌, ◌∙◌, ap, sym, refl, subst, length, append_assoc, length-append, arith}
 use Rattle.std.specs.Prelude.{Result, Ok, Err}
 use Rattle.std.specs.List.{concat, All}
 use Rattle.std.proofs.lemmas.List.Elements.{All-append}
@@ -15,8 +15,8 @@ use Rattle.guard_frames.specs.LinkView.{AbstractLink, IsShut}
 use Rattle.guard_frames.specs.declared.link.LinkFault.{LinkFault}
 use Rattle.guard_frames.specs.declared.link.LinkFault.TheVariants as link
 use Rattle.guard_frames.specs.declared.link.Closing.{Closing}
-use Rattle.guard_frames.specs.declared.link.Closing.TheVariants.{FrameTooLong, WriteFailed, TornFrame}
-use Rattle.guard_frames.specs.inside.Closing.{link_fault, left_by, Puts}
+use Rattle.guard_frames.specs.declared.link.Closing.TheVariants.{FrameTooLong, OutFailed, ReportsFailed, TornFrame}
+use Rattle.guard_frames.specs.inside.Closing.{link_fault, left_by, Puts, HasFailed, UnlessReports}
 use Rattle.guard_frames.proofs.Counting.{later_later, counted-append}
 use Rattle.guard_frames.proofs.Going.{frames_of-append, text_out-append}
 use Rattle.guard_frames.proofs.Progress.{AllAdd-append, number_after}
@@ -78,10 +78,15 @@ breaks_on d n m s held piece a b x z =
 -- one more piece is taken where the rest of what came before is held
 pub puts_on : (d : Decision) (n m k : Totals) (s held piece rest : List ℕ) (result : Result (Unit {0}) Closing) (a b : Added) →
     Decides d n s held m a → Puts d m (held ++ piece) rest k result b → Puts d n (s ++ piece) rest k result (joined a b)
+unfolding breaks_on
 puts_on d n m k s held piece rest (Ok done) a b x y = (decides_on d n m k s held piece rest a b x y.0, y.1)
 puts_on d n m k s held piece rest (Err (FrameTooLong size)) a b x y =
     (record { rest = y.0.rest; decided = decides_on d n m k s held piece y.0.rest a b x y.0.decided; too_long = y.0.too_long }, y.1)
-puts_on d n m k s held piece rest (Err WriteFailed) a b x y = breaks_on d n m s held piece a b x y
+puts_on d n m k s held piece rest (Err OutFailed) a b x y = (
+  breaks_on d n m s held piece a b x y.0,
+  y.1 ∙ ap (λ (t : Totals). counted t y.0.first) x.totals ∙ counted-append n x.outcomes y.0.first,
+)
+puts_on d n m k s held piece rest (Err ReportsFailed) a b x y = breaks_on d n m s held piece a b x y
 puts_on d n m k s held piece rest (Err (TornFrame count)) a b x y = absurd y
 
 -- ---- what goes wrong closes the link
@@ -90,16 +95,27 @@ puts_on d n m k s held piece rest (Err (TornFrame count)) a b x y = absurd y
 pub puts_closed : (d : Decision) (n m : Totals) (s held rest : List ℕ) (closing : Closing) (a : Added) →
     Puts d n s held m (Err closing) a → Puts d n s rest m (Err closing) a
 puts_closed d n m s held rest (FrameTooLong size) a h = h
-puts_closed d n m s held rest WriteFailed a h = h
+puts_closed d n m s held rest OutFailed a h = h
+puts_closed d n m s held rest ReportsFailed a h = h
 puts_closed d n m s held rest (TornFrame count) a h = absurd h
 
 pub takes_closed : (d : Decision) (n : Totals) (s : List ℕ) (new : AbstractLink) (closing : Closing) (a : Added) →
     Puts d n s new.held new.totals (Err closing) a → IsShut new → new.left ≡ left_by closing → Takes d n s new (Err (link_fault closing)) a
 takes_closed d n s new (FrameTooLong size) a h shut left = (h.0, shut, left ∙ h.1)
-takes_closed d n s new WriteFailed a h shut left = (h, shut, left)
+takes_closed d n s new OutFailed a h shut left = (h.0, shut, left)
+takes_closed d n s new ReportsFailed a h shut left = (h, shut, left)
 takes_closed d n s new (TornFrame count) a h shut left = absurd h
 
-pub told_write_failed : (closing : Closing) → ◌≡◌ {A = Result (Unit {0}) LinkFault} (Err (link_fault closing)) (Err link.WriteFailed) → closing ≡ WriteFailed
-told_write_failed (FrameTooLong size) e = absurd cc
-told_write_failed WriteFailed e = refl
-told_write_failed (TornFrame count) e = absurd cc
+pub told_write_failed : (closing : Closing) (o r : Bool) → HasFailed closing o r
+    → ◌≡◌ {A = Result (Unit {0}) LinkFault} (Err (link_fault closing)) (Err link.WriteFailed) → (o ≡ true) ⊎ (r ≡ true)
+told_write_failed (FrameTooLong size) o r h e = absurd cc
+told_write_failed OutFailed o r h e = inl h
+told_write_failed ReportsFailed o r h e = inr h
+told_write_failed (TornFrame count) o r h e = absurd cc
+
+pub unlost : (closing : Closing) (So : Type 0) → UnlessReports (Err closing) So
+    → (◌≡◌ {A = Result (Unit {0}) LinkFault} (Err (link_fault closing)) (Err link.WriteFailed) → ⊥) → So
+unlost (FrameTooLong size) So h f = h
+unlost OutFailed So h f = h
+unlost ReportsFailed So h f = absurd (f refl)
+unlost (TornFrame count) So h f = h

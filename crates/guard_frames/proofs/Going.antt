@@ -5,11 +5,8 @@ use Rattle.std.proofs.lemmas.List.{map-append, append-nil}
 use Rattle.std.proofs.lemmas.List.Elements.{filter-append}
 use Rattle.std.proofs.lemmas.List.Folds.{concat-append}
 use Rattle.guard_frames.specs.Outcomes.{Outcome, going, staying, frames_of}
+pub use Rattle.guard_frames.specs.Outcomes.{all_going}
 use Rattle.guard_frames.specs.Guarding.{text_out}
-
-abbrev pub all_going : List (List ℕ) → List Outcome
-all_going [] = []
-all_going (f ∷ fs) = going f ∷ all_going fs
 
 pub frames_of-append : (os ps : List Outcome) → frames_of (os ++ ps) ≡ frames_of os ++ frames_of ps
 frames_of-append os ps = map-append (λ (o : Outcome). o.frame) os ps

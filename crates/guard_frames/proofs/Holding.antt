@@ -5,20 +5,21 @@ use Rattle.std.specs.List.{concat}
 use Rattle.std.proofs.lemmas.List.{take-append-drop, take_all}
 use Rattle.guard_frames.specs.Frames.{stated_length, IsFrame, IsUnfinished, IsTooLong, ConsistsOf}
 use Rattle.guard_frames.specs.Cutting.{IsRest}
-use Rattle.guard_frames.specs.inside.Putting.{ArePut}
 use Rattle.guard_frames.specs.declared.cut.Rest.{Rest}
 use Rattle.guard_frames.specs.declared.cut.Rest.TheVariants.{Unfinished, TooLong}
 use Rattle.guard_frames.specs.declared.putting.Whole.{Whole}
 use Rattle.guard_frames.specs.declared.totals.Totals.{Totals}
-use Rattle.guard_frames.specs.Totals.{no_frames}
+use Rattle.guard_frames.specs.Totals.{next_number}
 use Rattle.guard_frames.specs.Outcomes.{Decision, frames_of}
 use Rattle.guard_frames.specs.Added.{Added, nothing, joined}
 use Rattle.guard_frames.specs.Guarding.{BreaksOff}
 use Rattle.guard_frames.specs.Feeding.{Decides, DecidesUntilTooLong}
 use Rattle.guard_frames.specs.declared.link.Closing.{Closing}
-use Rattle.guard_frames.specs.declared.link.Closing.TheVariants.{FrameTooLong, WriteFailed, TornFrame}
-use Rattle.guard_frames.specs.inside.Closing.{run_fault, Puts}
-use Rattle.guard_frames.specs.Runs.{RunsAll, Runs, IsFoundTooLong}
+use Rattle.guard_frames.specs.declared.link.Closing.TheVariants.{FrameTooLong}
+use Rattle.guard_frames.specs.inside.Closing.{Puts}
+use Rattle.guard_frames.specs.inside.Putting.{ArePut, IsBroken, ClosedBy}
+use Rattle.guard_frames.specs.declared.sending.Broken.{Broken}
+use Rattle.guard_frames.specs.declared.sending.Broken.TheVariants.{Out, Reports}
 use Rattle.guard_frames.proofs.Composing.{puts_on}
 use Rattle.guard_frames.proofs.Elements.{All_none, All_first}
 use Rattle.guard_frames.proofs.Progress.{le_or_gt}
@@ -106,9 +107,24 @@ breaks_longer d n s more a z = record {
 }
 
 -- where a sink failed at them, it failed at the stream
-pub breaks_now : (d : Decision) (n : ℕ) (h p now : List ℕ) (used : ℕ) (a : Added) → now ≡ h ++ take used p → BreaksOff (λ _. d) n now a → BreaksOff (λ _. d) n (h ++ p) a
+breaks_now : (d : Decision) (n : ℕ) (h p now : List ℕ) (used : ℕ) (a : Added) → now ≡ h ++ take used p → BreaksOff (λ _. d) n now a → BreaksOff (λ _. d) n (h ++ p) a
 breaks_now d n h p now used a e x =
     subst (λ (s : List ℕ). BreaksOff (λ _. d) n s a) (sym (held_splits h p now used e)) (breaks_longer d n now (drop used p) a x)
+
+-- what closes the link then
+pub broken_puts : (d : Decision) (n m : Totals) (s held : List ℕ) (b : Broken) (closing : Closing) (a : Added) (So : List ℕ → Type 0) → IsBroken d n s b a So →
+    ClosedBy b closing m → Puts d n s held m (Err closing) a
+broken_puts d n m s held (Out t) closing a So x is =
+    subst (λ (c : Closing). Puts d n s held m (Err c) a) (sym is.0) (x.0, is.1 ∙ x.1)
+broken_puts d n m s held Reports closing a So x is = subst (λ (c : Closing). Puts d n s held m (Err c) a) (sym is) x
+
+pub broken_longer : (d : Decision) (n : Totals) (h p now : List ℕ) (used : ℕ) (b : Broken) (a : Added) (So : List ℕ → Type 0) → now ≡ h ++ take used p →
+    IsBroken d n now b a So → IsBroken d n (h ++ p) b a So
+unfolding breaks_longer
+broken_longer d n h p now used (Out t) a So e x =
+    subst (λ (s : List ℕ). IsBroken d n s (Out t) a So) (sym (held_splits h p now used e))
+    (breaks_longer d (next_number n) now (drop used p) a x.0, x.1, x.2)
+broken_longer d n h p now used Reports a So e x = breaks_now d (next_number n) h p now used a e x
 
 -- octets that begin with a frame and have no more than one are that frame
 nothing_left : (now rest : List ℕ) (fs : List (List ℕ)) → ConsistsOf now fs rest → length rest < length now →
@@ -147,19 +163,6 @@ begins_empty d n = record {
   reports = refl;
   totals = refl;
 }
-
-pub runs_all : (d : Decision) (read rest : List ℕ) (m : Totals) (a : Added) (Last : List ℕ → Type 0) → Decides d no_frames read rest m a → Last rest → RunsAll d read a Last
-runs_all d read rest m a Last x last = record { outcomes = x.outcomes; rest = rest; split = x.split; out = x.out; reports = x.reports; last = last }
-
--- what a run comes to where its link is closed; the rest is short where it begins with a length that no frame may have
-pub runs_closed : (d : Decision) (m : Totals) (read held : List ℕ) (closing : Closing) (a : Added) (Ended : Type 0) →
-    ((rest : List ℕ) (frames : List (List ℕ)) → ConsistsOf read frames rest → IsTooLong rest → length rest < 4 + 65536) →
-    Puts d no_frames read held m (Err closing) a → Runs d read Ended (Err (run_fault closing)) a
-runs_closed d m read held (FrameTooLong size) a Ended soon h =
-    runs_all d read h.0.rest m a IsFoundTooLong h.0.decided
-    (record { too_long = h.0.too_long; at_once = soon h.0.rest (frames_of h.0.decided.outcomes) h.0.decided.split h.0.too_long })
-runs_closed d m read held WriteFailed a Ended soon h = h
-runs_closed d m read held (TornFrame count) a Ended soon h = absurd h
 
 -- ---- a length that no frame may have is found as soon as it is there
 

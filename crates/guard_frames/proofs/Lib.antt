@@ -15,11 +15,14 @@ pub mod LineOfFrame
 -- ---- frames that are decided one after another
 pub mod Going
 pub mod Counting
+pub mod Noting
 pub mod Progress
 pub mod Steps
 pub mod Waits
+pub mod Sendings
 pub mod Composing
 pub mod Holding
+pub mod Leavings
 -- ---- many links
 pub mod Own
 -- ---- laws

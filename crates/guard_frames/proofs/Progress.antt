@@ -1,12 +1,13 @@
 -- What frames add to the outputs, as they are decided one after another.
-use Rattle.std.proofs.Common.{◌≡◌, ◌<◌, ◌≤◌, ◌⊎◌, ℕ, ◌^◌, List, [], ◌∷◌, ◌++◌, ◌∙◌, ap, sym, refl, subst, take, drop, length, inl, inr, append_assoc, length-append, length-drop, arith}
+use Rattle.std.proofs.Common.{◌≡◌, ◌<◌, ◌≤◌, ◌⊎◌, ℕ, ◌+◌, ◌^◌, List, [], ◌∷◌, ◌++◌, ◌∙◌, ap, sym, refl, subst, take, drop, length, inl, inr, append_assoc, length-append, length-drop, arith}
 use Rattle.std.specs.List.{concat, All}
 use Rattle.std.proofs.lemmas.Grind.{common_steps}
 use Rattle.std.proofs.lemmas.List.Elements.{All-append}
 use Rattle.std.proofs.lemmas.List.Folds.{concat-append}
 use Rattle.std.proofs.lemmas.List.{append_cancel_left, take-append-drop, take-append-le}
 use Rattle.std.proofs.Math.Seq.{take-append_seam}
-use Rattle.guard_frames.specs.Frames.{IsFrame}
+use Rattle.guard_frames.specs.Frames.{stated_length, IsFrame, IsUnfinished, ConsistsOf}
+use Rattle.guard_frames.specs.inside.Putting.{IsCountOf}
 use Rattle.guard_frames.specs.Prefix.{IsProperPrefix}
 use Rattle.guard_frames.specs.declared.totals.Totals.{Totals}
 use Rattle.guard_frames.specs.Totals.{later, after_going, after_staying, next_number, counted}
@@ -17,6 +18,7 @@ use Rattle.guard_frames.proofs.Elements.{All_none, All_first, All_rest, All_more
 use Rattle.guard_frames.proofs.Counting.{counted-append, numbers_on}
 use Rattle.guard_frames.proofs.Going.{all_going, frames_of-append, all_going_more, text_out_staying, frames_then_going, text_then_going}
 use Rattle.guard_frames.proofs.Appending.{sent_more, reported_more}
+use Rattle.guard_frames.proofs.Readings.{stated_length-append, one_split}
 
 -- these octets are whole frames, decided in order, and this is what they add; n and m are the totals before and after
 -- them
@@ -205,11 +207,27 @@ breaks_staying d n m s f line part more os a h frame adds inside =
       reports = refl;
     }
 
--- at frames that all go
-pub breaks_going : (d : Decision) (n m : Totals) (s t part more : List ℕ) (os : List Outcome) (fs : List (List ℕ)) (a : Added) →
-    Decided d n m s os a → AllGo d t fs → IsProperPrefix part t →
-    BreaksOff (λ _. d) (next_number n) (s ++ (t ++ more)) (sent_more a part)
-breaks_going d n m s t part more os fs a h g inside =
+-- and these are the totals of the frames before
+abbrev pub BreaksAfter : Decision → Totals → List ℕ → Totals → Added → Type 0
+BreaksAfter d n s k added = (x : BreaksOff (λ _. d) (next_number n) s added) × (k ≡ counted n x.first)
+
+-- a part of a frame is less than one
+part_unfinished : (part f : List ℕ) → IsProperPrefix part f → IsFrame f → IsUnfinished part
+part_unfinished part f h frame =
+    let size : length part + length h.more ≡ length f = sym (length-append part h.more) ∙ ap length h.joined in
+    let missing : 0 < length h.more = h.missing in
+    let same : 4 ≤ length part → stated_length f ≡ stated_length part =
+    λ four. ap stated_length (sym h.joined) ∙ stated_length-append part h.more four in
+    record {
+      allowed = λ four. omega (arith, same four, frame.allowed);
+      short = λ four. omega (arith, same four, size, missing, frame.exact);
+    }
+
+-- at frames that all go, of which these are counted that the sink took whole
+pub breaks_going : (d : Decision) (n m k : Totals) (s t part more : List ℕ) (os : List Outcome) (fs : List (List ℕ)) (a : Added) →
+    Decided d n m s os a → AllGo d t fs → IsProperPrefix part t → IsCountOf m part k →
+    BreaksAfter d n (s ++ (t ++ more)) k (sent_more a part)
+breaks_going d n m k s t part more os fs a h g inside count =
     let inside₁ : IsProperPrefix part (concat fs) = subst (IsProperPrefix part) g.whole inside in
     let cut : CutsInside fs part = cuts_inside fs part inside₁ in
     let each : All IsFrame (cut.first ++ cut.next ∷ cut.others) = subst (All IsFrame) cut.split g.each in
@@ -217,23 +235,33 @@ breaks_going d n m s t part more os fs a h g inside =
     let go_first : All (FrameGoes d) cut.first = All_front (FrameGoes d) cut.first (cut.next ∷ cut.others) go in
     let t_is : t ≡ concat cut.first ++ (cut.next ++ concat cut.others) =
     g.whole ∙ ap concat cut.split ∙ concat-append cut.first (cut.next ∷ cut.others) in
-    record {
-      first = os ++ all_going cut.first;
-      next = cut.next;
-      more = concat cut.others ++ more;
-      begins = rw (h.whole, t_is, frames_then_going os cut.first, concat-append (frames_of os) cut.first) (simp append_assoc);
-      each = subst (All IsFrame) (sym (frames_then_going os cut.first))
-          (All-append IsFrame (frames_of os) cut.first h.each (All_front IsFrame cut.first (cut.next ∷ cut.others) each));
-      frame = All_first IsFrame cut.next cut.others (All_back IsFrame cut.first (cut.next ∷ cut.others) each);
-      lines = a.reports;
-      all = AllAdd_then_going d (next_number n) os cut.first a.reports (omega arith) go_first h.reports;
-      part = record { out = cut.rest; reports = [] };
-      last = inl (
-        All_first (FrameGoes d) cut.next cut.others (All_back (FrameGoes d) cut.first (cut.next ∷ cut.others) go),
-        cut.inside,
-        refl,
-      );
-      out = ap (λ x. x ++ part) h.out ∙ ap (λ x. text_out os ++ x) cut.part_is ∙ sym (append_assoc (text_out os) (concat cut.first) cut.rest)
-          ∙ ap (λ x. x ++ cut.rest) (sym (text_then_going os cut.first));
-      reports = sym (nothing_after a.reports);
-    }
+    let frame : IsFrame cut.next = All_first IsFrame cut.next cut.others (All_back IsFrame cut.first (cut.next ∷ cut.others) each) in
+    let split : ConsistsOf part cut.first cut.rest = record {
+      whole = cut.part_is;
+      each = All_front IsFrame cut.first (cut.next ∷ cut.others) each;
+      left = inl (part_unfinished cut.rest cut.next cut.inside frame);
+    } in
+    let same : count.0 ≡ cut.first = (one_split part count.0 cut.first count.1 cut.rest count.2 split).0 in (
+      record {
+        first = os ++ all_going cut.first;
+        next = cut.next;
+        more = concat cut.others ++ more;
+        begins = rw (h.whole, t_is, frames_then_going os cut.first, concat-append (frames_of os) cut.first) (simp append_assoc);
+        each = subst (All IsFrame) (sym (frames_then_going os cut.first))
+            (All-append IsFrame (frames_of os) cut.first h.each (All_front IsFrame cut.first (cut.next ∷ cut.others) each));
+        frame = frame;
+        lines = a.reports;
+        all = AllAdd_then_going d (next_number n) os cut.first a.reports (omega arith) go_first h.reports;
+        part = record { out = cut.rest; reports = [] };
+        last = inl (
+          All_first (FrameGoes d) cut.next cut.others (All_back (FrameGoes d) cut.first (cut.next ∷ cut.others) go),
+          cut.inside,
+          refl,
+        );
+        out = ap (λ x. x ++ part) h.out ∙ ap (λ x. text_out os ++ x) cut.part_is ∙ sym (append_assoc (text_out os) (concat cut.first) cut.rest)
+            ∙ ap (λ x. x ++ cut.rest) (sym (text_then_going os cut.first));
+        reports = sym (nothing_after a.reports);
+      },
+      count.3 ∙ ap (λ (xs : List (List ℕ)). counted m (all_going xs)) same ∙ ap (λ (x : Totals). counted x (all_going cut.first)) h.totals
+          ∙ counted-append n os (all_going cut.first),
+    )

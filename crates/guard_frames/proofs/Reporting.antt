@@ -38,7 +38,7 @@ marks_there MarksOf octets b (Some m) told is = told b (body_takes octets b (sym
 
 reported : (d : Decision) (n : ℕ) (b : AbstractBody) (report : Report) → IsReportOf d n b report
     → d.Reports n b (report_line n report) ⊎ (report_line n report ≡ decimal n ++ codes " no-memory\n")
-reported d n b (Line line) h = inl h
+reported d n b (Line line reason) h = inl h
 reported d n b NoMemory h = inr refl
 reported d n b BadHeader h = absurd h
 
@@ -50,3 +50,10 @@ stays_by_body d n frame octets b report same is decided h =
 pub bad_by_body : (d : Decision) (n : ℕ) (frame octets : List ℕ) → octets ≡ drop 4 frame → None ≡ body_in octets
     → Adds d n (staying frame) (decimal n ++ codes " bad-header\n")
 bad_by_body d n frame octets same none = bad_header d n frame (rw same at none)
+
+-- what a frame adds, by its number and its line as they were counted and put together
+pub adds_line : (d : Decision) (n m : ℕ) (frame line : List ℕ) (r : Report) → n ≡ m → line ≡ report_line n r
+    → Adds d n (staying frame) (report_line n r) → Adds d m (staying frame) line
+adds_line d n m frame line r number is adds =
+    subst (λ (s : List ℕ). Adds d m (staying frame) s) (sym is)
+    (subst (λ (k : ℕ). Adds d k (staying frame) (report_line n r)) number adds)

@@ -14,10 +14,10 @@ use Rattle.guard_frames.specs.Outcomes.{Decision, FrameGoes, Outcome, staying}
 use Rattle.guard_frames.specs.Added.{Added, nothing}
 use Rattle.guard_frames.specs.Guarding.{Adds, BreaksOff}
 use Rattle.guard_frames.specs.Cutting.{IsRest, IsFirst}
-use Rattle.guard_frames.specs.inside.Putting.{ArePut}
+use Rattle.guard_frames.specs.inside.Putting.{ArePut, IsCountOf}
 use Rattle.guard_frames.proofs.Appending.{sent_more, reported_more}
 use Rattle.guard_frames.proofs.Going.{all_going}
-use Rattle.guard_frames.proofs.Progress.{Decided, AllGo, AllGo_none, AllGo_more, going_counted, decided_none, decided_going, decided_staying, breaks_going, breaks_staying}
+use Rattle.guard_frames.proofs.Progress.{Decided, AllGo, AllGo_none, AllGo_more, going_counted, decided_none, decided_going, decided_staying, BreaksAfter, breaks_going, breaks_staying}
 
 pub on_err_of : {A E P : Type 0} (r : Result A E) → P → OnErr r P
 on_err_of (Ok x) p = tt
@@ -51,7 +51,7 @@ from_end sent end s le =
     drop-drop (end - sent) sent s ∙ ap (λ k. drop k s) e
 
 -- up to the end of the frame at `end`
-up_to_more : (end : ℕ) (s f : List ℕ) → IsAt s end f → take (end + length f) s ≡ take end s ++ f
+pub up_to_more : (end : ℕ) (s f : List ℕ) → IsAt s end f → take (end + length f) s ≡ take end s ++ f
 up_to_more end s f at = take-add end (length f) s ∙ ap (λ x. take end s ++ x) (sym at.front)
 
 -- between them, to the end of the frame at `end`
@@ -75,22 +75,20 @@ all_at end s f at =
 -- ---- how far the loop has come
 
 -- Of the octets up to `end`, those up to `sent` are frames that were put; the others are frames that go and wait to be
--- put.
-pub record SoFar (d : Decision) (n m : Totals) (s : List ℕ) (sent end : ℕ) (added : Added) : Type 0 where
+-- put. The totals were n before all of them, are m after them, and were `between` where the first one waits.
+pub record SoFar (d : Decision) (n m between : Totals) (s : List ℕ) (sent end : ℕ) (added : Added) : Type 0 where
   pub ordered : sent ≤ end
   pub within : end ≤ length s
-  pub between : Totals
   pub outcomes : List Outcome
   pub put : Decided d n between (take sent s) outcomes added
   pub frames : List (List ℕ)
   pub waiting : AllGo d (take (end - sent) (drop sent s)) frames
   pub totals : m ≡ counted between (all_going frames)
 
-pub at_first : (d : Decision) (n : Totals) (s : List ℕ) → SoFar d n n s 0 0 nothing
+pub at_first : (d : Decision) (n : Totals) (s : List ℕ) → SoFar d n n n s 0 0 nothing
 at_first d n s = record {
   ordered = omega arith;
   within = omega arith;
-  between = n;
   outcomes = [];
   put = decided_none d n;
   frames = [];
@@ -99,50 +97,48 @@ at_first d n s = record {
 }
 
 -- one more frame goes
-pub one_goes : (d : Decision) (n m k : Totals) (s f : List ℕ) (sent end : ℕ) (a : Added) → SoFar d n m s sent end a → IsAt s end f → FrameGoes d f →
-    k ≡ after_going m → SoFar d n k s sent (end + length f) a
-one_goes d n m k s f sent end a h at goes counts =
+pub one_goes : (d : Decision) (n m b k : Totals) (s f : List ℕ) (sent end : ℕ) (a : Added) → SoFar d n m b s sent end a → IsAt s end f → FrameGoes d f →
+    k ≡ after_going m → SoFar d n k b s sent (end + length f) a
+one_goes d n m b k s f sent end a h at goes counts =
     let more : AllGo d (take (end - sent) (drop sent s) ++ f) (h.frames ++ f ∷ []) =
     AllGo_more d (take (end - sent) (drop sent s)) f h.frames h.waiting at.frame goes in
     record {
       ordered = omega (arith, h.ordered);
       within = at.within;
-      between = h.between;
       outcomes = h.outcomes;
       put = h.put;
       frames = h.frames ++ f ∷ [];
       waiting = subst (λ (x : List ℕ). AllGo d x (h.frames ++ f ∷ [])) (sym (between_more sent end s f h.ordered at)) more;
-      totals = going_counted h.between m k h.frames f h.totals counts;
+      totals = going_counted b m k h.frames f h.totals counts;
     }
 
 -- those that wait are put
-all_put : (d : Decision) (n m : Totals) (s : List ℕ) (sent end : ℕ) (a : Added) → (h : SoFar d n m s sent end a) →
+all_put : (d : Decision) (n m b : Totals) (s : List ℕ) (sent end : ℕ) (a : Added) → (h : SoFar d n m b s sent end a) →
     Decided d n m (take end s) (h.outcomes ++ all_going h.frames) (sent_more a (take (end - sent) (drop sent s)))
-all_put d n m s sent end a h =
+all_put d n m b s sent end a h =
     let os : List Outcome = h.outcomes ++ all_going h.frames in
-    let b : Added = sent_more a (take (end - sent) (drop sent s)) in
-    let put : Decided d n (counted h.between (all_going h.frames)) (take sent s ++ take (end - sent) (drop sent s)) os b =
-    decided_going d n h.between (take sent s) (take (end - sent) (drop sent s)) h.outcomes h.frames a h.put h.waiting in
-    let there : Decided d n (counted h.between (all_going h.frames)) (take end s) os b =
-    subst (λ (x : List ℕ). Decided d n (counted h.between (all_going h.frames)) x os b) (sym (up_to sent end s h.ordered)) put in
-    subst (λ (k : Totals). Decided d n k (take end s) os b) (sym h.totals) there
+    let c : Added = sent_more a (take (end - sent) (drop sent s)) in
+    let put : Decided d n (counted b (all_going h.frames)) (take sent s ++ take (end - sent) (drop sent s)) os c =
+    decided_going d n b (take sent s) (take (end - sent) (drop sent s)) h.outcomes h.frames a h.put h.waiting in
+    let there : Decided d n (counted b (all_going h.frames)) (take end s) os c =
+    subst (λ (x : List ℕ). Decided d n (counted b (all_going h.frames)) x os c) (sym (up_to sent end s h.ordered)) put in
+    subst (λ (k : Totals). Decided d n k (take end s) os c) (sym h.totals) there
 
 -- and one that stays is reported after them
-pub one_stays : (d : Decision) (n m k : Totals) (s f line : List ℕ) (sent end : ℕ) (a : Added) → SoFar d n m s sent end a → IsAt s end f →
+pub one_stays : (d : Decision) (n m c k : Totals) (s f line : List ℕ) (sent end : ℕ) (a : Added) → SoFar d n m c s sent end a → IsAt s end f →
     Adds d (next_number m) (staying f) line → k ≡ after_staying m →
-    SoFar d n k s (end + length f) (end + length f) (reported_more (sent_more a (take (end - sent) (drop sent s))) line)
-one_stays d n m k s f line sent end a h at adds counts =
+    SoFar d n k k s (end + length f) (end + length f) (reported_more (sent_more a (take (end - sent) (drop sent s))) line)
+one_stays d n m c k s f line sent end a h at adds counts =
     let b : Added = sent_more a (take (end - sent) (drop sent s)) in
     let os : List Outcome = (h.outcomes ++ all_going h.frames) ++ staying f ∷ [] in
     let put : Decided d n (after_staying m) (take end s ++ f) os (reported_more b line) =
-    decided_staying d n m (take end s) f line (h.outcomes ++ all_going h.frames) b (all_put d n m s sent end a h) at.frame adds in
+    decided_staying d n m (take end s) f line (h.outcomes ++ all_going h.frames) b (all_put d n m c s sent end a h) at.frame adds in
     let there : Decided d n (after_staying m) (take (end + length f) s) os (reported_more b line) =
     subst (λ (x : List ℕ). Decided d n (after_staying m) x os (reported_more b line)) (sym (up_to_more end s f at)) put in
     let none : end + length f - (end + length f) ≡ 0 = omega arith in
     record {
       ordered = omega arith;
       within = at.within;
-      between = k;
       outcomes = os;
       put = subst (λ (t : Totals). Decided d n t (take (end + length f) s) os (reported_more b line)) (sym counts) there;
       frames = [];
@@ -150,17 +146,17 @@ one_stays d n m k s f line sent end a h at adds counts =
       totals = refl;
     }
 
-left_of : (s : List ℕ) (rest : Rest) → IsRest s rest → IsUnfinished s ⊎ IsTooLong s
+pub left_of : (s : List ℕ) (rest : Rest) → IsRest s rest → IsUnfinished s ⊎ IsTooLong s
 left_of s Unfinished h = inl h
 left_of s TooLong h = inr h
 
 -- no whole frame is left, and those that wait are put
-pub at_last : (d : Decision) (n m : Totals) (s : List ℕ) (sent end : ℕ) (rest : Rest) (a : Added) → SoFar d n m s sent end a →
+pub at_last : (d : Decision) (n m b : Totals) (s : List ℕ) (sent end : ℕ) (rest : Rest) (a : Added) → SoFar d n m b s sent end a →
     IsRest (take (length s - end) (drop end s)) rest →
     ArePut d n s (record { end = end; totals = m; rest = rest }) (sent_more a (take (end - sent) (drop sent s)))
-at_last d n m s sent end rest a h left =
+at_last d n m b s sent end rest a h left =
     let left₁ : IsRest (drop end s) rest = subst (λ (x : List ℕ). IsRest x rest) (take_rest s end) left in
-    let put = all_put d n m s sent end a h in
+    let put = all_put d n m b s sent end a h in
     record {
       within = h.within;
       decided = record {
@@ -179,17 +175,17 @@ at_last d n m s sent end rest a h left =
 
 -- ---- a sink fails
 
-pub breaks_waiting : (d : Decision) (n m : Totals) (s part : List ℕ) (sent end : ℕ) (a : Added) → SoFar d n m s sent end a →
-    IsProperPrefix part (take (end - sent) (drop sent s)) → BreaksOff (λ _. d) (next_number n) s (sent_more a part)
-breaks_waiting d n m s part sent end a h inside =
-    subst (λ (x : List ℕ). BreaksOff (λ _. d) (next_number n) x (sent_more a part)) (sym (all_of sent end s h.ordered))
-    (breaks_going d n h.between (take sent s) (take (end - sent) (drop sent s)) part (drop end s) h.outcomes h.frames a h.put h.waiting inside)
+pub breaks_waiting : (d : Decision) (n m b k : Totals) (s part : List ℕ) (sent end : ℕ) (a : Added) → SoFar d n m b s sent end a →
+    IsProperPrefix part (take (end - sent) (drop sent s)) → IsCountOf b part k → BreaksAfter d n s k (sent_more a part)
+breaks_waiting d n m b k s part sent end a h inside count =
+    subst (λ (x : List ℕ). BreaksAfter d n x k (sent_more a part)) (sym (all_of sent end s h.ordered))
+    (breaks_going d n b k (take sent s) (take (end - sent) (drop sent s)) part (drop end s) h.outcomes h.frames a h.put h.waiting inside count)
 
-pub breaks_report : (d : Decision) (n m : Totals) (s f line part : List ℕ) (sent end : ℕ) (a : Added) → SoFar d n m s sent end a → IsAt s end f →
+pub breaks_report : (d : Decision) (n m c : Totals) (s f line part : List ℕ) (sent end : ℕ) (a : Added) → SoFar d n m c s sent end a → IsAt s end f →
     Adds d (next_number m) (staying f) line → IsProperPrefix part line →
     BreaksOff (λ _. d) (next_number n) s (reported_more (sent_more a (take (end - sent) (drop sent s))) part)
-breaks_report d n m s f line part sent end a h at adds inside =
+breaks_report d n m c s f line part sent end a h at adds inside =
     let b : Added = sent_more a (take (end - sent) (drop sent s)) in
     subst (λ (x : List ℕ). BreaksOff (λ _. d) (next_number n) x (reported_more b part)) (sym (all_at end s f at))
     (breaks_staying d n m (take end s) f line part (drop (length f) (drop end s)) (h.outcomes ++ all_going h.frames) b
-    (all_put d n m s sent end a h) at.frame adds inside)
+    (all_put d n m c s sent end a h) at.frame adds inside)

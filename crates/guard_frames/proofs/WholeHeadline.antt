@@ -9,7 +9,6 @@ use Rattle.guard_frames.specs.Outcomes.{FrameGoes, Outcome, going, staying, fram
 use Rattle.guard_frames.specs.Added.{Added}
 use Rattle.guard_frames.specs.Guarding.{text_out, Adds, AllAdd}
 use Rattle.guard_frames.specs.OfPolicy.{decision_of}
-use Rattle.guard_frames.specs.Texts.{SayPolicy}
 use Rattle.guard_frames.specs.Runs.{RunsAll}
 use Rattle.guard_frames.specs.RunsTexts.{RunsTexts}
 use Rattle.guard_frames.specs.Headline.{MayGo, Guards, Headline}

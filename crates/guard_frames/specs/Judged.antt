@@ -4,6 +4,9 @@ use Rattle.guard_frames.specs.Bodies.{AbstractBody}
 use Rattle.guard_frames.specs.Outcomes.{Decision, FrameGoes, staying}
 use Rattle.guard_frames.specs.Guarding.{Adds}
 use Rattle.guard_frames.specs.Calls.{EndsLine}
+use Rattle.guard_frames.specs.declared.why.Reason.{Reason}
+use Rattle.guard_frames.specs.declared.why.Why.{Why}
+use Rattle.guard_frames.specs.declared.why.Why.TheVariants as why
 use Rattle.guard_frames.specs.declared.report.Ruling.{Ruling}
 use Rattle.guard_frames.specs.declared.report.Ruling.TheVariants as ruling
 use Rattle.guard_frames.specs.declared.report.Report.{Report}
@@ -13,23 +16,39 @@ use Rattle.guard_frames.specs.declared.report.Report.TheVariants.{BadHeader, NoM
 abbrev pub report_line : ℕ → Report → List ℕ
 report_line n BadHeader = decimal n ++ codes " bad-header\n"
 report_line n NoMemory = decimal n ++ codes " no-memory\n"
-report_line n (Line line) = line.items
+report_line n (Line line reason) = line.items
+
+-- why it stays
+abbrev pub why_of : Report → Why
+why_of BadHeader = why.BadHeader
+why_of NoMemory = why.NoMemory
+why_of (Line line reason) = why.Decided reason
 
 -- what is reported of this body, which stays
 abbrev pub IsReportOf : Decision → ℕ → AbstractBody → Report → Type 0
-IsReportOf d n b (Line line) = d.Reports n b line.items
+IsReportOf d n b (Line line reason) = d.Reports n b line.items
 IsReportOf d n b NoMemory = Unit {0}
 IsReportOf d n b BadHeader = ⊥
 
 -- the line of a report, where it has one, ends with a line feed
 abbrev pub ReportEnds : Report → Type 0
-ReportEnds (Line line) = EndsLine line.items
+ReportEnds (Line line reason) = EndsLine line.items
 ReportEnds NoMemory = Unit {0}
 ReportEnds BadHeader = Unit {0}
 
 abbrev pub RulingEnds : Ruling → Type 0
 RulingEnds ruling.Goes = Unit {0}
 RulingEnds (ruling.Stopped report) = ReportEnds report
+
+-- the line of a report, where it has one, gives its reason
+abbrev pub ReportGives : (Reason → List ℕ → Type 0) → Report → Type 0
+ReportGives Gives (Line line reason) = Gives reason line.items
+ReportGives Gives NoMemory = Unit {0}
+ReportGives Gives BadHeader = Unit {0}
+
+abbrev pub RulingGives : (Reason → List ℕ → Type 0) → Ruling → Type 0
+RulingGives Gives ruling.Goes = Unit {0}
+RulingGives Gives (ruling.Stopped report) = ReportGives Gives report
 
 -- the frame of this number goes, or stays and adds this report
 abbrev pub IsJudged : Decision → ℕ → List ℕ → Ruling → Type 0

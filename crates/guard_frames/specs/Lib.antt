@@ -10,6 +10,7 @@ pub mod Totals
 pub mod Prefix
 pub mod Added
 pub mod Calls
+pub mod Reasons
 pub mod Guarding
 pub mod Judged
 pub mod Answering
@@ -20,6 +21,7 @@ pub mod LinkView
 pub mod FaultTexts
 pub mod Feeding
 pub mod Runs
+pub mod Leaving
 -- ---- under a policy
 pub mod OfPolicy
 -- ---- many links, and a policy that may be replaced

@@ -1,13 +1,15 @@
 -- What a policy decides of the body of a frame.
-use Rattle.std.specs.Prelude.{◌≡◌}
+use Rattle.std.specs.Prelude.{◌≡◌, ℕ, List, Some}
 use Rattle.guard_reader.specs.declared.marks.Marks.{Marks}
 use Rattle.guard_policy.specs.Policies.{AbstractPolicy, AbstractRoute}
 use Rattle.guard_policy.specs.Verdicts.{AbstractVerdict}
 use Rattle.guard_policy.specs.Decisions.{Goes, IsReason}
 use Rattle.guard_policy.specs.Told.{AreMarksOf}
 use Rattle.guard_report.specs.Lines.{line_octets}
-use Rattle.guard_frames.specs.Bodies.{AbstractBody}
+use Rattle.guard_frames.specs.Bodies.{AbstractBody, HasNames}
 use Rattle.guard_frames.specs.Outcomes.{Decision}
+use Rattle.guard_frames.specs.Reasons.{reason_of}
+use Rattle.guard_frames.specs.declared.why.Reason.{Reason}
 
 -- sender and receiver are taken as given
 abbrev pub route_of : AbstractBody → AbstractRoute
@@ -20,6 +22,11 @@ decision_of p = record {
   Reports = λ n b text. (w : AbstractVerdict) × IsReason p (route_of b) b.message_octets w
       × (text ≡ line_octets p (route_of b) n w);
 }
+
+-- A line gives the reason of the verdict whose line it is, with some number, on some body of three names.
+abbrev pub gives_of : AbstractPolicy → Reason → List ℕ → Type 0
+gives_of p reason line = (n : ℕ) × (b : AbstractBody) × (w : AbstractVerdict) × HasNames b
+    × IsReason p (route_of b) b.message_octets w × (reason_of w ≡ Some reason) × (line ≡ line_octets p (route_of b) n w)
 
 -- the marks of its message
 abbrev pub marks_of : AbstractPolicy → AbstractBody → Marks → Type 0

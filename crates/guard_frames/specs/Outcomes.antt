@@ -38,5 +38,9 @@ going f = record { frame = f; goes = true }
 abbrev pub staying : List ℕ → Outcome
 staying f = record { frame = f; goes = false }
 
+-- frames that all go
+abbrev pub all_going : List (List ℕ) → List Outcome
+all_going frames = map going frames
+
 abbrev pub frames_of : List Outcome → List (List ℕ)
 frames_of outcomes = map (λ o. o.frame) outcomes

@@ -1,12 +1,14 @@
 //! What decides which messages go.
 
-ghost use Rattle.std.specs.Prelude.{IfOk, IfSome};
+ghost use Rattle.std.specs.Prelude.{ℕ, List, IfOk, IfSome};
 ghost use Rattle.guard_reader.specs.declared.marks.Marks.{Marks};
 ghost use Rattle.guard_frames.specs.Bodies.{AbstractBody, body_view, HasNames};
 ghost use Rattle.guard_frames.specs.Calls.{EndsLine};
 ghost use Rattle.guard_frames.specs.Outcomes.{Decision, IsDecided};
+ghost use Rattle.guard_frames.specs.declared.why.Reason.{Reason};
 
 use crate::body::Body;
+use crate::why::Reason;
 use guard_model::OutOfMemory;
 use guard_policy::{LastRoute, Marks, Passing};
 use std::alloc::Global;
@@ -19,6 +21,9 @@ pub trait Decide {
     /// Which marks are those of a body's message.
     ghost marks_of: { Self → AbstractBody → Marks → Type 0 };
 
+    /// Which report lines give this reason.
+    ghost gives: { Self → Reason → List ℕ → Type 0 };
+
     /// Whether a frame goes, by the octets that follow its four octets of length: they are three names and a message,
     /// and this body is decided to go. Of a frame that stays the marks may be told, for `line`. No memory is taken. The
     /// place where the frame's route was found may be kept in `last`, so that the next frame's is compared with that
@@ -26,19 +31,20 @@ pub trait Decide {
     fn goes(&self, body: &[u8], last: &mut LastRoute) -> Passing
         ensures { IsDecided (decides self.now) (marks_of self.now) body.now result };
 
-    /// The report line of the frame of this number and with this body, with its line feed. Conditions: the body has
-    /// three names, it is decided to stay, and marks that are given are those that `goes` told of it, by which its
-    /// message isn't read again. OutOfMemory is the only error.
+    /// The report line of the frame of this number and with this body, with its line feed, and the reason that it gives.
+    /// Conditions: the body has three names, it is decided to stay, and marks that are given are those that `goes` told
+    /// of it, by which its message isn't read again. OutOfMemory is the only error.
     fn line(
         &self,
         alloc: Global,
         number: u64,
         body: &Body,
         marks: Option<Marks>,
-    ) -> Result<Vec<u8>, OutOfMemory>
+    ) -> Result<(Vec<u8>, Reason), OutOfMemory>
         requires names { HasNames (body_view body.now) }
         requires stays { (decides self.now).LetsGo (body_view body.now) → ⊥ }
         requires told { IfSome marks (marks_of self.now (body_view body.now)) }
-        ensures reports { IfOk result (λ line. (decides self.now).Reports number (body_view body.now) line.items) }
-        ensures ends { IfOk result (λ line. EndsLine line.items) };
+        ensures reports { IfOk result (λ said. (decides self.now).Reports number (body_view body.now) said.0.items) }
+        ensures ends { IfOk result (λ said. EndsLine said.0.items) }
+        ensures gives { IfOk result (λ said. gives self.now said.1 said.0.items) };
 }

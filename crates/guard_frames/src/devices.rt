@@ -1,7 +1,7 @@
 //! What a link reads from and writes to.
 
 ghost use Rattle.std.specs.Prelude.{◌≡◌, ◌<◌, ◌≤◌, ◌++◌, ℕ, List, Bool, true, Option};
-ghost use Rattle.std.specs.Prelude.{None, length, take, IfOk, OnOk, OnErr, IsErr};
+ghost use Rattle.std.specs.Prelude.{None, length, take, IfOk, IfErr, OnOk, OnErr, IsErr};
 ghost use Rattle.std.specs.Io.KnownBytes.{Appends, Consumes, IsAtEnd};
 ghost use Rattle.guard_frames.specs.Calls.{Calls, Asks, EndsLine, AsksLines};
 ghost use Rattle.guard_frames.specs.Prefix.{IsProperPrefix};
@@ -72,7 +72,6 @@ pub trait Source {
 
 /// Puts all of the octets: in one call, and where the sink took only a part of them, in one more for all that is left,
 /// and so on. Failed where the sink has failed, which took a proper part of them at most.
-#[tactic(auto, using(crate::proofs::Appending::Prefix_of))]
 pub fn put_all<S: Sink>(sink: &mut S, octets: &[u8]) -> Result<(), Failed>
     ensures all { OnOk result (Appends (S.taken sink.old) (S.taken sink.new) octets.now) }
     ensures part { OnErr result ((part : List ℕ) × IsProperPrefix part octets.now
@@ -80,10 +79,26 @@ pub fn put_all<S: Sink>(sink: &mut S, octets: &[u8]) -> Result<(), Failed>
     ensures failed { OnErr result (S.has_failed sink.new ≡ true) }
     ensures lines { EndsLine octets.now → AsksLines (S.asked sink.old) (S.asked sink.new) }
 {
+    match put_or_count(sink, octets) {
+        Ok(()) => Ok(()),
+        Err(_) => Err(Failed),
+    }
+}
+
+/// Puts all of the octets, as `put_all` does. Where the sink has failed the error is how many of them it took.
+pub(crate) fn put_or_count<S: Sink>(sink: &mut S, octets: &[u8]) -> Result<(), usize>
+    ensures all { OnOk result (Appends (S.taken sink.old) (S.taken sink.new) octets.now) }
+    ensures part { IfErr result (λ n. (n < length octets.now)
+        × Appends (S.taken sink.old) (S.taken sink.new) (take n octets.now)) }
+    ensures failed { OnErr result (S.has_failed sink.new ≡ true) }
+    ensures lines { EndsLine octets.now → AsksLines (S.asked sink.old) (S.asked sink.new) }
+{
     let mut sent = 0;
     while sent < octets.len() {
-        let more = sink.put(&octets[sent..])?;
-        sent += more;
+        match sink.put(&octets[sent..]) {
+            Ok(more) => sent += more,
+            Err(_) => return Err(sent),
+        }
     }
     Ok(())
 }

@@ -1,11 +1,12 @@
 //! Feeds pieces to a link.
 
-ghost use Rattle.std.specs.Prelude.{◌≡◌, ◌≤◌, ◌++◌, ◌⊎◌, true, [], vec_capacity, IsErrOf};
+ghost use Rattle.std.specs.Prelude.{◌≡◌, ◌≤◌, ◌++◌, [], vec_capacity, IfErr};
 ghost use Rattle.guard_frames.specs.Frames.{IsUnfinished};
 ghost use Rattle.guard_frames.specs.Added.{Added, BothAppend};
 ghost use Rattle.guard_frames.specs.Calls.{AsksLines};
-ghost use Rattle.guard_frames.specs.inside.Closing.{Puts};
-ghost use Rattle.guard_frames.specs.declared.link.Closing.TheVariants.{WriteFailed};
+ghost use Rattle.guard_frames.specs.Reasons.{Noted};
+ghost use Rattle.guard_frames.specs.inside.Closing.{Puts, HasFailed, UnlessReports};
+ghost use Rattle.guard_frames.specs.inside.Putting.{ClosedBy};
 
 use crate::cut::{Rest, body_length};
 use crate::decision::Decide;
@@ -13,7 +14,9 @@ use crate::devices::Sink;
 use crate::filling::complete;
 use crate::link::{Closing, Link, LinkFault, close};
 use crate::putting::put_frames;
+use crate::sending::Broken;
 use crate::totals::Totals;
+use crate::why::Watch;
 use std::alloc::Global;
 
 impl Link {
@@ -22,31 +25,34 @@ impl Link {
     ghost use Rattle.guard_frames.specs.Added.{Added, BothAppend};
     ghost use Rattle.guard_frames.specs.Calls.{AsksLines};
     ghost use Rattle.guard_frames.specs.Feeding.{Takes};
-    ghost use Rattle.guard_frames.specs.inside.Closing.{Puts, left_by};
+    ghost use Rattle.guard_frames.specs.Reasons.{Noted};
+    ghost use Rattle.guard_frames.specs.inside.Closing.{Puts, left_by, HasFailed, UnlessReports};
     ghost use Rattle.guard_frames.specs.declared.link.LinkFault.TheVariants.{Closed, WriteFailed};
-    ghost use Rattle.guard_frames.specs.declared.link.Closing.TheVariants as closing;
 
     /// Feeds one more piece of the link's stream: each frame that is whole then and goes is put to `out`, and the
-    /// report line of each other one to `reports`. The octets of a frame that isn't whole yet are held. Memory is taken
-    /// only for the text of reports.
+    /// report line of each other one to `reports`; the watch is told why these stay. The octets of a frame that isn't
+    /// whole yet are held. Memory is taken only for the text of reports.
     ///
     /// # Errors
     /// FrameTooLong where a length above 1,048,576 comes next, WriteFailed where one of the sinks has failed: the link
     /// is closed then. Closed where it was closed before: nothing changes then.
-    pub fn feed<D: Decide, O: Sink, R: Sink>(
+    pub fn feed<D: Decide, O: Sink, R: Sink, W: Watch>(
         &mut self,
         alloc: Global,
         policy: &D,
         piece: &[u8],
         out: &mut O,
         reports: &mut R,
+        watch: &mut W,
     ) -> Result<(), LinkFault>
         ensures open { (link_view self.old).closed ≡ false → (added : Added)
             × Takes (D.decides policy.now) (link_view self.old).totals ((link_view self.old).held ++ piece.now)
             (link_view self.new) result added
-            × BothAppend (O.taken out.old, O.taken out.new) (R.taken reports.old, R.taken reports.new) added }
+            × BothAppend (O.taken out.old, O.taken out.new) (R.taken reports.old, R.taken reports.new) added
+            × ((result ≡ Err WriteFailed → ⊥) →
+            Noted (D.gives policy.now) W.notes watch.old added.reports watch.new) }
         ensures shut { (link_view self.old).closed ≡ true → (result ≡ Err Closed) × (self.new ≡ self.old)
-            × (out.new ≡ out.old) × (reports.new ≡ reports.old) }
+            × (out.new ≡ out.old) × (reports.new ≡ reports.old) × (watch.new ≡ watch.old) }
         ensures failed { IsErrOf result WriteFailed →
             (O.has_failed out.new ≡ true) ⊎ (R.has_failed reports.new ≡ true) }
         ensures lines { AsksLines (R.asked reports.old) (R.asked reports.new) }
@@ -54,32 +60,34 @@ impl Link {
         if self.closed {
             return Err(LinkFault::Closed);
         }
-        Ok(self.take(alloc, policy, piece, out, reports)?)
+        Ok(self.take(alloc, policy, piece, out, reports, watch)?)
     }
 
-    /// Takes the next piece of the stream of a link. What goes wrong closes it. Condition: the link is open.
-    pub(crate) fn take<D: Decide, O: Sink, R: Sink>(
+    /// Takes the next piece of the stream of a link, and tells the watch why frames stay. What goes wrong closes it.
+    /// Condition: the link is open.
+    pub(crate) fn take<D: Decide, O: Sink, R: Sink, W: Watch>(
         &mut self,
         alloc: Global,
         policy: &D,
         piece: &[u8],
         out: &mut O,
         reports: &mut R,
+        watch: &mut W,
     ) -> Result<(), Closing>
         requires open { self.old.closed ≡ false }
         ensures puts { (added : Added)
             × Puts (D.decides policy.now) self.old.totals (self.old.held.items ++ piece.now) self.new.held.items
             self.new.totals result added
-            × BothAppend (O.taken out.old, O.taken out.new) (R.taken reports.old, R.taken reports.new) added }
+            × BothAppend (O.taken out.old, O.taken out.new) (R.taken reports.old, R.taken reports.new) added
+            × UnlessReports result (Noted (D.gives policy.now) W.notes watch.old added.reports watch.new) }
         ensures open { OnOk result (self.new.closed ≡ false) }
         ensures closes { OnErr result (IsShut (link_view self.new)) }
         ensures left { IfErr result (λ c. self.new.left ≡ left_by c) }
-        ensures failed { IsErrOf result closing.WriteFailed →
-            (O.has_failed out.new ≡ true) ⊎ (R.has_failed reports.new ≡ true) }
+        ensures failed { IfErr result (λ c. HasFailed c (O.has_failed out.new) (R.has_failed reports.new)) }
         ensures lines { AsksLines (R.asked reports.old) (R.asked reports.new) }
     {
         let (held, totals) = (&mut self.held, &mut self.totals);
-        match put_piece(alloc, held, totals, policy, piece, out, reports) {
+        match put_piece(alloc, held, totals, policy, piece, out, reports, watch) {
             Ok(()) => Ok(()),
             Err(closing) => {
                 close(&mut self.held, &mut self.closed);
@@ -91,7 +99,7 @@ impl Link {
 }
 
 /// Puts the frames that end in the piece, and holds what is left of it.
-fn put_piece<D: Decide, O: Sink, R: Sink>(
+fn put_piece<D: Decide, O: Sink, R: Sink, W: Watch>(
     alloc: Global,
     held: &mut Vec<u8>,
     totals: &mut Totals,
@@ -99,22 +107,25 @@ fn put_piece<D: Decide, O: Sink, R: Sink>(
     piece: &[u8],
     out: &mut O,
     reports: &mut R,
+    watch: &mut W,
 ) -> Result<(), Closing>
     requires room { 1048580 ≤ vec_capacity held.old }
     requires unfinished { IsUnfinished held.old.items }
     ensures room { 1048580 ≤ vec_capacity held.new }
     ensures puts { (added : Added)
         × Puts (D.decides policy.now) totals.old (held.old.items ++ piece.now) held.new.items totals.new result added
-        × BothAppend (O.taken out.old, O.taken out.new) (R.taken reports.old, R.taken reports.new) added }
-    ensures failed { IsErrOf result WriteFailed → (O.has_failed out.new ≡ true) ⊎ (R.has_failed reports.new ≡ true) }
+        × BothAppend (O.taken out.old, O.taken out.new) (R.taken reports.old, R.taken reports.new) added
+        × UnlessReports result (Noted (D.gives policy.now) W.notes watch.old added.reports watch.new) }
+    ensures failed { IfErr result (λ c. HasFailed c (O.has_failed out.new) (R.has_failed reports.new)) }
     ensures lines { AsksLines (R.asked reports.old) (R.asked reports.new) }
 {
     if held.is_empty() {
-        return put_rest(alloc, held, totals, policy, piece, out, reports);
+        return put_rest(alloc, held, totals, policy, piece, out, reports, watch);
     }
     let used = complete(held, piece);
-    let Ok(whole) = put_frames(alloc, policy, held.as_slice(), *totals, out, reports) else {
-        return Err(Closing::WriteFailed);
+    let whole = match put_frames(alloc, policy, held.as_slice(), *totals, out, reports, watch) {
+        Ok(whole) => whole,
+        Err(broken) => return Err(broken_at(broken, totals)),
     };
     *totals = whole.totals;
     if let Rest::TooLong = whole.rest {
@@ -124,11 +135,20 @@ fn put_piece<D: Decide, O: Sink, R: Sink>(
         return Ok(());
     }
     held.clear();
-    put_rest(alloc, held, totals, policy, &piece[used..], out, reports)
+    put_rest(
+        alloc,
+        held,
+        totals,
+        policy,
+        &piece[used..],
+        out,
+        reports,
+        watch,
+    )
 }
 
 /// Puts the frames that end in the piece where nothing is held, and holds what is left of it.
-fn put_rest<D: Decide, O: Sink, R: Sink>(
+fn put_rest<D: Decide, O: Sink, R: Sink, W: Watch>(
     alloc: Global,
     held: &mut Vec<u8>,
     totals: &mut Totals,
@@ -136,18 +156,21 @@ fn put_rest<D: Decide, O: Sink, R: Sink>(
     piece: &[u8],
     out: &mut O,
     reports: &mut R,
+    watch: &mut W,
 ) -> Result<(), Closing>
     requires room { 1048580 ≤ vec_capacity held.old }
     requires nothing { held.old.items ≡ [] }
     ensures room { 1048580 ≤ vec_capacity held.new }
     ensures puts { (added : Added)
         × Puts (D.decides policy.now) totals.old piece.now held.new.items totals.new result added
-        × BothAppend (O.taken out.old, O.taken out.new) (R.taken reports.old, R.taken reports.new) added }
-    ensures failed { IsErrOf result WriteFailed → (O.has_failed out.new ≡ true) ⊎ (R.has_failed reports.new ≡ true) }
+        × BothAppend (O.taken out.old, O.taken out.new) (R.taken reports.old, R.taken reports.new) added
+        × UnlessReports result (Noted (D.gives policy.now) W.notes watch.old added.reports watch.new) }
+    ensures failed { IfErr result (λ c. HasFailed c (O.has_failed out.new) (R.has_failed reports.new)) }
     ensures lines { AsksLines (R.asked reports.old) (R.asked reports.new) }
 {
-    let Ok(whole) = put_frames(alloc, policy, piece, *totals, out, reports) else {
-        return Err(Closing::WriteFailed);
+    let whole = match put_frames(alloc, policy, piece, *totals, out, reports, watch) {
+        Ok(whole) => whole,
+        Err(broken) => return Err(broken_at(broken, totals)),
     };
     *totals = whole.totals;
     match whole.rest {
@@ -156,6 +179,19 @@ fn put_rest<D: Decide, O: Sink, R: Sink>(
             hold(held, &piece[whole.end..]);
             Ok(())
         }
+    }
+}
+
+/// What closes a link where a sink has failed; the totals are told where they are known.
+fn broken_at(broken: Broken, totals: &mut Totals) -> Closing
+    ensures { ClosedBy broken result totals.new }
+{
+    match broken {
+        Broken::Out(before) => {
+            *totals = before;
+            Closing::OutFailed
+        }
+        Broken::Reports => Closing::ReportsFailed,
     }
 }
 

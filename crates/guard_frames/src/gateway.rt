@@ -5,12 +5,15 @@ ghost use Rattle.std.specs.Borrow.{sem};
 ghost use Rattle.std.specs.Option.{option_copied_mut, option_map};
 ghost use Rattle.guard_frames.specs.Lending.{lends_ends};
 ghost use Rattle.guard_frames.specs.GatewayView.{gateway_view, gateway_ends, IsStepOf};
+ghost use Rattle.guard_frames.specs.OfPolicy.{gives_of};
+ghost use Rattle.guard_frames.specs.Reasons.{Noted};
 ghost use Rattle.guard_frames.specs.LinkView.{link_view, new_link};
 ghost use Rattle.guard_policy.specs.PolicyView.{policy_view};
 
 use crate::devices::Sink;
 use crate::link::{Link, LinkFault};
 use crate::seats::{Ends, Seat, end_at, feed_at, new_links, seated};
+use crate::why::Watch;
 use guard_policy::Policy;
 use std::alloc::Global;
 use std::fmt;
@@ -87,18 +90,30 @@ impl<S: Drop> Gateway<S> {
 
 impl<S: Sink> Gateway<S> {
     /// One event: a piece of a link's stream, its end, or a new policy. The link is fed or ended by the policy in
-    /// force, as `Link::feed` and `Link::end` say.
+    /// force, as `Link::feed` and `Link::end` say, and the watch is told why frames stay.
     ///
     /// # Errors
     /// NoSuchLink (F6) where there is no link of the event's number; nothing changes then. Link with the link's own
     /// fault, F1 to F4.
-    pub fn step(&mut self, alloc: Global, event: Event<'_>) -> Result<(), StepFault>
-        ensures { IsStepOf S.taken S.has_failed self.old event.entry result self.new }
+    pub fn step<W: Watch>(
+        &mut self,
+        alloc: Global,
+        event: Event<'_>,
+        watch: &mut W,
+    ) -> Result<(), StepFault>
+        ensures { IsStepOf S.taken S.has_failed
+            (λ reported. Noted (gives_of (gateway_view self.old).policy) W.notes watch.old reported watch.new)
+            self.old event.entry result self.new }
     {
         match event {
-            Event::Piece(link, octets) => {
-                feed_at(alloc, &self.policy, &mut self.seats, link as usize, octets)
-            }
+            Event::Piece(link, octets) => feed_at(
+                alloc,
+                &self.policy,
+                &mut self.seats,
+                link as usize,
+                octets,
+                watch,
+            ),
             Event::End(link) => end_at(&mut self.seats, link as usize),
             Event::Reload(policy) => {
                 self.policy = policy;

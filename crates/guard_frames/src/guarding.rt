@@ -11,8 +11,10 @@ ghost use Rattle.guard_frames.specs.declared.running.RunFault.TheVariants.{Write
 ghost use Rattle.guard_frames.specs.declared.running.RunFault.TheVariants.{OutOfMemory as NoMemory};
 
 use crate::devices::{Sink, Source};
-use crate::running::{RunFault, decide_stream};
+use crate::link::Link;
+use crate::running::{RunFault, decide_link, new_buffer};
 use crate::totals::Totals;
+use crate::why::Unwatched;
 use guard_policy::Policy;
 use std::alloc::Global;
 
@@ -43,5 +45,24 @@ pub fn run<S: Source, O: Sink, R: Sink>(
     // Each report line goes in one call.
     ensures lines { AsksLines (R.asked reports.old) (R.asked reports.new) }
 {
-    decide_stream(alloc, source, out, reports, policy)
+    let Ok(mut link) = Link::new(alloc) else {
+        return Err(RunFault::OutOfMemory);
+    };
+    let Ok(mut buffer) = new_buffer(alloc) else {
+        return Err(RunFault::OutOfMemory);
+    };
+    let ran = decide_link(
+        alloc,
+        &mut link,
+        &mut buffer,
+        source,
+        out,
+        reports,
+        policy,
+        &mut Unwatched,
+    );
+    match ran {
+        Ok(()) => Ok(link.totals()),
+        Err(fault) => Err(fault),
+    }
 }

@@ -46,7 +46,10 @@ impl LinkFault {
 pub(crate) enum Closing {
     /// A length that no frame may have: this one.
     FrameTooLong(usize),
-    WriteFailed,
+    /// The sink of the frames has failed.
+    OutFailed,
+    /// The sink of the reports has failed.
+    ReportsFailed,
     /// The end, after so many octets of a frame.
     TornFrame(usize),
 }
@@ -61,7 +64,7 @@ impl Closing {
     {
         match self {
             Closing::FrameTooLong(size) => size,
-            Closing::WriteFailed => 0,
+            Closing::OutFailed | Closing::ReportsFailed => 0,
             Closing::TornFrame(count) => count,
         }
     }
@@ -75,7 +78,7 @@ impl From<Closing> for LinkFault {
     fn from(closing: Closing) -> LinkFault {
         match closing {
             Closing::FrameTooLong(_) => LinkFault::FrameTooLong,
-            Closing::WriteFailed => LinkFault::WriteFailed,
+            Closing::OutFailed | Closing::ReportsFailed => LinkFault::WriteFailed,
             Closing::TornFrame(_) => LinkFault::TornFrame,
         }
     }
@@ -127,8 +130,9 @@ impl Link {
         self.held.len()
     }
 
-    /// How many frames there were, also once the link is closed: a frame that is too long or torn has the next number.
-    /// Where a sink has failed, some of the last piece may not be counted.
+    /// How many frames there were, also once the link is closed: a frame that is too long or torn has the next number,
+    /// and so has the one at which the sink of the frames failed. Where that of the reports has failed, some frames of
+    /// the last piece may not be counted.
     pub fn totals(&self) -> Totals
         ensures { result ≡ (link_view self.now).totals }
     {

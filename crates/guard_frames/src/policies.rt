@@ -3,12 +3,13 @@
 ghost use Rattle.std.specs.Prelude.{◌≡◌};
 ghost use Rattle.guard_policy.specs.PolicyView.{policy_view, route_view};
 ghost use Rattle.guard_frames.specs.Bodies.{body_view};
-ghost use Rattle.guard_frames.specs.OfPolicy.{route_of, decision_of, marks_of};
+ghost use Rattle.guard_frames.specs.OfPolicy.{route_of, decision_of, marks_of, gives_of};
 ghost use Rattle.guard_frames.specs.Outcomes.{IsDecided};
 
 use crate::body::Body;
 use crate::decision::Decide;
 use crate::header::{cut_body, has_names};
+use crate::why::{Reason, reason_of};
 use guard_model::OutOfMemory;
 use guard_policy::{LastRoute, Marks, Passing, Policy, Route};
 use guard_report::line;
@@ -18,6 +19,8 @@ impl Decide for Policy {
     ghost decides = { λ policy. decision_of (policy_view policy) };
 
     ghost marks_of = { λ policy. marks_of (policy_view policy) };
+
+    ghost gives = { λ policy. gives_of (policy_view policy) };
 
     fn goes(&self, octets: &[u8], last: &mut LastRoute) -> Passing {
         match self.passes_as_last(*last, octets) {
@@ -32,10 +35,11 @@ impl Decide for Policy {
         number: u64,
         body: &Body,
         marks: Option<Marks>,
-    ) -> Result<Vec<u8>, OutOfMemory> {
+    ) -> Result<(Vec<u8>, Reason), OutOfMemory> {
         let route = route_of(body);
         let verdict = self.reason(alloc, &route, body.message_octets, marks)?;
-        line(alloc, number, &route, &verdict, self)
+        let line = line(alloc, number, &route, &verdict, self)?;
+        Ok((line, reason_of(&verdict)))
     }
 }
 

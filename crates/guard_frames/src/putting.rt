@@ -1,19 +1,20 @@
 //! Puts the whole frames of some octets where they go, from where they lie.
 
-ghost use Rattle.std.specs.Prelude.{◌≡◌, ◌⊎◌, true, IfOk, OnErr};
-ghost use Rattle.guard_frames.specs.Totals.{next_number};
+ghost use Rattle.std.specs.Prelude.{IfOk, IfErr};
 ghost use Rattle.guard_frames.specs.Added.{Added, BothAppend};
 ghost use Rattle.guard_frames.specs.Calls.{AsksLines};
-ghost use Rattle.guard_frames.specs.Guarding.{BreaksOff};
-ghost use Rattle.guard_frames.specs.inside.Putting.{ArePut};
+ghost use Rattle.guard_frames.specs.Reasons.{Noted};
+ghost use Rattle.guard_frames.specs.inside.Putting.{ArePut, IsBroken, SinkFailed};
 
 use crate::cut::{Cut, Rest, first_cut};
 use crate::decision::Decide;
-use crate::devices::{Failed, Sink, put_all};
+use crate::devices::Sink;
 use crate::report::{Ruling, judge, line_of};
+use crate::sending::{Broken, put_going};
 use crate::short_line::ShortLine;
 use crate::totals::Totals;
 use crate::waiting::Waiting;
+use crate::why::Watch;
 use guard_policy::LastRoute;
 use std::alloc::Global;
 
@@ -29,27 +30,32 @@ pub struct Whole {
 }
 
 /// Decides the whole frames at the front of the octets, counted on from `totals`, and puts each one that goes, or the
-/// line of one that stays. Frames that go side by side wait to be put in one call, and so do lines of frames that stay
-/// side by side, as many as `Waiting` lets wait. What waits for one sink is put before anything goes to the other, and
-/// at the return nothing waits. Most frames have the route of the frame before, so each is compared with it first.
-pub fn put_frames<D: Decide, O: Sink, R: Sink>(
+/// line of one that stays; the watch is told why. Frames that go side by side wait to be put in one call, and so do
+/// lines of frames that stay side by side, as many as `Waiting` lets wait. What waits for one sink is put before
+/// anything goes to the other, and at the return nothing waits. Most frames have the route of the frame before, so each
+/// is compared with it first.
+pub fn put_frames<D: Decide, O: Sink, R: Sink, W: Watch>(
     alloc: Global,
     policy: &D,
     octets: &[u8],
     totals: Totals,
     out: &mut O,
     reports: &mut R,
-) -> Result<Whole, Failed>
+    watch: &mut W,
+) -> Result<Whole, Broken>
     ensures whole { IfOk result (λ whole. (added : Added)
         × ArePut (D.decides policy.now) totals octets.now whole added
+        × BothAppend (O.taken out.old, O.taken out.new) (R.taken reports.old, R.taken reports.new) added
+        × Noted (D.gives policy.now) W.notes watch.old added.reports watch.new) }
+    ensures failure { IfErr result (λ b. (added : Added)
+        × IsBroken (D.decides policy.now) totals octets.now b added
+        (λ reported. Noted (D.gives policy.now) W.notes watch.old reported watch.new)
         × BothAppend (O.taken out.old, O.taken out.new) (R.taken reports.old, R.taken reports.new) added) }
-    ensures failure { OnErr result ((added : Added)
-        × BreaksOff (λ _. D.decides policy.now) (next_number totals) octets.now added
-        × BothAppend (O.taken out.old, O.taken out.new) (R.taken reports.old, R.taken reports.new) added) }
-    ensures failed { OnErr result ((O.has_failed out.new ≡ true) ⊎ (R.has_failed reports.new ≡ true)) }
+    ensures failed { IfErr result (λ b. SinkFailed b (O.has_failed out.new) (R.has_failed reports.new)) }
     ensures lines { AsksLines (R.asked reports.old) (R.asked reports.new) }
 {
     let mut totals = totals;
+    let mut before = totals;
     let mut sent = 0;
     let mut end = 0;
     let mut last = LastRoute::none();
@@ -58,7 +64,7 @@ pub fn put_frames<D: Decide, O: Sink, R: Sink>(
         let frame = match first_cut(&octets[end..]) {
             Cut::Frame(frame) => frame,
             Cut::Rest(rest) => {
-                put_all(out, &octets[sent..end])?;
+                put_going(out, &octets[sent..end], before)?;
                 waiting.put(reports)?;
                 return Ok(Whole { end, totals, rest });
             }
@@ -71,11 +77,13 @@ pub fn put_frames<D: Decide, O: Sink, R: Sink>(
                 totals = totals.after_going();
             }
             Ruling::Stopped(report) => {
-                put_all(out, &octets[sent..end])?;
+                put_going(out, &octets[sent..end], before)?;
+                watch.stays(report.why());
                 let mut short = ShortLine::new();
                 waiting.add(reports, line_of(number, &report, &mut short))?;
                 end += frame.octets.len();
                 totals = totals.after_staying();
+                before = totals;
                 sent = end;
             }
         }

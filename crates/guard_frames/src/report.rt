@@ -5,6 +5,7 @@ ghost use Rattle.std.specs.Io.KnownBytes.{Appends};
 ghost use Rattle.guard_frames.specs.Calls.{EndsLine, AsksLines};
 ghost use Rattle.guard_frames.specs.Prefix.{IsProperPrefix};
 ghost use Rattle.guard_frames.specs.Judged.{IsJudged, IsReportOf, ReportEnds, RulingEnds, report_line};
+ghost use Rattle.guard_frames.specs.Judged.{ReportGives, RulingGives};
 ghost use Rattle.guard_frames.specs.Bodies.{body_view, HasNames};
 
 use crate::body::Body;
@@ -13,6 +14,7 @@ use crate::decision::Decide;
 use crate::devices::{Failed, Sink, put_all};
 use crate::header::read_body;
 use crate::short_line::{ShortLine, append};
+use crate::why::{Reason, Why};
 use guard_policy::{LastRoute, Marks, Passing};
 use itoa::Buffer;
 use std::alloc::Global;
@@ -33,8 +35,24 @@ pub enum Report {
     BadHeader,
     /// There was no memory for the frame's line.
     NoMemory,
-    /// This line, with the frame's number and its line feed.
-    Line(Vec<u8>),
+    /// This line, with the frame's number and its line feed, and the reason that it gives.
+    Line(Vec<u8>, Reason),
+}
+
+impl Report {
+    ghost use Rattle.std.specs.Prelude.{◌≡◌};
+    ghost use Rattle.guard_frames.specs.Judged.{why_of};
+
+    /// Why the frame stays.
+    pub fn why(&self) -> Why
+        ensures { result ≡ why_of self.now }
+    {
+        match self {
+            Report::BadHeader => Why::BadHeader,
+            Report::NoMemory => Why::NoMemory,
+            Report::Line(_, reason) => Why::Decided(*reason),
+        }
+    }
 }
 
 /// What becomes of the frame of this number. No memory is taken for one that goes. Condition: the frame's body is what
@@ -49,6 +67,7 @@ pub fn judge<D: Decide>(
     requires { frame.now.body.now ≡ drop 4 frame.now.octets.now }
     ensures judged { IsJudged (D.decides policy.now) number frame.now.octets.now result }
     ensures ends { RulingEnds result }
+    ensures gives { RulingGives (D.gives policy.now) result }
 {
     let Passing::Stopped(marks) = policy.goes(frame.body, last) else {
         return Ruling::Goes;
@@ -72,9 +91,10 @@ fn report_of<D: Decide>(
     requires told { IfSome marks (D.marks_of policy.now (body_view body.now)) }
     ensures reports { IsReportOf (D.decides policy.now) number (body_view body.now) result }
     ensures ends { ReportEnds result }
+    ensures gives { ReportGives (D.gives policy.now) result }
 {
     match policy.line(alloc, number, body, marks) {
-        Ok(line) => Report::Line(line),
+        Ok((line, reason)) => Report::Line(line, reason),
         Err(_) => Report::NoMemory,
     }
 }
@@ -104,7 +124,7 @@ pub fn line_of<'a>(number: u64, report: &'a Report, short: &'a mut ShortLine) ->
     match report {
         Report::BadHeader => numbered(number, b" bad-header\n", short),
         Report::NoMemory => numbered(number, b" no-memory\n", short),
-        Report::Line(line) => line.as_slice(),
+        Report::Line(line, _) => line.as_slice(),
     }
 }
 

@@ -5,15 +5,17 @@ ghost use Rattle.std.specs.Io.KnownBytes.{Consumes, IsAtEnd};
 ghost use Rattle.guard_frames.specs.Added.{Moves};
 ghost use Rattle.guard_frames.specs.Calls.{AsksLines};
 ghost use Rattle.guard_frames.specs.Totals.{WentUpBy};
-ghost use Rattle.guard_frames.specs.Runs.{Runs, ReadToLimit};
+ghost use Rattle.guard_frames.specs.LinkView.{link_view, new_link};
+ghost use Rattle.guard_frames.specs.Reasons.{Noted};
+ghost use Rattle.guard_frames.specs.Runs.{ReadToLimit};
+ghost use Rattle.guard_frames.specs.Leaving.{Leaves, Unless};
 ghost use Rattle.guard_frames.specs.inside.Closing.{run_fault};
 ghost use Rattle.guard_frames.specs.declared.running.RunFault.TheVariants.{WriteFailed, ReadFailed};
-ghost use Rattle.guard_frames.specs.declared.running.RunFault.TheVariants.{OutOfMemory as NoMemory};
 
 use crate::decision::Decide;
 use crate::devices::{Failed, Sink, Source};
 use crate::link::{Closing, Link, LinkFault};
-use crate::totals::Totals;
+use crate::why::Watch;
 use guard_model::OutOfMemory;
 use std::alloc::Global;
 use thiserror::Error;
@@ -44,14 +46,14 @@ impl From<Closing> for RunFault {
     fn from(closing: Closing) -> RunFault {
         match closing {
             Closing::FrameTooLong(_) => RunFault::FrameTooLong,
-            Closing::WriteFailed => RunFault::WriteFailed,
+            Closing::OutFailed | Closing::ReportsFailed => RunFault::WriteFailed,
             Closing::TornFrame(_) => RunFault::TornFrame,
         }
     }
 }
 
-/// Room for a piece. (A caller that sees 65,536 zeros as a list runs the checker out of memory.)
-fn new_buffer(alloc: Global) -> Result<Vec<u8>, OutOfMemory>
+/// Room for a piece, 65,536 octets. (A caller that sees 65,536 zeros as a list runs the checker out of memory.)
+pub fn new_buffer(alloc: Global) -> Result<Vec<u8>, OutOfMemory>
     ensures { IfOk result (λ buffer. length buffer.items ≡ 65536) }
 {
     let size = PIECE;
@@ -78,44 +80,46 @@ fn read_piece<S: Source>(source: &mut S, buffer: &mut Vec<u8>) -> Result<usize, 
     source.take(buffer.as_mut_slice())
 }
 
-/// Reads all that the source gives, and decides it: the frames that go are put out, in order and octet by octet as they
-/// came, and a line is reported for each one that stays. The answer is how many there were.
+/// Reads all that the source gives, and decides it as the stream of this link: the frames that go are put out, in order
+/// and octet by octet as they came, a line is reported for each one that stays, and the watch is told why. At the return
+/// the link tells how many there were, and what a fault left of the one after them. Conditions: the link is new, and the
+/// buffer is one of `new_buffer`.
 ///
 /// # Errors
 /// Why the run ended before the stream's end: F1 FrameTooLong, F2 WriteFailed, F4 TornFrame or F5 ReadFailed, with the
-/// frames up to there decided; OutOfMemory only before anything is read.
-pub fn decide_stream<S: Source, D: Decide, O: Sink, R: Sink>(
+/// frames up to there decided.
+pub fn decide_link<S: Source, D: Decide, O: Sink, R: Sink, W: Watch>(
     alloc: Global,
+    link: &mut Link,
+    buffer: &mut Vec<u8>,
     source: &mut S,
     out: &mut O,
     reports: &mut R,
     policy: &D,
-) -> Result<Totals, RunFault>
+    watch: &mut W,
+) -> Result<(), RunFault>
+    requires first { link_view link.old ≡ new_link }
+    requires room { length buffer.old.items ≡ 65536 }
     ensures runs { Moves (S.tells source.old, S.tells source.new) (O.taken out.old, O.taken out.new)
         (R.taken reports.old, R.taken reports.new)
-        (λ read added. Runs (D.decides policy.now) read (IsAtEnd (S.tells source.new)) result added) }
+        (λ read added. Leaves (D.decides policy.now) read (IsAtEnd (S.tells source.new))
+        (R.has_failed reports.new ≡ true) result (link_view link.new) added
+        × Unless (R.has_failed reports.new ≡ true) result
+        (Noted (D.gives policy.now) W.notes watch.old added.reports watch.new)) }
     ensures failed { IsErrOf result WriteFailed → (O.has_failed out.new ≡ true) ⊎ (R.has_failed reports.new ≡ true) }
     ensures unread { IsErrOf result ReadFailed → (S.has_failed source.new ≡ true)
         ⊎ ReadToLimit (S.takes source.old) (S.takes source.new) (S.tells source.old) (S.tells source.new) }
-    ensures untouched { IsErrOf result NoMemory →
-        (source.new ≡ source.old) × (out.new ≡ out.old) × (reports.new ≡ reports.old) }
     ensures lines { AsksLines (R.asked reports.old) (R.asked reports.new) }
 {
-    let Ok(mut link) = Link::new(alloc) else {
-        return Err(RunFault::OutOfMemory);
-    };
-    let Ok(mut buffer) = new_buffer(alloc) else {
-        return Err(RunFault::OutOfMemory);
-    };
     for _ in 0..MOST_READS {
-        let Ok(count) = read_piece(source, &mut buffer) else {
+        let Ok(count) = read_piece(source, buffer) else {
             return Err(RunFault::ReadFailed);
         };
         if count == 0 {
             link.finish()?;
-            return Ok(link.totals);
+            return Ok(());
         }
-        link.take(alloc, policy, &buffer[..count], out, reports)?;
+        link.take(alloc, policy, &buffer[..count], out, reports, watch)?;
     }
     Err(RunFault::ReadFailed)
 }

@@ -3,12 +3,14 @@
 ghost use Rattle.std.specs.Prelude.{◌≡◌, ◌≤◌, [], length, map, replicate, vec_capacity, Ok, Err, IfOk};
 ghost use Rattle.guard_frames.specs.GatewayView.{links_of, ends_of};
 ghost use Rattle.guard_frames.specs.LinkView.{link_view, new_link};
+ghost use Rattle.guard_frames.specs.Reasons.{Noted};
 ghost use Rattle.guard_frames.specs.inside.Seats.{IsFed, IsFedAt, IsEndedAt};
 
 use crate::decision::Decide;
 use crate::devices::Sink;
 use crate::gateway::StepFault;
 use crate::link::{Link, LinkFault};
+use crate::why::Watch;
 use guard_model::OutOfMemory;
 use std::alloc::Global;
 
@@ -26,14 +28,17 @@ pub(crate) struct Seat<S> {
     pub(crate) ends: Ends<S>,
 }
 
-/// Feeds a piece to a link and puts what comes of it to the link's sinks.
-fn feed_seat<D: Decide, S: Sink>(
+/// Feeds a piece to a link, puts what comes of it to the link's sinks, and tells the watch why frames stay.
+fn feed_seat<D: Decide, S: Sink, W: Watch>(
     alloc: Global,
     policy: &D,
     seat: &mut Seat<S>,
     octets: &[u8],
+    watch: &mut W,
 ) -> Result<(), LinkFault>
-    ensures { IsFed (D.decides policy.now) S.taken S.has_failed seat.old octets.now result seat.new }
+    ensures { IsFed (D.decides policy.now) S.taken S.has_failed
+        (λ reported. Noted (D.gives policy.now) W.notes watch.old reported watch.new)
+        seat.old octets.now result seat.new }
 {
     seat.link.feed(
         alloc,
@@ -41,24 +46,28 @@ fn feed_seat<D: Decide, S: Sink>(
         octets,
         &mut seat.ends.out,
         &mut seat.ends.reports,
+        watch,
     )
 }
 
 /// Feeds a piece to the link of this number; NoSuchLink where there is none.
-pub(crate) fn feed_at<D: Decide, S: Sink>(
+pub(crate) fn feed_at<D: Decide, S: Sink, W: Watch>(
     alloc: Global,
     policy: &D,
     seats: &mut Vec<Seat<S>>,
     at: usize,
     octets: &[u8],
+    watch: &mut W,
 ) -> Result<(), StepFault>
-    ensures { IsFedAt (D.decides policy.now) S.taken S.has_failed seats.old.items at octets.now result seats.new.items }
+    ensures { IsFedAt (D.decides policy.now) S.taken S.has_failed
+        (λ reported. Noted (D.gives policy.now) W.notes watch.old reported watch.new)
+        seats.old.items at octets.now result seats.new.items }
 {
     if at >= seats.len() {
         return Err(StepFault::NoSuchLink);
     }
     let seat = &mut seats[at];
-    match feed_seat(alloc, policy, seat, octets) {
+    match feed_seat(alloc, policy, seat, octets, watch) {
         Ok(()) => Ok(()),
         Err(fault) => Err(StepFault::Link(fault)),
     }

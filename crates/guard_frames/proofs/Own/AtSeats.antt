@@ -9,7 +9,7 @@ use Rattle.guard_frames.specs.Added.{Added, nothing, BothAppend}
 use Rattle.guard_frames.specs.declared.link.LinkFault.{LinkFault}
 use Rattle.guard_frames.specs.declared.seats.Ends.{Ends}
 use Rattle.guard_frames.specs.declared.totals.Totals.{Totals}
-use Rattle.guard_frames.specs.declared.link.LinkFault.TheVariants.{Closed, TornFrame}
+use Rattle.guard_frames.specs.declared.link.LinkFault.TheVariants.{WriteFailed, Closed, TornFrame}
 use Rattle.guard_frames.proofs.Appending.{Appends_none}
 use Rattle.guard_frames.proofs.Own.Chains.{which}
 
@@ -32,16 +32,32 @@ fed_of d l octets told l₁ o o₁ r r₁ opened shut = elim (which l.closed) [
       (t.0, inr (is, t.1), t.2)
 ]
 
+-- and so of what was reported
+pub fed_watched : (d : Decision) (l : AbstractLink) (octets : List ℕ) (told : Result (Unit {0}) LinkFault) (l₁ : AbstractLink) (o o₁ r r₁ : Option (List ℕ))
+    (So : List ℕ → Type 0) →
+    (l.closed ≡ false → (added : Added) × Takes d l.totals (l.held ++ octets) l₁ told added × BothAppend (o, o₁) (r, r₁) added
+    × ((told ≡ Err WriteFailed → ⊥) → So added.reports)) →
+    (l.closed ≡ true → (told ≡ Err Closed) × (l₁ ≡ l) × (o₁ ≡ o) × (r₁ ≡ r) × So []) →
+    (added : Added) × Fed d l octets told l₁ added × BothAppend (o, o₁) (r, r₁) added × ((told ≡ Err WriteFailed → ⊥) → So added.reports)
+fed_watched d l octets told l₁ o o₁ r r₁ So opened shut = elim (which l.closed) [
+  | inl is ↦
+      let s = shut is in
+      (nothing, inl (record { closed = is; answered = s.0; same = s.1 }, refl), none_taken o o₁ r r₁ s.2 s.3, λ well. s.4)
+  | inr is ↦
+      let t = opened is in
+      (t.0, inr (is, t.1), t.2, t.3)
+]
+
 -- an open link doesn't answer that it is closed
 not_open : (d : Decision) (n : Totals) (s : List ℕ) (told : Result (Unit {0}) LinkFault) (l₁ : AbstractLink) (added : Added) →
     Takes d n s l₁ told added → told ≡ Err Closed → ⊥
 not_open d n s told l₁ added h e = subst (λ (r : Result (Unit {0}) LinkFault). Takes d n s l₁ r added) e h
 
 -- what holds of a closed link holds where it answers so
-pub told_shut : {A : Type 0} (d : Decision) (l : AbstractLink) (octets : List ℕ) (told : Result (Unit {0}) LinkFault) (l₁ : AbstractLink) (Took : Added → Type 0) →
-    (l.closed ≡ false → (added : Added) × Takes d l.totals (l.held ++ octets) l₁ told added × Took added) →
+pub told_shut : {A : Type 0} (d : Decision) (l : AbstractLink) (octets : List ℕ) (told : Result (Unit {0}) LinkFault) (l₁ : AbstractLink) →
+    (l.closed ≡ false → (added : Added) × Takes d l.totals (l.held ++ octets) l₁ told added) →
     (l.closed ≡ true → A) → told ≡ Err Closed → A
-told_shut d l octets told l₁ Took opened shut e = elim (which l.closed) [
+told_shut d l octets told l₁ opened shut e = elim (which l.closed) [
   | inl is ↦ shut is
   | inr is ↦ let t = opened is in absurd (not_open d l.totals (l.held ++ octets) told l₁ t.0 t.1 e)
 ]

@@ -61,39 +61,46 @@ told_closed (Err WriteFailed) e = absurd cc
 told_closed (Err Closed) e = refl
 told_closed (Err TornFrame) e = absurd cc
 
-pub piece_steps : {S : Type 0} (taken : S → Option (List ℕ)) (has_failed : S → Bool) (p : AbstractPolicy) (old new : List (Seat S)) (i : ℕ) (octets : List ℕ) (answer : Result (Unit {0}) StepFault) →
-    IsFedAt (decision_of p) taken has_failed old i octets answer new → StepsSeats taken has_failed p old (piece i octets) answer p new
-piece_steps {S} taken has_failed p old new i octets answer (inl h) = (
-  nothing,
-  inl (record {
-    none = mapped_none (λ (x : Seat S). link_view x.link) old i h.none;
-    answered = h.answered;
-    same = ap (λ (x : List (Seat S)). gateway_of p x) h.same;
-    adds = refl;
-  }),
-  inr (mapped_none (λ (x : Seat S). x.ends) old i h.none, ap (λ (x : List (Seat S)). ends_of x) h.same),
+pub piece_steps : {S : Type 0} (taken : S → Option (List ℕ)) (has_failed : S → Bool) (So : List ℕ → Type 0) (p : AbstractPolicy) (old new : List (Seat S)) (i : ℕ) (octets : List ℕ) (answer : Result (Unit {0}) StepFault) →
+    IsFedAt (decision_of p) taken has_failed So old i octets answer new →
+    (x : StepsSeats taken has_failed p old (piece i octets) answer p new) × ((answer ≡ Err (Link WriteFailed) → ⊥) → So x.0.reports)
+piece_steps {S} taken has_failed So p old new i octets answer (inl (h, so)) = (
+  (
+    nothing,
+    inl (record {
+      none = mapped_none (λ (x : Seat S). link_view x.link) old i h.none;
+      answered = h.answered;
+      same = ap (λ (x : List (Seat S)). gateway_of p x) h.same;
+      adds = refl;
+    }),
+    inr (mapped_none (λ (x : Seat S). x.ends) old i h.none, ap (λ (x : List (Seat S)). ends_of x) h.same),
+  ),
+  λ well. so,
 )
-piece_steps {S} taken has_failed p old new i octets answer (inr h) = (
-  h.does.added,
-  inr (record {
-    old_link = link_view h.old_seat.link;
-    new_link = link_view h.new_seat.link;
-    link_answer = h.link_answer;
-    there = mapped_some (λ (x : Seat S). link_view x.link) old i h.old_seat h.there;
-    does = h.does.does;
-    answered = h.answered;
-    others = ap (λ (x : List (Seat S)). gateway_of p x) h.others
-        ∙ ap (λ (x : List AbstractLink). record { policy = p; links = x }) (map_set (λ (x : Seat S). link_view x.link) old i h.new_seat);
-  }),
-  inl (record {
-    old_ends = h.old_seat.ends;
-    new_ends = h.new_seat.ends;
-    there = mapped_some (λ (x : Seat S). x.ends) old i h.old_seat h.there;
-    took = h.does.took;
-    failed = λ e. h.does.failed (told_failed h.link_answer (sym h.answered ∙ e));
-    shut = λ e. h.does.shut (told_closed h.link_answer (sym h.answered ∙ e));
-    others = ap (λ (x : List (Seat S)). ends_of x) h.others ∙ map_set (λ (x : Seat S). x.ends) old i h.new_seat;
-  }),
+piece_steps {S} taken has_failed So p old new i octets answer (inr h) = (
+  (
+    h.does.added,
+    inr (record {
+      old_link = link_view h.old_seat.link;
+      new_link = link_view h.new_seat.link;
+      link_answer = h.link_answer;
+      there = mapped_some (λ (x : Seat S). link_view x.link) old i h.old_seat h.there;
+      does = h.does.does;
+      answered = h.answered;
+      others = ap (λ (x : List (Seat S)). gateway_of p x) h.others
+          ∙ ap (λ (x : List AbstractLink). record { policy = p; links = x }) (map_set (λ (x : Seat S). link_view x.link) old i h.new_seat);
+    }),
+    inl (record {
+      old_ends = h.old_seat.ends;
+      new_ends = h.new_seat.ends;
+      there = mapped_some (λ (x : Seat S). x.ends) old i h.old_seat h.there;
+      took = h.does.took;
+      failed = λ e. h.does.failed (told_failed h.link_answer (sym h.answered ∙ e));
+      shut = λ e. h.does.shut (told_closed h.link_answer (sym h.answered ∙ e));
+      others = ap (λ (x : List (Seat S)). ends_of x) h.others ∙ map_set (λ (x : Seat S). x.ends) old i h.new_seat;
+    }),
+  ),
+  λ well. h.does.noted (λ e. well (h.answered ∙ ap step_answer e)),
 )
 
 pub end_steps : {S : Type 0} (taken : S → Option (List ℕ)) (has_failed : S → Bool) (p : AbstractPolicy) (old new : List (Seat S)) (i : ℕ) (answer : Result (Unit {0}) StepFault) →
@@ -128,9 +135,16 @@ end_steps {S} taken has_failed p old new i answer (inr h) =
       ap (λ (x : List (Seat S)). ends_of x) h.others ∙ map_set (λ (x : Seat S). x.ends) old i h.new_seat ∙ set_same (ends_of old) i h.new_seat.ends there,
     )
 
-pub step_of : {S : Type 0} (taken : S → Option (List ℕ)) (has_failed : S → Bool) (old : Gateway S) (event : Event) (answer : Result (Unit {0}) StepFault) (new : Gateway S) →
-    StepsSeats taken has_failed (policy_view old.policy) old.seats.items (event_view event) answer (policy_view new.policy) new.seats.items → IsStepOf taken has_failed old event answer new
-step_of taken has_failed old event answer new h = record { added = h.0; step = h.1; took = h.2 }
+pub end_adds : {S : Type 0} (taken : S → Option (List ℕ)) (has_failed : S → Bool) (p : AbstractPolicy) (old new : List (Seat S)) (i : ℕ) (answer : Result (Unit {0}) StepFault) →
+    (h : IsEndedAt old i answer new) → (end_steps taken has_failed p old new i answer h).0 ≡ nothing
+unfolding end_steps
+end_adds taken has_failed p old new i answer (inl h) = refl
+end_adds taken has_failed p old new i answer (inr h) = refl
+
+pub step_of : {S : Type 0} (taken : S → Option (List ℕ)) (has_failed : S → Bool) (So : List ℕ → Type 0) (old : Gateway S) (event : Event) (answer : Result (Unit {0}) StepFault)
+    (new : Gateway S) → (x : StepsSeats taken has_failed (policy_view old.policy) old.seats.items (event_view event) answer (policy_view new.policy) new.seats.items) →
+    ((answer ≡ Err (Link WriteFailed) → ⊥) → So x.0.reports) → IsStepOf taken has_failed So old event answer new
+step_of taken has_failed So old event answer new h so = record { added = h.0; step = h.1; took = h.2; noted = so }
 
 -- ---- lending
 

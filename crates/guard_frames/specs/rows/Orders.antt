@@ -4,12 +4,10 @@
 --     Small ::= Order (WITH COMPONENTS { qty (1..9) })
 --
 -- One rule lets the small orders of north to south through.
-use Rattle.std.specs.Prelude.{◌≡◌, ℕ, pos, false, List, [], ◌∷◌, ◌++◌, codes, None, refl}
+use Rattle.std.specs.Prelude.{◌≡◌, ℕ, suc, pos, false, List, [], ◌∷◌, ◌++◌, codes, None, refl}
 use Rattle.std.proofs.Common.{inl, inr}
 use Rattle.std.specs.Fmt.{digits}
-use Rattle.guard_model.specs.declared.site.Site.{Site}
 use Rattle.guard_model.specs.declared.site.Step.TheVariants.{Component}
-use Rattle.guard_model.specs.declared.ty.Limit.TheVariants.{At}
 use Rattle.guard_model.specs.AbstractType as type
 use Rattle.guard_model.specs.AbstractType.{AbstractType, Components, Constraints, no_components, component, at, no_constraints, constraint}
 use Rattle.guard_model.specs.AbstractValue as value
@@ -22,6 +20,10 @@ use Rattle.guard_policy.specs.Policies.{AbstractPolicy}
 use Rattle.guard_policy.specs.Verdicts.{AbstractVerdict, not_allowed}
 use Rattle.guard_frames.specs.Bodies.{AbstractBody}
 use Rattle.guard_frames.specs.Headline.{MayGo, IsLineOf}
+use Rattle.guard_frames.specs.OfPolicy.{gives_of}
+use Rattle.guard_frames.specs.Reasons.{AreNoted}
+use Rattle.guard_frames.specs.declared.why.Reason.TheVariants.{NotAllowed}
+use Rattle.guard_frames.specs.declared.why.Why.TheVariants.{BadHeader, Decided}
 
 abbrev components : Components
 components = component (codes "qty") (plain 2 (type.integer [])) type.mandatory no_components
@@ -92,3 +94,25 @@ fifty_stays = inl (
   record { joined = refl; names = record { sender = refl; receiver = refl; name = refl } },
   inl (reason, inr (order_type no_constraints, refl, inr (order 50, refl, refl, refl)), refl),
 )
+
+abbrev line : List ℕ
+line = codes "2 north>south order not-allowed small Orders:1:40 $.qty\n"
+
+-- its line gives the reason `not-allowed`
+fifty_gives : gives_of policy NotAllowed line
+unfolding fewest unsigned_octets signed_octets identifier_octets length_octets element digits
+fifty_gives = (
+  2,
+  body 50,
+  reason,
+  record { sender = refl; receiver = refl; name = refl },
+  inr (order_type no_constraints, refl, inr (order 50, refl, refl, refl)),
+  refl,
+  refl,
+)
+
+-- two lines, of each of which it is noted that there is one more
+two_noted : AreNoted (gives_of policy) (λ n why m. m ≡ suc n) 0 (BadHeader ∷ Decided NotAllowed ∷ [])
+    (codes "1 bad-header\n" ++ line) 2
+unfolding digits
+two_noted = (codes "1 bad-header\n", line, refl, (1, refl), 1, refl, (line, [], refl, fifty_gives, 2, refl, (refl, refl)))

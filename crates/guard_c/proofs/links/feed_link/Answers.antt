@@ -20,5 +20,6 @@ returns c =
     inr (took p (held_link_view old) c.args.piece.now (held_link_view new) c.args.room (kept_octets c.new-sent.result) (kept_octets c.feed-answer.new.out)
     c.status_of.result c.feed-answer.result c.new-sent.ensures.empty large c.status_of.ensures
     (fed_of (decision_of p) (link_view old.link) c.args.piece.now c.feed-answer.result (link_view c.feed-answer.new.self)
-    (Some (kept_octets c.new-sent.result)) (Some (kept_octets c.feed-answer.new.out)) (Some (kept_octets old.reports)) (Some (kept_octets c.feed-answer.new.reports)) h.open
+    (Some (kept_octets c.new-sent.result)) (Some (kept_octets c.feed-answer.new.out)) (Some (kept_octets old.reports)) (Some (kept_octets c.feed-answer.new.reports))
+    (λ is. let x = h.open is in (x.0, x.1, x.2))
     (λ is. ((h.shut is).0, ap link_view (h.shut is).1, ap (λ k. Some (kept_octets k)) (h.shut is).2, ap (λ k. Some (kept_octets k)) (h.shut is).3))))

@@ -1,13 +1,14 @@
-use Rattle.std.proofs.Common.{ℕ, ◌-◌, sym, subst, take, drop}
+use Rattle.std.proofs.Common.{◌++◌, ℕ, List, ◌-◌, sym, subst, take, drop}
+use Rattle.std.proofs.lemmas.Result.{err_from_is_err_and}
 use Rattle.guard_frames.specs.Totals.{next_number}
-use Rattle.guard_frames.specs.Outcomes.{staying}
 use Rattle.guard_frames.specs.Added.{nothing}
-use Rattle.guard_frames.specs.Guarding.{Adds}
-use Rattle.guard_frames.specs.Judged.{report_line}
+use Rattle.guard_frames.specs.Reasons.{Noted}
 use Rattle.guard_frames.proofs.Asking.{asks_none, asks_trans}
 use Rattle.guard_frames.proofs.Appending.{sent_more, reported_more, both_none, both_sent, both_reported}
-use Rattle.guard_frames.proofs.Steps.{on_err_of, first_at, at_last}
-use Rattle.guard_frames.proofs.Waits.{no_lines, at_start, frames_put, frames_break, goes_next, line_breaks, stays_next}
+use Rattle.guard_frames.proofs.Noting.{noted_none, noted_report}
+use Rattle.guard_frames.proofs.Reporting.{adds_line}
+use Rattle.guard_frames.proofs.Steps.{first_at, at_last}
+use Rattle.guard_frames.proofs.Waits.{no_lines, at_start, frames_put, broken_out, text_alone, goes_next, line_breaks, stays_next}
 use Rattle.guard_frames.proofs.putting.put_frames.Goals as goal
 
 pub loop-frame-init : goal.loop-frame-init
@@ -17,18 +18,24 @@ loop-frame-init g c = (
   both_none _ _,
   asks_none _,
   no_lines c.none-waiting.result.lines.items c.none-waiting.ensures,
+  subst (λ (x : List ℕ). Noted (g.D.Decide.gives c.args.policy.now) g.W.Watch.notes c.args.watch.now x c.args.watch.now)
+      (sym c.none-waiting.ensures) (noted_none _ (g.D.Decide.gives c.args.policy.now) g.W.Watch.notes c.args.watch.now),
 )
 
 -- ---- no whole frame is left
 
-pub returns-in_err-put_all-in-Rest-clause-failure : goal.returns-in_err-put_all-in-Rest-clause-failure
-returns-in_err-put_all-in-Rest-clause-failure g c =
+pub returns-in_err-put_going-in-Rest-clause-failure : goal.returns-in_err-put_going-in-Rest-clause-failure
+returns-in_err-put_going-in-Rest-clause-failure g c =
     let d = g.D.Decide.decides c.args.policy.now in
     let h = c.loop-frame.invariant in
-    let p = c.in_err-put_all-in-Rest.ensures.part in
-    on_err_of c.from_residual.result (
+    let p = c.in_err-put_going-in-Rest.ensures.part in
+    let e = err_from_is_err_and c.from_residual.result c.from_residual.ensures.1 in
+    rw (e.1, e.2) (
       sent_more h.0 p.0,
-      frames_break d c.args.totals c.loop-frame.totals c.args.octets.now c.loop-frame.waiting.lines.items p.0 c.loop-frame.sent c.loop-frame.end h.0 h.1 p.1,
+      broken_out d c.args.totals c.loop-frame.totals c.loop-frame.before _ c.args.octets.now c.loop-frame.waiting.lines.items p.0
+          c.loop-frame.sent c.loop-frame.end h.0
+          (λ (x : List ℕ). Noted (g.D.Decide.gives c.args.policy.now) g.W.Watch.notes c.args.watch.now x c.loop-frame.watch)
+          h.1 p.1 p.3 h.5,
       both_sent _ _ _ _ _ h.0 p.0 h.2 p.2,
     )
 
@@ -42,10 +49,11 @@ returns-in_err-put-in-Rest-clause-failure g c =
     let s = c.args.octets.now in
     let waiting = take (c.loop-frame.end - c.loop-frame.sent) (drop c.loop-frame.sent s) in
     let p = c.in_err-put-in-Rest.ensures.part in
-    on_err_of c.from_residual-in_err-put-in-Rest.result (
+    let e = err_from_is_err_and c.from_residual-in_err-put-in-Rest.result c.from_residual-in_err-put-in-Rest.ensures.1 in
+    rw (e.1, e.2) (
       reported_more (sent_more h.0 waiting) p.0,
-      frames_put d c.args.totals c.loop-frame.totals s c.loop-frame.waiting.lines.items c.loop-frame.sent c.loop-frame.end h.0 h.1 p.0 p.1,
-      both_reported _ _ _ _ _ (sent_more h.0 waiting) p.0 (both_sent _ _ _ _ _ h.0 waiting h.2 c.in_ok-put_all-in-Rest.ensures.all) p.2,
+      frames_put d c.args.totals c.loop-frame.totals c.loop-frame.before s c.loop-frame.waiting.lines.items c.loop-frame.sent c.loop-frame.end h.0 h.1 p.0 p.1,
+      both_reported _ _ _ _ _ (sent_more h.0 waiting) p.0 (both_sent _ _ _ _ _ h.0 waiting h.2 c.in_ok-put_going-in-Rest.ensures.all) p.2,
     )
 
 pub returns-in-Rest-clause-whole : goal.returns-in-Rest-clause-whole
@@ -55,9 +63,10 @@ returns-in-Rest-clause-whole g c =
     let s = c.args.octets.now in
     let waiting = take (c.loop-frame.end - c.loop-frame.sent) (drop c.loop-frame.sent s) in (
       reported_more (sent_more h.0 waiting) c.loop-frame.waiting.lines.items,
-      at_last d c.args.totals c.loop-frame.totals s c.loop-frame.sent c.loop-frame.end c.in-Rest.rest (reported_more h.0 c.loop-frame.waiting.lines.items) h.1.so_far c.in-Rest.ensures,
-      both_reported _ _ _ _ _ (sent_more h.0 waiting) c.loop-frame.waiting.lines.items (both_sent _ _ _ _ _ h.0 waiting h.2 c.in_ok-put_all-in-Rest.ensures.all)
+      at_last d c.args.totals c.loop-frame.totals c.loop-frame.before s c.loop-frame.sent c.loop-frame.end c.in-Rest.rest (reported_more h.0 c.loop-frame.waiting.lines.items) h.1.so_far c.in-Rest.ensures,
+      both_reported _ _ _ _ _ (sent_more h.0 waiting) c.loop-frame.waiting.lines.items (both_sent _ _ _ _ _ h.0 waiting h.2 c.in_ok-put_going-in-Rest.ensures.all)
           c.in_ok-put-in-Rest.ensures.all,
+      h.5,
     )
 
 -- ---- a frame goes
@@ -69,7 +78,8 @@ pub returns-in_err-put-in-Goes-clause-failure : goal.returns-in_err-put-in-Goes-
 returns-in_err-put-in-Goes-clause-failure g c =
     let h = c.loop-frame.invariant in
     let p = c.in_err-put-in-Goes.ensures.part in
-    on_err_of c.from_residual-in_err-put-in-Goes.result
+    let e = err_from_is_err_and c.from_residual-in_err-put-in-Goes.result c.from_residual-in_err-put-in-Goes.ensures.1 in
+    rw (e.1, e.2)
     (reported_more h.0 p.0, h.1.breaks p.0 p.1, both_reported _ _ _ _ _ h.0 p.0 h.2 p.2)
 
 pub loop-frame-preserved-in-Goes : goal.loop-frame-preserved-in-Goes
@@ -80,23 +90,30 @@ loop-frame-preserved-in-Goes g c =
     let f = c.in-Frame.frame in
     let at = first_at s c.loop-frame.end f h.1.so_far.within c.in-Frame.ensures in (
       reported_more h.0 c.loop-frame.waiting.lines.items,
-      goes_next d c.args.totals c.loop-frame.totals c.after_going-totals.result s f.octets.now c.loop-frame.waiting.lines.items c.put-in-Goes.new.self.lines.items
+      goes_next d c.args.totals c.loop-frame.totals c.loop-frame.before c.after_going-totals.result s f.octets.now c.loop-frame.waiting.lines.items c.put-in-Goes.new.self.lines.items
           c.loop-frame.sent c.loop-frame.end h.0 h.1 at c.in-Goes.ensures.judged c.after_going-totals.ensures c.in_ok-put-in-Goes.ensures.none,
       both_reported _ _ _ _ _ h.0 c.loop-frame.waiting.lines.items h.2 c.in_ok-put-in-Goes.ensures.all,
       asks_trans _ _ _ h.3 c.in_ok-put-in-Goes.ensures.lines,
       no_lines c.put-in-Goes.new.self.lines.items c.in_ok-put-in-Goes.ensures.none,
+      subst (λ (x : List ℕ). Noted (g.D.Decide.gives c.args.policy.now) g.W.Watch.notes c.args.watch.now x c.loop-frame.watch)
+          (text_alone (h.0.reports ++ c.loop-frame.waiting.lines.items) c.put-in-Goes.new.self.lines.items c.in_ok-put-in-Goes.ensures.none)
+          h.5,
     )
 
 -- ---- a frame stays
 
-pub returns-in_err-put_all-in-Stopped-clause-failure : goal.returns-in_err-put_all-in-Stopped-clause-failure
-returns-in_err-put_all-in-Stopped-clause-failure g c =
+pub returns-in_err-put_going-in-Stopped-clause-failure : goal.returns-in_err-put_going-in-Stopped-clause-failure
+returns-in_err-put_going-in-Stopped-clause-failure g c =
     let d = g.D.Decide.decides c.args.policy.now in
     let h = c.loop-frame.invariant in
-    let p = c.in_err-put_all-in-Stopped.ensures.part in
-    on_err_of c.from_residual-in_err-put_all-in-Stopped.result (
+    let p = c.in_err-put_going-in-Stopped.ensures.part in
+    let e = err_from_is_err_and c.from_residual-in_err-put_going-in-Stopped.result c.from_residual-in_err-put_going-in-Stopped.ensures.1 in
+    rw (e.1, e.2) (
       sent_more h.0 p.0,
-      frames_break d c.args.totals c.loop-frame.totals c.args.octets.now c.loop-frame.waiting.lines.items p.0 c.loop-frame.sent c.loop-frame.end h.0 h.1 p.1,
+      broken_out d c.args.totals c.loop-frame.totals c.loop-frame.before _ c.args.octets.now c.loop-frame.waiting.lines.items p.0
+          c.loop-frame.sent c.loop-frame.end h.0
+          (λ (x : List ℕ). Noted (g.D.Decide.gives c.args.policy.now) g.W.Watch.notes c.args.watch.now x c.loop-frame.watch)
+          h.1 p.1 p.3 h.5,
       both_sent _ _ _ _ _ h.0 p.0 h.2 p.2,
     )
 
@@ -111,15 +128,14 @@ returns-in_err-add-in-Stopped-clause-failure g c =
     let f = c.in-Frame.frame in
     let at = first_at s c.loop-frame.end f h.1.so_far.within c.in-Frame.ensures in
     let waiting = take (c.loop-frame.end - c.loop-frame.sent) (drop c.loop-frame.sent s) in
-    let adds : Adds d (next_number c.loop-frame.totals) (staying f.octets.now) c.line_of.result.now =
-    subst (Adds d (next_number c.loop-frame.totals) (staying f.octets.now)) (sym c.line_of.ensures.line)
-    (subst (λ (k : ℕ). Adds d k (staying f.octets.now) (report_line c.next_number-number.result c.in-Stopped.report))
-    c.next_number-number.ensures c.in-Stopped.ensures.judged) in
+    let adds = adds_line d c.next_number-number.result (next_number c.loop-frame.totals) f.octets.now c.line_of.result.now c.in-Stopped.report
+    c.next_number-number.ensures c.line_of.ensures.line c.in-Stopped.ensures.judged in
     let p = c.in_err-add-in-Stopped.ensures.part in
-    on_err_of c.from_residual-in_err-add-in-Stopped.result (
+    let e = err_from_is_err_and c.from_residual-in_err-add-in-Stopped.result c.from_residual-in_err-add-in-Stopped.ensures.1 in
+    rw (e.1, e.2) (
       reported_more (sent_more h.0 waiting) p.0,
-      line_breaks d c.args.totals c.loop-frame.totals s f.octets.now c.loop-frame.waiting.lines.items c.line_of.result.now p.0 c.loop-frame.sent c.loop-frame.end h.0 h.1 at adds p.1,
-      both_reported _ _ _ _ _ (sent_more h.0 waiting) p.0 (both_sent _ _ _ _ _ h.0 waiting h.2 c.in_ok-put_all-in-Stopped.ensures.all) p.2,
+      line_breaks d c.args.totals c.loop-frame.totals c.loop-frame.before s f.octets.now c.loop-frame.waiting.lines.items c.line_of.result.now p.0 c.loop-frame.sent c.loop-frame.end h.0 h.1 at adds p.1,
+      both_reported _ _ _ _ _ (sent_more h.0 waiting) p.0 (both_sent _ _ _ _ _ h.0 waiting h.2 c.in_ok-put_going-in-Stopped.ensures.all) p.2,
     )
 
 pub loop-frame-preserved-in_ok-add-in-Stopped : goal.loop-frame-preserved-in_ok-add-in-Stopped
@@ -130,17 +146,18 @@ loop-frame-preserved-in_ok-add-in-Stopped g c =
     let f = c.in-Frame.frame in
     let at = first_at s c.loop-frame.end f h.1.so_far.within c.in-Frame.ensures in
     let waiting = take (c.loop-frame.end - c.loop-frame.sent) (drop c.loop-frame.sent s) in
-    let adds : Adds d (next_number c.loop-frame.totals) (staying f.octets.now) c.line_of.result.now =
-    subst (Adds d (next_number c.loop-frame.totals) (staying f.octets.now)) (sym c.line_of.ensures.line)
-    (subst (λ (k : ℕ). Adds d k (staying f.octets.now) (report_line c.next_number-number.result c.in-Stopped.report))
-    c.next_number-number.ensures c.in-Stopped.ensures.judged) in
+    let adds = adds_line d c.next_number-number.result (next_number c.loop-frame.totals) f.octets.now c.line_of.result.now c.in-Stopped.report
+    c.next_number-number.ensures c.line_of.ensures.line c.in-Stopped.ensures.judged in
     let q = c.in_ok-add-in-Stopped.ensures.all in (
       reported_more (sent_more h.0 waiting) q.0,
-      stays_next d c.args.totals c.loop-frame.totals c.after_staying-totals.result s f.octets.now c.loop-frame.waiting.lines.items c.line_of.result.now q.0
+      stays_next d c.args.totals c.loop-frame.totals c.loop-frame.before c.after_staying-totals.result s f.octets.now c.loop-frame.waiting.lines.items c.line_of.result.now q.0
           c.add.new.self.lines.items c.loop-frame.sent c.loop-frame.end h.0 h.1 at adds c.after_staying-totals.ensures q.1,
-      both_reported _ _ _ _ _ (sent_more h.0 waiting) q.0 (both_sent _ _ _ _ _ h.0 waiting h.2 c.in_ok-put_all-in-Stopped.ensures.all) q.2,
+      both_reported _ _ _ _ _ (sent_more h.0 waiting) q.0 (both_sent _ _ _ _ _ h.0 waiting h.2 c.in_ok-put_going-in-Stopped.ensures.all) q.2,
       asks_trans _ _ _ h.3 c.in_ok-add-in-Stopped.ensures.lines,
       c.in_ok-add-in-Stopped.ensures.waiting,
+      noted_report _ (g.D.Decide.gives c.args.policy.now) g.W.Watch.notes c.args.watch.now c.loop-frame.watch c.stays.new.self
+          c.next_number-number.result c.in-Stopped.report h.0.reports c.loop-frame.waiting.lines.items c.line_of.result.now q.0
+          c.add.new.self.lines.items c.line_of.ensures.line c.in-Stopped.ensures.gives h.5 (rw c.why.ensures at c.stays.ensures) q.1,
     )
 
 pub loop-frame-preserved : goal.loop-frame-preserved
@@ -151,23 +168,24 @@ loop-frame-preserved g c =
     let f = c.in-Frame.frame in
     let at = first_at s c.loop-frame.end f h.1.so_far.within c.in-Frame.ensures in
     let waiting = take (c.loop-frame.end - c.loop-frame.sent) (drop c.loop-frame.sent s) in
-    let adds : Adds d (next_number c.loop-frame.totals) (staying f.octets.now) c.line_of.result.now =
-    subst (Adds d (next_number c.loop-frame.totals) (staying f.octets.now)) (sym c.line_of.ensures.line)
-    (subst (λ (k : ℕ). Adds d k (staying f.octets.now) (report_line c.next_number-number.result c.in-Stopped.report))
-    c.next_number-number.ensures c.in-Stopped.ensures.judged) in
+    let adds = adds_line d c.next_number-number.result (next_number c.loop-frame.totals) f.octets.now c.line_of.result.now c.in-Stopped.report
+    c.next_number-number.ensures c.line_of.ensures.line c.in-Stopped.ensures.judged in
     let q = c.in_ok-add-in-Stopped.ensures.all in (
       reported_more (sent_more h.0 waiting) q.0,
-      stays_next d c.args.totals c.loop-frame.totals c.after_staying-totals.result s f.octets.now c.loop-frame.waiting.lines.items c.line_of.result.now q.0
+      stays_next d c.args.totals c.loop-frame.totals c.loop-frame.before c.after_staying-totals.result s f.octets.now c.loop-frame.waiting.lines.items c.line_of.result.now q.0
           c.add.new.self.lines.items c.loop-frame.sent c.loop-frame.end h.0 h.1 at adds c.after_staying-totals.ensures q.1,
-      both_reported _ _ _ _ _ (sent_more h.0 waiting) q.0 (both_sent _ _ _ _ _ h.0 waiting h.2 c.in_ok-put_all-in-Stopped.ensures.all) q.2,
+      both_reported _ _ _ _ _ (sent_more h.0 waiting) q.0 (both_sent _ _ _ _ _ h.0 waiting h.2 c.in_ok-put_going-in-Stopped.ensures.all) q.2,
       asks_trans _ _ _ h.3 c.in_ok-add-in-Stopped.ensures.lines,
       c.in_ok-add-in-Stopped.ensures.waiting,
+      noted_report _ (g.D.Decide.gives c.args.policy.now) g.W.Watch.notes c.args.watch.now c.loop-frame.watch c.stays.new.self
+          c.next_number-number.result c.in-Stopped.report h.0.reports c.loop-frame.waiting.lines.items c.line_of.result.now q.0
+          c.add.new.self.lines.items c.line_of.ensures.line c.in-Stopped.ensures.gives h.5 (rw c.why.ensures at c.stays.ensures) q.1,
     )
 
 -- ---- each call ends a line
 
-pub returns-in_err-put_all-in-Rest-clause-lines : goal.returns-in_err-put_all-in-Rest-clause-lines
-returns-in_err-put_all-in-Rest-clause-lines g c = c.loop-frame.invariant.3
+pub returns-in_err-put_going-in-Rest-clause-lines : goal.returns-in_err-put_going-in-Rest-clause-lines
+returns-in_err-put_going-in-Rest-clause-lines g c = c.loop-frame.invariant.3
 
 pub returns-in_err-put-in-Rest-clause-lines : goal.returns-in_err-put-in-Rest-clause-lines
 returns-in_err-put-in-Rest-clause-lines g c =
@@ -181,9 +199,36 @@ pub returns-in_err-put-in-Goes-clause-lines : goal.returns-in_err-put-in-Goes-cl
 returns-in_err-put-in-Goes-clause-lines g c =
     asks_trans _ _ _ c.loop-frame.invariant.3 c.in_err-put-in-Goes.ensures.lines
 
-pub returns-in_err-put_all-in-Stopped-clause-lines : goal.returns-in_err-put_all-in-Stopped-clause-lines
-returns-in_err-put_all-in-Stopped-clause-lines g c = c.loop-frame.invariant.3
+pub returns-in_err-put_going-in-Stopped-clause-lines : goal.returns-in_err-put_going-in-Stopped-clause-lines
+returns-in_err-put_going-in-Stopped-clause-lines g c = c.loop-frame.invariant.3
 
 pub returns-in_err-add-in-Stopped-clause-lines : goal.returns-in_err-add-in-Stopped-clause-lines
 returns-in_err-add-in-Stopped-clause-lines g c =
     asks_trans _ _ _ c.loop-frame.invariant.3 c.in_err-add-in-Stopped.ensures.lines
+
+-- ---- which sink failed
+
+pub returns-in_err-put_going-in-Rest-clause-failed : goal.returns-in_err-put_going-in-Rest-clause-failed
+returns-in_err-put_going-in-Rest-clause-failed g c =
+    let e = err_from_is_err_and c.from_residual.result c.from_residual.ensures.1 in
+    rw (e.1, e.2) c.in_err-put_going-in-Rest.ensures.failed
+
+pub returns-in_err-put-in-Rest-clause-failed : goal.returns-in_err-put-in-Rest-clause-failed
+returns-in_err-put-in-Rest-clause-failed g c =
+    let e = err_from_is_err_and c.from_residual-in_err-put-in-Rest.result c.from_residual-in_err-put-in-Rest.ensures.1 in
+    rw (e.1, e.2) c.in_err-put-in-Rest.ensures.failed
+
+pub returns-in_err-put-in-Goes-clause-failed : goal.returns-in_err-put-in-Goes-clause-failed
+returns-in_err-put-in-Goes-clause-failed g c =
+    let e = err_from_is_err_and c.from_residual-in_err-put-in-Goes.result c.from_residual-in_err-put-in-Goes.ensures.1 in
+    rw (e.1, e.2) c.in_err-put-in-Goes.ensures.failed
+
+pub returns-in_err-put_going-in-Stopped-clause-failed : goal.returns-in_err-put_going-in-Stopped-clause-failed
+returns-in_err-put_going-in-Stopped-clause-failed g c =
+    let e = err_from_is_err_and c.from_residual-in_err-put_going-in-Stopped.result c.from_residual-in_err-put_going-in-Stopped.ensures.1 in
+    rw (e.1, e.2) c.in_err-put_going-in-Stopped.ensures.failed
+
+pub returns-in_err-add-in-Stopped-clause-failed : goal.returns-in_err-add-in-Stopped-clause-failed
+returns-in_err-add-in-Stopped-clause-failed g c =
+    let e = err_from_is_err_and c.from_residual-in_err-add-in-Stopped.result c.from_residual-in_err-add-in-Stopped.ensures.1 in
+    rw (e.1, e.2) c.in_err-add-in-Stopped.ensures.failed

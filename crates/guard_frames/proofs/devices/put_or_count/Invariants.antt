@@ -1,7 +1,7 @@
 use Rattle.std.proofs.Common.{length, ◌-◌, ◌≤◌, take}
 use Rattle.std.specs.Io.KnownBytes.{Appends}
 use Rattle.guard_frames.specs.Calls.{EndsLine, AsksLines}
-use Rattle.guard_frames.proofs.devices.put_all.Given as goal
+use Rattle.guard_frames.proofs.devices.put_or_count.Given as goal
 
 abbrev pub invariant-loop-sent : goal.invariant-loop-sent
 invariant-loop-sent g l = record {

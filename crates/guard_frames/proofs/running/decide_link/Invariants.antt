@@ -5,8 +5,9 @@ use Rattle.guard_frames.specs.Totals.{no_frames, WentUpBy}
 use Rattle.guard_frames.specs.Added.{Added, BothAppend}
 use Rattle.guard_frames.specs.Calls.{AsksLines}
 use Rattle.guard_frames.specs.Feeding.{Decides}
+use Rattle.guard_frames.specs.Reasons.{Noted}
 use Rattle.guard_frames.specs.Runs.{CameInPieces}
-use Rattle.guard_frames.proofs.running.decide_stream.Given as goal
+use Rattle.guard_frames.proofs.running.decide_link.Given as goal
 
 abbrev pub invariant-loop : goal.invariant-loop
 invariant-loop g l = record {
@@ -17,6 +18,7 @@ invariant-loop g l = record {
       × BothAppend (g.O.Sink.taken l.initial.out, g.O.Sink.taken l.out)
       (g.R.Sink.taken l.initial.reports, g.R.Sink.taken l.reports) added
       × Decides (g.D.Decide.decides l.policy) no_frames read l.link.held.items l.link.totals added × IsUnfinished l.link.held.items
-      × CameInPieces l.counter read;
+      × CameInPieces l.counter read
+      × Noted (g.D.Decide.gives l.policy) g.W.Watch.notes l.initial.watch added.reports l.watch;
   lines : AsksLines (g.R.Sink.asked l.initial.reports) (g.R.Sink.asked l.reports);
 }

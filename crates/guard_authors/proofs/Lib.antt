@@ -11,4 +11,3 @@ pub mod SummaryLines
 pub mod FramesCompared
 pub mod PiecesStopped
 pub mod PlacesTaken
-pub mod TextsJoined

@@ -32,7 +32,7 @@ module _ (room : List ℕ) (body : ℕ) (four : 4 ≤ length room) (stated : bod
   -- and fewer octets behind them than they say
   pub torn_read : (a b c : Option (List ℕ)) (part : List ℕ) → body ≤ 1048576 → length part < body
       → Consumes a b (take 4 room) → Consumes b c part
-      → (rest : List ℕ) × Consumes a c rest × (0 < length rest) × IsUnfinished rest × (length rest ≡ 4 + length part)
+      → (rest : List ℕ) × Consumes a c rest × (0 < length rest) × IsUnfinished rest
   torn_read a b c part allowed few p q =
       let same : stated_length (take 4 room ++ part) ≡ stated_length (take 4 room) =
       stated_length-append (take 4 room) part (omega (arith, long)) in
@@ -44,7 +44,6 @@ module _ (room : List ℕ) (body : ℕ) (four : 4 ≤ length room) (stated : bod
           allowed = λ h. omega (arith, same, stated, allowed);
           short = λ h. omega (arith, same, stated, few, size, long);
         },
-        omega (arith, size, long),
       )
 
   -- and as many as they say

@@ -6,6 +6,7 @@ pub mod ExplainedFaults
 pub mod Adding
 pub mod AllowingLaws
 pub mod LoadedTexts
+pub mod TextsJoined
 pub mod RecordLaws
 pub mod RecordReading
 pub mod FramesRead

@@ -61,8 +61,9 @@ say_nothing modules text (texts.Policy f) h = inl h
 say_nothing modules text (texts.Run f) h = absurd h
 say_nothing modules text texts.OutOfMemory h = inr refl
 
-pub none_said : (told : Told) (path text : List ℕ) (modules : List (List ℕ)) → AreTexts told path text modules → (f : TextsFault) → SayNone modules text f → IsNoPolicyAt told path (of_texts f)
-none_said told path text modules are f h = elim (say_nothing modules text f h) [
+pub not_said : (told : Told) (path text : List ℕ) (modules : List (List ℕ)) → AreTexts told path text modules → (f : Fault)
+    → SayNothing modules text f ⊎ (f ≡ NoMemory) → IsNoPolicyAt told path f
+not_said told path text modules are f h = elim h [
   | inl none ↦ inr (inl (text, modules, are, none))
   | inr e ↦ inr (inr e)
 ]

@@ -1,6 +1,6 @@
 -- Words of a text, as a loop over its octets finds them.
-use Rattle.std.proofs.Common.{◌≡◌, ◌∙◌, ◌<◌, ◌≤◌, ℕ, zero, suc, true, false, cond, List, [], ◌∷◌, ap, refl, sym, subst, length, take, drop, get_or, nat_eq, arith}
-use Rattle.guard_files.specs.Word.{first_word, after_word}
+use Rattle.std.proofs.Common.{◌≡◌, ◌∙◌, ◌<◌, ◌≤◌, ℕ, zero, suc, true, false, cond, List, [], ◌∷◌, ap, refl, sym, subst, length, take, get_or, nat_eq, arith}
+use Rattle.guard_files.specs.Word.{first_word}
 
 eq_true : (o : ℕ) → o ≡ 32 → nat_eq o 32 ≡ true
 eq_true o e = subst (λ (n : ℕ). nat_eq n 32 ≡ true) (sym e) refl
@@ -20,13 +20,3 @@ word_before (o ∷ text) (suc end) within before there =
     ap (λ (s : List ℕ). o ∷ s) (word_before text end (omega (arith, within)) (λ k h. before (suc k) (omega (arith, h)))
     (λ h. there (omega (arith, h))))
     ∙ sym (ap (λ b. cond b [] (o ∷ first_word text)) (eq_false o (before 0 (omega arith))))
-
-pub word_behind : (text : List ℕ) (end : ℕ) → end ≤ length text → ((k : ℕ) → k < end → get_or text k 0 ≡ 32 → ⊥)
-    → (end < length text → get_or text end 0 ≡ 32) → drop (suc end) text ≡ after_word text
-word_behind [] end within before there = refl
-word_behind (o ∷ text) zero within before there =
-    sym (ap (λ b. cond b text (after_word text)) (eq_true o (there (omega arith))))
-word_behind (o ∷ text) (suc end) within before there =
-    word_behind text end (omega (arith, within)) (λ k h. before (suc k) (omega (arith, h)))
-    (λ h. there (omega (arith, h)))
-    ∙ sym (ap (λ b. cond b text (after_word text)) (eq_false o (before 0 (omega arith))))

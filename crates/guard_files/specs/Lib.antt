@@ -2,6 +2,7 @@
 pub mod Files
 pub mod Faults
 pub mod Reading
+pub mod Digest
 -- ---- what is answered
 pub mod Answers
 -- ---- what goes to the outputs, and the status

@@ -3,7 +3,7 @@ use Rattle.std.specs.Prelude.{◌≡◌, ◌<◌, ◌⊎◌, ℕ, Bool, true, Li
 use Rattle.std.specs.Io.KnownBytes.{IsAtEnd}
 use Rattle.guard_frames.specs.declared.running.RunFault.{RunFault}
 use Rattle.guard_frames.specs.declared.running.RunFault.TheVariants.{FrameTooLong, WriteFailed, TornFrame, ReadFailed, OutOfMemory}
-use Rattle.guard_frames.specs.Frames.{IsTooLong, IsUnfinished, stated_length}
+use Rattle.guard_frames.specs.Frames.{IsTooLong, IsUnfinished}
 use Rattle.guard_frames.specs.Totals.{WentUpBy}
 use Rattle.guard_files.specs.Devices.{Input}
 
@@ -14,14 +14,6 @@ IsNoFrame TornFrame rest AtEnd failed reads = (0 < length rest) × IsUnfinished 
 IsNoFrame ReadFailed rest AtEnd failed reads = IsUnfinished rest × ((failed ≡ true) ⊎ (reads ≡ 0))
 IsNoFrame WriteFailed rest AtEnd failed reads = ⊥
 IsNoFrame OutOfMemory rest AtEnd failed reads = ⊥
-
--- how much of a frame there is: the length that is too long, or how many octets of one that is torn
-abbrev pub IsLeft : RunFault → List ℕ → ℕ → Type 0
-IsLeft FrameTooLong rest left = left ≡ stated_length rest
-IsLeft TornFrame rest left = left ≡ length rest
-IsLeft ReadFailed rest left = Unit {0}
-IsLeft WriteFailed rest left = Unit {0}
-IsLeft OutOfMemory rest left = Unit {0}
 
 -- a length that no frame may have, and nothing behind it
 abbrev pub IsTooLongAlone : List ℕ → Type 0

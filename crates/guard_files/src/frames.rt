@@ -4,7 +4,7 @@ ghost use Rattle.std.specs.Prelude.{drop, IfOk, IfErr, IfSome, OnErr, true, ◌�
 ghost use Rattle.std.specs.Io.KnownBytes.{Consumes, IsAtEnd};
 ghost use Rattle.guard_frames.specs.Frames.{IsFrame};
 ghost use Rattle.guard_frames.specs.Totals.{WentUpBy};
-ghost use Rattle.guard_files.specs.NextFrame.{IsNoFrame, IsLeft};
+ghost use Rattle.guard_files.specs.NextFrame.{IsNoFrame};
 ghost use Rattle.guard_files.specs.declared.stop.Stop.TheVariants as stop;
 
 use crate::records::fill_front;
@@ -20,20 +20,6 @@ pub fn new_frame_room(alloc: Global) -> Result<Vec<u8>, OutOfMemory>
     let size = LONGEST_FRAME;
     Ok(vec![in alloc; 0u8; size]?)
 }
-
-/// Why there is no next frame, and how much of one there is: the length that is too long, or how many octets came of a
-/// frame that is torn.
-#[derive(Clone, Copy, Debug, PartialEq, Eq)]
-pub struct NoFrame {
-    pub fault: RunFault,
-    pub left: usize,
-}
-
-/// The source failed, or was asked too often.
-const UNREAD: NoFrame = NoFrame {
-    fault: RunFault::ReadFailed,
-    left: 0,
-};
 
 /// The size of the next frame, whose octets are the first ones in the room then; none where the source has ended.
 /// Nothing is read of what follows the frame, and of one that is too long nothing but its length. It fails with F1, F4
@@ -53,59 +39,26 @@ pub fn next_frame<S: Source>(
     ensures counted { WentUpBy (S.takes source.old) (reads.old - reads.new) (S.takes source.new) }
     ensures fewer { reads.new ≤ reads.old }
 {
-    match frame_or_rest(source, room, reads) {
-        Ok(found) => Ok(found),
-        Err(none) => Err(none.fault),
-    }
-}
-
-/// The next frame of the source; or how much of a frame there is where there is none. Condition: the room has 1,048,580
-/// octets.
-pub fn frame_or_rest<S: Source>(
-    source: &mut S,
-    room: &mut [u8],
-    reads: &mut u64,
-) -> Result<Option<usize>, NoFrame>
-    requires { length room.old ≡ 1048580 }
-    ensures frame { IfOk result (λ found. IfSome found (λ n. (n ≤ 1048580) × IsFrame (take n room.new)
-        × (reads.new < reads.old) × Consumes (S.tells source.old) (S.tells source.new) (take n room.new))) }
-    ensures end { IfOk result (λ found. found ≡ None →
-        Consumes (S.tells source.old) (S.tells source.new) [] × IsAtEnd (S.tells source.new)) }
-    ensures none { IfErr result (λ f. (rest : List ℕ) × Consumes (S.tells source.old) (S.tells source.new) rest
-        × IsNoFrame f.fault rest (IsAtEnd (S.tells source.new)) (S.has_failed source.new) reads.new
-        × IsLeft f.fault rest f.left) }
-    ensures counted { WentUpBy (S.takes source.old) (reads.old - reads.new) (S.takes source.new) }
-    ensures fewer { reads.new ≤ reads.old }
-{
     let count = match fill_front(source, room, LENGTH_OCTETS, reads) {
         Ok(count) => count,
-        Err(_) => return Err(UNREAD),
+        Err(_) => return Err(RunFault::ReadFailed),
     };
     if count == 0 {
         return Ok(None);
     }
     if count < LENGTH_OCTETS {
-        return Err(NoFrame {
-            fault: RunFault::TornFrame,
-            left: count,
-        });
+        return Err(RunFault::TornFrame);
     }
     let body = body_length(&room[..LENGTH_OCTETS]);
     if body > LONGEST_BODY {
-        return Err(NoFrame {
-            fault: RunFault::FrameTooLong,
-            left: body,
-        });
+        return Err(RunFault::FrameTooLong);
     }
     let behind = match fill_body(source, room, body, reads) {
         Ok(behind) => behind,
-        Err(_) => return Err(UNREAD),
+        Err(_) => return Err(RunFault::ReadFailed),
     };
     if behind < body {
-        return Err(NoFrame {
-            fault: RunFault::TornFrame,
-            left: behind + LENGTH_OCTETS,
-        });
+        return Err(RunFault::TornFrame);
     }
     Ok(Some(body + LENGTH_OCTETS))
 }

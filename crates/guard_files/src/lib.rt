@@ -8,6 +8,7 @@
 //! | How is a frame read? | `frames.rt` | `specs/NextFrame.antt` |
 //! | What is a record, and how is it read? | `records.rt` | `specs/Records.antt`, `specs/Headers.antt` |
 //! | Which texts does a policy at a path need? | `texts.rt`, `files.rt` | `specs/Reading.antt`, `specs/Files.antt` |
+//! | Which number have the texts of a policy? | `digest.rt` | `specs/Digest.antt` |
 //! | What is a policy with its modules, in which values are written? | `loaded.rt` | `specs/Reading.antt` (`SayLoaded`) |
 //! | What is shown of a fault where it is to be explained? | `explaining.rt`, `guard_notes` | `specs/Explaining.antt` |
 //! | Which rules allow the value of a message? | `allowed.rt` | `specs/Allowed.antt` |
@@ -20,6 +21,7 @@
 
 mod allowed;
 mod answer;
+mod digest;
 mod explaining;
 mod fault;
 mod files;
@@ -38,14 +40,15 @@ mod word;
 
 pub use allowed::{allowing_octets, pass_note, value_of};
 pub use answer::{Answer, Remarked};
+pub use digest::digest_of;
 pub use explaining::{Refusal, sources_of, sources_of_path};
 pub use fault::Fault;
 pub use files::{Files, FilesFault, Obstacle};
-pub use frames::{NoFrame, frame_or_rest, new_frame_room, next_frame};
+pub use frames::{new_frame_room, next_frame};
 pub use giving::{give, give_explained};
 pub use intake::{Unread, read_all};
 pub use loaded::Loaded;
-pub use loading::{load, load_explained, read_explained, said_by};
+pub use loading::{load, load_explained, load_numbered, read_explained, said_by};
 pub use octets::{add, add_line};
 pub use outputs::{
     FAILED, report, tell, tell_bad_record, tell_failed_read, tell_failed_write, tell_line,
@@ -55,4 +58,4 @@ pub use records::{Header, LINKS, LONGEST_PIECE, new_room, next_record};
 pub use rule_text::add_said;
 pub use stop::Stop;
 pub use texts::{Texts, read, read_front};
-pub use word::{after_word, first_word};
+pub use word::first_word;

@@ -3,11 +3,13 @@ ghost use Rattle.std.specs.Prelude.{◌≡◌, ◌⊎◌, [], map, string_bytes,
 ghost use Rattle.guard_policy.specs.PolicyView.{policy_view};
 ghost use Rattle.guard_notes.specs.Sources.{sources};
 ghost use Rattle.guard_frames.specs.Texts.{SayPolicy};
+ghost use Rattle.guard_files.specs.Digest.{IsNumberedAt};
 ghost use Rattle.guard_files.specs.Explaining.{AreTextsOf, IsExplained, IsExplanation};
 ghost use Rattle.guard_files.specs.Files.{Told, HasText, after_read, IsLater};
 ghost use Rattle.guard_files.specs.Reading.{IsPolicyAt, IsNoPolicyAt, SayNothing};
 ghost use Rattle.guard_files.specs.declared.fault.Fault.TheVariants.{NoMemory};
 
+use crate::digest::digest_of;
 use crate::explaining::{Refusal, sources_of, sources_of_path};
 use crate::fault::Fault;
 use crate::files::Files;
@@ -25,9 +27,23 @@ pub fn load<F: Files>(alloc: Global, path: &str, files: &mut F) -> Result<Policy
     ensures none { IfErr result (IsNoPolicyAt (F.told files.old) path.now) }
     ensures later { IsLater (F.told files.old) (F.told files.new) }
 {
+    let (policy, _) = load_numbered(alloc, path, files)?;
+    Ok(policy)
+}
+
+/// The policy at the path, as `load` finds it, with the number of its texts.
+pub fn load_numbered<F: Files>(
+    alloc: Global,
+    path: &str,
+    files: &mut F,
+) -> Result<(Policy, [u8; 32]), Fault>
+    ensures there { IfOk result (λ p. IsNumberedAt (F.told files.old) path.now (policy_view p.0) p.1) }
+    ensures none { IfErr result (IsNoPolicyAt (F.told files.old) path.now) }
+    ensures later { IsLater (F.told files.old) (F.told files.new) }
+{
     let texts = Texts::read(alloc, path, files)?;
-    let modules = texts.module_slices(alloc)?;
-    Ok(load_texts(alloc, &modules, &texts.policy)?)
+    let policy = said_by(alloc, &texts)?;
+    Ok((policy, digest_of(&texts)))
 }
 
 /// The policy at the path, as `load` finds it; or why there is none, with what explains it.

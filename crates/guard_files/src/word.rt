@@ -1,24 +1,12 @@
-//! The first word of a text, and what is behind it.
+//! The first word of a text.
 ghost use Rattle.std.specs.Prelude.{◌≡◌, ◌≢◌, ◌<◌, ◌≤◌, ℕ, length, slice_index};
-ghost use Rattle.guard_files.specs.Word.{first_word, after_word};
+ghost use Rattle.guard_files.specs.Word.{first_word};
 
 /// The octets before the first space.
 pub fn first_word(text: &[u8]) -> &[u8]
     ensures { result.now ≡ first_word text.now }
 {
     &text[..word_end(text)]
-}
-
-/// The octets after the first space.
-pub fn after_word(text: &[u8]) -> &[u8]
-    ensures { result.now ≡ after_word text.now }
-{
-    let end = word_end(text);
-    if end < text.len() {
-        &text[end + 1..]
-    } else {
-        &[]
-    }
 }
 
 /// Where the first space is, or where the text ends.

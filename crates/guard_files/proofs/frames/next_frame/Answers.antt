@@ -1,7 +1,7 @@
 use Rattle.std.proofs.Common.{◌≡◌, ◌<◌, ◌≤◌, arith, length, take, drop}
 use Rattle.std.proofs.lemmas.List.{length-take-le, length-drop}
 use Rattle.guard_files.proofs.FramesRead.{head_read, torn_read}
-use Rattle.guard_files.proofs.frames.frame_or_rest.Goals as goal
+use Rattle.guard_files.proofs.frames.next_frame.Goals as goal
 
 pub returns-in-Err-fill_body-clause-none : goal.returns-in-Err-fill_body-clause-none
 returns-in-Err-fill_body-clause-none g c =
@@ -11,7 +11,7 @@ returns-in-Err-fill_body-clause-none g c =
     let lost = c.in-Err-fill_body.ensures.lost in
     let rest = torn_read room c.body_length-body.result four c.body_length-body.ensures.value _ _ _ lost.0
     c.if-body-gt-LONGEST_BODY.false lost.1 head lost.2 in
-    (rest.0, rest.1, (rest.3, c.in-Err-fill_body.ensures.failed.1), tt)
+    (rest.0, rest.1, (rest.3, c.in-Err-fill_body.ensures.failed.1))
 
 pub returns-then-behind-body-clause-none : goal.returns-then-behind-body-clause-none
 returns-then-behind-body-clause-none g c =
@@ -25,4 +25,4 @@ returns-then-behind-body-clause-none g c =
     let few : length part < c.body_length-body.result = omega (arith, c.if-behind-body.true, size) in
     let rest = torn_read room c.body_length-body.result four c.body_length-body.ensures.value _ _ _ part
     c.if-body-gt-LONGEST_BODY.false few head c.in-Ok-fill_body.ensures.given in
-    (rest.0, rest.1, (rest.2, rest.3, c.in-Ok-fill_body.ensures.end c.if-behind-body.true), omega (arith, rest.4, size))
+    (rest.0, rest.1, (rest.2, rest.3, c.in-Ok-fill_body.ensures.end c.if-behind-body.true))

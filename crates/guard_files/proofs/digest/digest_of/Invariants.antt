@@ -1,8 +1,8 @@
 use Rattle.std.proofs.Common.{◌++◌, ◌∷◌, [], map, take}
 use Rattle.std.specs.List.{concat}
 use Rattle.sha2.specs.Hashers.{Holds256}
-use Rattle.guard_authors.specs.Digested.{with_length}
-use Rattle.guard_authors.proofs.digesting.digest_of.Given as goal
+use Rattle.guard_files.specs.Digest.{with_length}
+use Rattle.guard_files.proofs.digest.digest_of.Given as goal
 
 abbrev pub invariant-loop-module : goal.invariant-loop-module
 invariant-loop-module l =

@@ -1,8 +1,8 @@
 use Rattle.std.proofs.Common.{Global, List, Vec, ℕ, subst}
 use Rattle.sha2.specs.Hashers.{Holds256}
-use Rattle.guard_authors.specs.Digested.{with_length}
-use Rattle.guard_authors.proofs.TextsJoined.{one_text_more}
-use Rattle.guard_authors.proofs.digesting.digest_of.Goals as goal
+use Rattle.guard_files.specs.Digest.{with_length}
+use Rattle.guard_files.proofs.TextsJoined.{one_text_more}
+use Rattle.guard_files.proofs.digest.digest_of.Goals as goal
 
 pub loop-module-preserved : goal.loop-module-preserved
 loop-module-preserved c =

@@ -42,7 +42,7 @@ are_turns path old (reload ∷ records) ws new (w, others, next, is, happens, re
     elim happens.0 [
       | inl renews ↦ let t : Turn = record { event = event.reload renews.policy; answer = Ok tt; added = nothing } in record {
         turns = t ∷ more.turns;
-        are = (w, others, next, is, happens, inl (t, more.turns, refl, (renews.policy, renews.read, refl, ap (λ (x : Written). x.out) renews.noted), more.are));
+        are = (w, others, next, is, happens, inl (t, more.turns, refl, (renews.policy, (renews.read.0, renews.read.1, renews.read.2, renews.read.3), refl, ap (λ (x : Written). x.out) renews.noted), more.are));
         steps = (next.gateway, renews.step, more.steps);
       }
       | inr keeps ↦ record {

@@ -3,9 +3,11 @@ use Rattle.std.proofs.Common.{◌≡◌, ◌∙◌, ◌≤◌, max, inl, inr, �
 use Rattle.std.specs.Prelude.{Option, Some, None, Result, Ok, Err}
 use Rattle.std.proofs.lemmas.Option.{none-some}
 use Rattle.std.specs.Io.KnownBytes.{Appends}
+use Rattle.guard_policy.specs.Policies.{AbstractPolicy}
 use Rattle.guard_frames.specs.declared.link.LinkFault.{LinkFault}
 use Rattle.guard_frames.specs.Added.{Added}
 use Rattle.guard_frames.specs.Gateways.{AbstractGateway, AbstractEvent}
+use Rattle.guard_frames.specs.LinkView.{AbstractLink}
 use Rattle.guard_frames.proofs.Appending.{Appends_is}
 use Rattle.guard_files.specs.declared.fault.Fault.{Fault}
 use Rattle.guard_files.specs.declared.fault.Fault.TheVariants.{BadHex, CannotRead, TooLarge, Schema, Policy, Run, NoMemory}
@@ -22,7 +24,7 @@ use Rattle.guard_streams.specs.Muxing.{GuardsLinks, TellsStop}
 use Rattle.guard_streams.specs.Passing.{marked, fault_line}
 use Rattle.guard_streams.specs.declared.seen.Seen.{Seen}
 use Rattle.guard_streams.specs.Tallying.{IsSeen}
-use Rattle.guard_streams.specs.Turns.{AbstractMux, Written, Happens, PassesOn, InTurn, all_err, status_of, link_status, renewed_note}
+use Rattle.guard_streams.specs.Turns.{AbstractMux, Written, Happens, PassesOn, InTurn, all_err, status_of, link_status, renewed_note, renewed_seen}
 use Rattle.guard_streams.proofs.Turning.{all_err-append, status_of-append}
 
 fault_most : (f : Fault) → fault_status f ≤ 3
@@ -104,30 +106,32 @@ happens_most : (path : List ℕ) (r : Record) (old new : AbstractMux) (w : Writt
     → w.status ≤ 3
 happens_most path (piece link octets) old new w h = passed_most link old.seen old.gateway new.gateway _ w h.0
 happens_most path (end link) old new w h = passed_most link old.seen old.gateway new.gateway _ w h.0
-happens_most path reload old new w (inl h, later, same) = let is : w.status ≡ 0 =
+happens_most path reload old new w (inl h, later) = let is : w.status ≡ 0 =
     ap (λ (x : Written). x.status) h.noted in omega (arith, is)
-happens_most path reload old new w (inr h, later, same) = line_most h.fault h.line w.status h.told
+happens_most path reload old new w (inr h, later) = line_most h.fault h.line w.status h.told
 
 -- and no notes are asked for
 happens_silent : (path : List ℕ) (r : Record) (old new : AbstractMux) (w : Written) → Happens path old r w new
     → old.seen ≡ None → w.status ≡ 0 → w.err ≡ []
 happens_silent path (piece link octets) old new w h quiet none = passed_silent link old.seen old.gateway new.gateway _ w h.0 none
 happens_silent path (end link) old new w h quiet none = passed_silent link old.seen old.gateway new.gateway _ w h.0 none
-happens_silent path reload old new w (inl h, later, same) quiet none =
+happens_silent path reload old new w (inl h, later) quiet none =
     ap (λ (x : Written). x.err) h.noted
-    ∙ ap (λ (x : Option Seen). renewed_note x (length h.policy.messages) (length h.policy.rules)) quiet
-happens_silent path reload old new w (inr h, later, same) quiet none =
+    ∙ ap (λ (x : Option Seen). renewed_note x (length h.policy.messages) (length h.policy.rules) h.digest) quiet
+happens_silent path reload old new w (inr h, later) quiet none =
     absurd (line_some h.fault h.line w.status h.told none)
 
-seen_none : (old new : Option Seen) (added : Added) → IsSeen old added new → old ≡ None → new ≡ None
-seen_none None new added h quiet = h
-seen_none (Some s) new added h quiet = absurd (none-some s (sym quiet))
+seen_none : (p : AbstractPolicy) (old new : Option Seen) (answer : Result (Unit {0}) LinkFault) (added : Added)
+    (links : List AbstractLink) → IsSeen p old answer added links new → old ≡ None → new ≡ None
+seen_none p None new answer added links h quiet = h
+seen_none p (Some s) new answer added links h quiet = absurd (none-some s (sym quiet))
 
 happens_quiet : (path : List ℕ) (r : Record) (old new : AbstractMux) (w : Written) → Happens path old r w new
     → old.seen ≡ None → new.seen ≡ None
-happens_quiet path (piece link octets) old new w h quiet = seen_none old.seen new.seen h.0.added h.2 quiet
+happens_quiet path (piece link octets) old new w h quiet = seen_none old.gateway.policy old.seen new.seen h.0.answer h.0.added new.gateway.links h.2 quiet
 happens_quiet path (end link) old new w h quiet = h.2 ∙ quiet
-happens_quiet path reload old new w h quiet = h.2 ∙ quiet
+happens_quiet path reload old new w (inl h, later) quiet = h.seen ∙ ap (λ (x : Option Seen). renewed_seen x h.digest) quiet
+happens_quiet path reload old new w (inr h, later) quiet = h.seen ∙ quiet
 
 -- ---- records in turn
 

@@ -15,6 +15,10 @@ pub eight : (t x₁ x₂ x₃ x₄ x₅ x₆ x₇ x₈ a b c d e f g h : List �
 eight t x₁ x₂ x₃ x₄ x₅ x₆ x₇ x₈ a b c d e f g h e₁ e₂ e₃ e₄ e₅ e₆ e₇ e₈ =
     rw (e₈, e₇, e₆, e₅, e₄, e₃, e₂, e₁) (simp append_assoc)
 
+-- three texts one after another
+pub three : (t x₁ x₂ x₃ a b c : List ℕ) → x₁ ≡ t ++ a → x₂ ≡ x₁ ++ b → x₃ ≡ x₂ ++ c → x₃ ≡ t ++ (a ++ b ++ c)
+three t x₁ x₂ x₃ a b c e₁ e₂ e₃ = rw (e₃, e₂, e₁) (simp append_assoc)
+
 -- a line of a text, and what is behind it
 pub line_then : (x₀ x₁ x₂ x₃ x₄ a b c d : List ℕ) → x₀ ≡ [] → x₁ ≡ x₀ ++ a → x₂ ≡ x₁ ++ b → x₃ ≡ x₂ ++ c
     → x₄ ≡ x₃ ++ d → x₄ ≡ (a ++ b ++ c) ++ d
@@ -50,12 +54,13 @@ begun_whole link number count word x₀ x₁ l x₂ x₃ n x₄ x₅ x₆ x₇ k
     (e₂ ∙ ap (λ (s : List ℕ). x₁ ++ s) el) e₃ (e₄ ∙ ap (λ (s : List ℕ). x₃ ++ s) en) e₅ e₆ e₇
     (e₈ ∙ ap (λ (s : List ℕ). x₇ ++ s) ek) e₉
 
--- the note of a new policy, part by part
-pub renewed_whole : (messages rules : ℕ) (x₀ x₁ m x₂ x₃ r x₄ x₅ x₆ : List ℕ) → x₀ ≡ []
+-- the note of a new policy, part by part, and what is behind it
+pub renewed_whole : (messages rules : ℕ) (note x₀ x₁ m x₂ x₃ r x₄ x₅ x₆ : List ℕ) → x₀ ≡ []
     → x₁ ≡ x₀ ++ codes "derguard: policy read again, messages " → m ≡ decimal messages → x₂ ≡ x₁ ++ m
-    → x₃ ≡ x₂ ++ codes ", rules " → r ≡ decimal rules → x₄ ≡ x₃ ++ r → x₅ ≡ x₄ ++ codes "\n" → x₆ ≡ x₅
-    → x₆ ≡ renewed_line messages rules
-renewed_whole messages rules x₀ x₁ m x₂ x₃ r x₄ x₅ x₆ e₀ e₁ em e₂ e₃ er e₄ e₅ e₆ =
-    e₆ ∙ five_new x₀ x₁ x₂ x₃ x₄ x₅ (codes "derguard: policy read again, messages ") (decimal messages)
+    → x₃ ≡ x₂ ++ codes ", rules " → r ≡ decimal rules → x₄ ≡ x₃ ++ r → x₅ ≡ x₄ ++ codes "\n" → x₆ ≡ x₅ ++ note
+    → x₆ ≡ renewed_line messages rules ++ note
+renewed_whole messages rules note x₀ x₁ m x₂ x₃ r x₄ x₅ x₆ e₀ e₁ em e₂ e₃ er e₄ e₅ e₆ =
+    e₆ ∙ ap (λ (s : List ℕ). s ++ note)
+    (five_new x₀ x₁ x₂ x₃ x₄ x₅ (codes "derguard: policy read again, messages ") (decimal messages)
     (codes ", rules ") (decimal rules) (codes "\n") e₀ e₁ (e₂ ∙ ap (λ (s : List ℕ). x₁ ++ s) em) e₃
-    (e₄ ∙ ap (λ (s : List ℕ). x₃ ++ s) er) e₅
+    (e₄ ∙ ap (λ (s : List ℕ). x₃ ++ s) er) e₅)

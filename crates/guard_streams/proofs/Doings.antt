@@ -9,7 +9,8 @@ use Rattle.std.proofs.lemmas.List.Elements.{All-cons}
 use Rattle.std.proofs.lemmas.Option.{same_Some, none-some, slice_get-get_or}
 use Rattle.guard_frames.specs.declared.gateway.Gateway.{Gateway}
 use Rattle.guard_frames.specs.declared.gateway.StepFault.{StepFault}
-use Rattle.guard_frames.specs.declared.gateway.StepFault.TheVariants.{NoSuchLink}
+use Rattle.guard_frames.specs.declared.gateway.StepFault.TheVariants.{NoSuchLink, Link as of_link}
+use Rattle.guard_frames.specs.declared.link.LinkFault.TheVariants as link_fault
 use Rattle.guard_frames.specs.declared.kept.Kept.{Kept}
 use Rattle.guard_frames.specs.declared.link.LinkFault.{LinkFault}
 use Rattle.guard_frames.specs.declared.seats.Ends.{Ends}
@@ -23,29 +24,26 @@ use Rattle.guard_frames.specs.LinkSteps.{Ended}
 use Rattle.guard_frames.specs.Prefix.{IsProperPrefix}
 use Rattle.guard_frames.proofs.Appending.{Appends_none, Appends_trans, Prefix_first, Prefix_second}
 use Rattle.guard_frames.proofs.Elements.{All_first, All_rest}
-use Rattle.guard_policy.specs.Policies.{AbstractPolicy}
 use Rattle.guard_frames.specs.Lending.{HasEnds}
-use Rattle.guard_files.specs.declared.fault.Fault.{Fault}
 use Rattle.guard_files.specs.declared.stop.Stop.{Stop}
 use Rattle.guard_files.specs.declared.stop.Stop.TheVariants.{BadRecord, ReadFailed, WriteFailed, ErrorFailed}
 use Rattle.guard_files.specs.Devices.{Device, device}
-use Rattle.guard_files.specs.Files.{Told, IsLater}
-use Rattle.guard_files.specs.Reading.{IsPolicyAt, IsNoPolicyAt}
-use Rattle.guard_files.specs.Writing.{IsFaultLine}
+use Rattle.guard_files.specs.Files.{Told}
 use Rattle.guard_files.specs.Records.{Record}
-use Rattle.guard_files.specs.Records.Record.{piece, end, reload}
+use Rattle.guard_files.specs.Records.Record.{piece, end}
 use Rattle.guard_streams.specs.declared.links.Links.{Links}
 use Rattle.guard_streams.specs.declared.seen.Seen.{Seen}
 use Rattle.guard_streams.specs.AtFault.{IsFaultNote}
-use Rattle.guard_streams.specs.Saying.{IsUnreadNote}
 use Rattle.guard_streams.specs.Muxing.{WritesPart, BreaksErr}
 use Rattle.guard_streams.specs.Passing.{InRecords, marked, fault_line}
+use Rattle.guard_streams.specs.declared.counts.Counts.{Counts}
+use Rattle.guard_streams.specs.Counted.{AreCounted}
 use Rattle.guard_streams.specs.Tallying.{IsSeen}
-use Rattle.guard_streams.specs.Turns.{AbstractMux, Written, PassesOn, link_status, renewed_note}
+use Rattle.guard_streams.specs.inside.Seeing.{counts_in, seen_after}
+use Rattle.guard_streams.specs.Turns.{AbstractMux, Written, PassesOn, link_status}
 use Rattle.guard_streams.proofs.PassingLaws.{all_records}
-use Rattle.guard_streams.proofs.SaidLaws.{none_of_fault}
-use Rattle.guard_streams.proofs.TallyLaws.{some_seen}
-use Rattle.guard_streams.specs.inside.Doing.{AreEmpty, added_to, IsReady, IsFed, ArePassed, AreCut, mux_of, IsTaken, IsCut, is_closed, Is, HadEnded}
+use Rattle.guard_streams.proofs.TallyLaws.{seen_is}
+use Rattle.guard_streams.specs.inside.Doing.{AreEmpty, IsReady, IsFed, ArePassed, AreCut, mux_of, IsTaken, IsCut, is_closed, Is, HadEnded}
 
 -- ---- one place of a list
 
@@ -96,27 +94,37 @@ ended_there old new i told added few many (inr h) e = not_answered h.0.link_answ
 pub same_length : (g : Gateway Kept) → length (gateway_ends g) ≡ length (gateway_view g).links
 same_length g = length-map g.seats.items (λ x. x.ends) ∙ sym (length-map g.seats.items (λ x. link_view x.link))
 
+pub same_answer : (a b : Result (Unit {0}) LinkFault) → step_answer a ≡ step_answer b → a ≡ b
+same_answer (Ok done) (Ok other) e = refl
+same_answer (Ok done) (Err f) e = absurd cc
+same_answer (Err f) (Ok done) e = absurd cc
+same_answer (Err f) (Err k) e = cc
+
+-- What holds of what was reported, unless a sink of the link has failed, holds of what the piece added.
 pub fed_of : (old new : Gateway Kept) (link : ℕ) (octets : List ℕ) (told : Result (Unit {0}) StepFault)
     (answer : Result (Unit {0}) LinkFault) (added : Added)
     → All AreEmpty (gateway_ends old) → length (gateway_ends old) ≡ 16 → link ≤ 15 → told ≡ step_answer answer
     → Step (gateway_view old) (event.piece link octets) told added (gateway_view new)
     → Took (λ (s : Kept). Some (kept_octets s)) kept_failed (gateway_ends old) (event.piece link octets) told added
     (gateway_ends new)
-    → IsFed link old octets answer new
-fed_of old new link octets told answer added empty many few is step (inl t) =
-    let was = all_at AreEmpty (gateway_ends old) link t.old_ends empty t.there in
-    record {
-      added = added;
-      step = subst (λ (x : Result (Unit {0}) StepFault). Step (gateway_view old) (event.piece link octets) x added
-          (gateway_view new)) is step;
-      ends = t.new_ends;
-      there = ap (λ (es : List (Ends Kept)). slice_get es link) t.others
-          ∙ set_here (gateway_ends old) link t.old_ends t.new_ends t.there;
-      out = t.took.sent ∙ ap (λ (s : List ℕ). s ++ added.out) was.out;
-      reports = t.took.reported ∙ ap (λ (s : List ℕ). s ++ added.reports) was.reports;
-      others = t.others;
-    }
-fed_of old new link octets told answer added empty many few is step (inr none) =
+    → (So : List ℕ → Type 0) → ((told ≡ Err (of_link link_fault.WriteFailed) → ⊥) → So added.reports)
+    → (x : IsFed link old octets answer new) × ((answer ≡ Err link_fault.WriteFailed → ⊥) → So x.added.reports)
+fed_of old new link octets told answer added empty many few is step (inl t) So so =
+    let was = all_at AreEmpty (gateway_ends old) link t.old_ends empty t.there in (
+      record {
+        added = added;
+        step = subst (λ (x : Result (Unit {0}) StepFault). Step (gateway_view old) (event.piece link octets) x added
+            (gateway_view new)) is step;
+        ends = t.new_ends;
+        there = ap (λ (es : List (Ends Kept)). slice_get es link) t.others
+            ∙ set_here (gateway_ends old) link t.old_ends t.new_ends t.there;
+        out = t.took.sent ∙ ap (λ (s : List ℕ). s ++ added.out) was.out;
+        reports = t.took.reported ∙ ap (λ (s : List ℕ). s ++ added.reports) was.reports;
+        others = t.others;
+      },
+      λ well. so (λ e. well (same_answer answer (Err link_fault.WriteFailed) (sym is ∙ e))),
+    )
+fed_of old new link octets told answer added empty many few is step (inr none) So so =
     absurd (is_there (gateway_ends old) link few many none.0)
 
 -- ---- a piece is taken
@@ -168,10 +176,22 @@ pub some_of : {A P : Type 0} (r : Option A) (x : A) → r ≡ Some x → OnSome 
 some_of None x e p = absurd (none-some x e)
 some_of (Some y) x e p = p
 
+-- the links are still all there
+pub all_there : (old g new : Gateway Kept) (link : ℕ) (octets : List ℕ) (answer : Result (Unit {0}) LinkFault)
+    (fed : IsFed link old octets answer g) (out err : Octets) → IsReady old → ArePassed link fed.ends g new out err
+    → length (gateway_view new).links ≡ 16
+all_there old g new link octets answer fed out err ready p =
+    let after : gateway_ends new ≡ slice_set (slice_set (gateway_ends old) link fed.ends) link p.emptied =
+    p.others ∙ ap (λ (es : List (Ends Kept)). slice_set es link p.emptied) fed.others in
+    sym (same_length new) ∙ ap length after ∙ length-set (slice_set (gateway_ends old) link fed.ends) link p.emptied
+    ∙ length-set (gateway_ends old) link fed.ends ∙ same_length old ∙ ready.many
+
 module _ (path : List ℕ) (told : Told) (old : Links) (link : ℕ) (octets : List ℕ)
     (answer : Result (Unit {0}) LinkFault) (g : Gateway Kept)
     (fed : IsFed link old.gateway octets answer g) (note : List ℕ)
-    (noted : IsFaultNote old.seen (gateway_view old.gateway) link (event.piece link octets) answer note) where
+    (noted : IsFaultNote old.seen (gateway_view old.gateway) link (event.piece link octets) answer note)
+    (counts : Counts) (counted : (answer ≡ Err link_fault.WriteFailed → ⊥)
+    → AreCounted (gateway_view old.gateway).policy (counts_in old.seen) fed.added.reports counts) where
   abbrev pub answered : List ℕ
   answered = fault_line link answer ++ note
 
@@ -198,14 +218,18 @@ module _ (path : List ℕ) (told : Told) (old : Links) (link : ℕ) (octets : Li
     status = refl;
   }
 
-  -- what the sinks of the link took is what was added
-  same_added : added_to fed.ends ≡ fed.added
-  same_added = λ i. record { out = fed.out i; reports = fed.reports i }
+  -- what is seen by the links that there are after the piece
+  abbrev seen_by : AbstractGateway → Option Seen
+  seen_by now = seen_after old.seen answer now.links counts
+
+  is_seen : (now : AbstractGateway)
+      → IsSeen (gateway_view old.gateway).policy old.seen answer fed.added now.links (seen_by now)
+  is_seen now = seen_is (gateway_view old.gateway).policy old.seen answer fed.added now.links counts counted
 
   pub piece_taken : (new : Links) (out : Octets) (e e₁ e₂ : Option (List ℕ)) → IsReady old.gateway
       → (p : ArePassed link fed.ends g new.gateway out (e, e₁))
       → Appends e₁ e₂ answered → new.status ≡ max old.status (link_status fed.added.reports answer)
-      → IsSeen old.seen (added_to fed.ends) new.seen
+      → new.seen ≡ seen_by (gateway_view new.gateway)
       → IsTaken path told old (piece link octets) told new out (e, e₂)
   unfolding passes
   piece_taken new out e e₁ e₂ ready p said status seen =
@@ -217,16 +241,15 @@ module _ (path : List ℕ) (told : Told) (old : Links) (link : ℕ) (octets : Li
         happens = (
           passes p.written new.gateway p.records p.view,
           refl,
-          subst (λ (a : Added). IsSeen old.seen a new.seen) same_added seen,
+          subst (λ (x : Option Seen). IsSeen (gateway_view old.gateway).policy old.seen answer fed.added
+              (gateway_view new.gateway).links x) (sym seen) (is_seen (gateway_view new.gateway)),
         );
         sent = p.sent;
         told = Appends_trans e e₁ e₂ (marked link fed.added.reports) answered
             (subst (λ (s : List ℕ). Appends e e₁ (marked link s)) fed.reports p.told) said;
         status = status;
         ready = record {
-          many = sym (same_length new.gateway) ∙ ap length after
-              ∙ length-set (slice_set (gateway_ends old.gateway) link fed.ends) link p.emptied
-              ∙ length-set (gateway_ends old.gateway) link fed.ends ∙ same_length old.gateway ∙ ready.many;
+          many = all_there old.gateway g new.gateway link octets answer fed out (e, e₁) ready p;
           empty = subst (All AreEmpty) (sym after) (all_set_twice AreEmpty
               (gateway_ends old.gateway) link fed.ends p.emptied ready.empty p.empty);
         };
@@ -240,8 +263,8 @@ module _ (path : List ℕ) (told : Told) (old : Links) (link : ℕ) (octets : Li
   piece_cut_passing ReadFailed o o₁ e e₁ f k h = h
   piece_cut_passing WriteFailed o o₁ e e₁ f k h = record {
     w = written_of h.written;
-    new = record { told = told; gateway = gateway_view g; seen = (some_seen old.seen fed.added).0 };
-    happens = (passes h.written g h.records refl, refl, (some_seen old.seen fed.added).1);
+    new = record { told = told; gateway = gateway_view g; seen = seen_by (gateway_view g) };
+    happens = (passes h.written g h.records refl, refl, is_seen (gateway_view g));
     out_part = h.part;
     err_part = [];
     breaks = (h.failed, h.prefix, refl);
@@ -250,8 +273,8 @@ module _ (path : List ℕ) (told : Told) (old : Links) (link : ℕ) (octets : Li
   }
   piece_cut_passing ErrorFailed o o₁ e e₁ f k h = record {
     w = written_of h.written;
-    new = record { told = told; gateway = gateway_view g; seen = (some_seen old.seen fed.added).0 };
-    happens = (passes h.written g h.records refl, refl, (some_seen old.seen fed.added).1);
+    new = record { told = told; gateway = gateway_view g; seen = seen_by (gateway_view g) };
+    happens = (passes h.written g h.records refl, refl, is_seen (gateway_view g));
     out_part = h.written;
     err_part = h.part;
     breaks = (
@@ -274,8 +297,8 @@ module _ (path : List ℕ) (told : Told) (old : Links) (link : ℕ) (octets : Li
       let cut : WritesPart path (mux_of told old) (piece link octets) [] (device o o₁ f) (device e e₂ k) BreaksErr =
       record {
         w = written_of p.written;
-        new = record { told = told; gateway = gateway_view new; seen = (some_seen old.seen fed.added).0 };
-        happens = (passes p.written new p.records p.view, refl, (some_seen old.seen fed.added).1);
+        new = record { told = told; gateway = gateway_view new; seen = seen_by (gateway_view new) };
+        happens = (passes p.written new p.records p.view, refl, is_seen (gateway_view new));
         out_part = p.written;
         err_part = marked link fed.added.reports ++ h.2.0;
         breaks = (h.1, refl, Prefix_second h.2.0 (marked link fed.added.reports) answered h.2.1);
@@ -287,12 +310,6 @@ module _ (path : List ℕ) (told : Told) (old : Links) (link : ℕ) (octets : Li
       (sym h.0) cut
 
 -- ---- a link is ended
-
-pub same_answer : (a b : Result (Unit {0}) LinkFault) → step_answer a ≡ step_answer b → a ≡ b
-same_answer (Ok done) (Ok other) e = refl
-same_answer (Ok done) (Err f) e = absurd cc
-same_answer (Err f) (Ok done) e = absurd cc
-same_answer (Err f) (Err g) e = cc
 
 set_same : {X : Type 0} (xs : List X) (i : ℕ) (x : X) → slice_get xs i ≡ Some x → slice_set xs i x ≡ xs
 set_same [] i x h = absurd (none-some x h)
@@ -427,132 +444,3 @@ is_error (Err ErrorFailed) h is e = absurd cc
 pub cut_as_error : (s : Stop) (path : List ℕ) (old : AbstractMux) (r : Record) (out err : Device) → s ≡ ErrorFailed
     → WritesPart path old r [] out err BreaksErr → IsCut s path old r out err
 cut_as_error s path old r out err is h = subst (λ (x : Stop). IsCut x path old r out err) (sym is) h
-
--- ---- a new policy
-
-abbrev renewed_written : Links → AbstractPolicy → Written
-renewed_written old p =
-    record { out = []; err = renewed_note old.seen (length p.messages) (length p.rules); status = 0 }
-
--- standard error fails in the note
-pub renewed_cut : (path : List ℕ) (told later : Told) (old : Links) (g : Gateway Kept) (p : AbstractPolicy)
-    (answer : Result (Unit {0}) StepFault) (added : Added) (part : List ℕ) (o e e₁ : Option (List ℕ)) (b k : Bool)
-    → IsPolicyAt told path p → IsLater told later
-    → Step (gateway_view old.gateway) (event.reload p) answer added (gateway_view g) → k ≡ true
-    → IsProperPrefix part (renewed_note old.seen (length p.messages) (length p.rules)) → Appends e e₁ part
-    → WritesPart path (mux_of told old) reload [] (device o o b) (device e e₁ k) BreaksErr
-renewed_cut path told later old g p answer added part o e e₁ b k read later_is step failed prefix said = record {
-  w = renewed_written old p;
-  new = record { told = later; gateway = gateway_view g; seen = old.seen };
-  happens = (
-    inl (record {
-      policy = p;
-      read = read;
-      step = record { answered = refl; same = step.same; adds = refl };
-      noted = refl;
-    }),
-    later_is,
-    refl,
-  );
-  out_part = [];
-  err_part = part;
-  breaks = (failed, refl, prefix);
-  sent = Appends_none o;
-  told = said;
-}
-
-pub renewed : (path : List ℕ) (told later : Told) (old new : Links) (p : AbstractPolicy)
-    (answer : Result (Unit {0}) StepFault) (added : Added) (o e e₁ : Option (List ℕ))
-    → IsReady old.gateway → IsPolicyAt told path p → IsLater told later
-    → Step (gateway_view old.gateway) (event.reload p) answer added (gateway_view new.gateway)
-    → gateway_ends new.gateway ≡ gateway_ends old.gateway → new.status ≡ old.status → new.seen ≡ old.seen
-    → Appends e e₁ (renewed_note old.seen (length p.messages) (length p.rules))
-    → IsTaken path told old reload later new (o, o) (e, e₁)
-renewed path told later old new p answer added o e e₁ ready read later_is step ends status seen said = record {
-  w = renewed_written old p;
-  happens = (
-    inl (record {
-      policy = p;
-      read = read;
-      step =
-          record { answered = refl; same = step.same; adds = refl };
-      noted = refl;
-    }),
-    later_is,
-    seen,
-  );
-  sent = Appends_none o;
-  told = said;
-  status = omega (arith, status);
-  ready = record {
-    many = ap (λ (x : AbstractGateway). length x.links) step.same ∙ ready.many;
-    empty = subst (All AreEmpty) (sym ends) ready.empty;
-  };
-}
-
-abbrev kept_written : List ℕ → ℕ → Written
-kept_written line status = record { out = []; err = line; status = status }
-
-pub kept_old : (path : List ℕ) (told later : Told) (old new : Links) (f : Fault) (line note : List ℕ) (status : ℕ)
-    (o e e₁ e₂ : Option (List ℕ))
-    → IsReady old.gateway → IsNoPolicyAt told path f → IsLater told later → IsFaultLine f line status
-    → IsUnreadNote old.seen f note → Appends e e₁ line → Appends e₁ e₂ note
-    → new.gateway ≡ old.gateway → new.status ≡ max old.status status → new.seen ≡ old.seen
-    → IsTaken path told old reload later new (o, o) (e, e₂)
-kept_old path told later old new f line note status o e e₁ e₂ ready none later_is is noted said more same greatest seen = record {
-  w = kept_written (line ++ note) status;
-  happens = (
-    inr (record {
-      fault = f;
-      none = none;
-      same = ap gateway_view same;
-      out = refl;
-      line = line;
-      told = is;
-      note = note;
-      noted = noted;
-      err = refl;
-    }),
-    later_is,
-    seen,
-  );
-  sent = Appends_none o;
-  told = Appends_trans e e₁ e₂ line note said more;
-  status = greatest;
-  ready = subst IsReady (sym same) ready;
-}
-
-pub kept_cut : (path : List ℕ) (told later : Told) (old : Links) (f : Fault) (line note part : List ℕ) (status : ℕ)
-    (o e e₁ : Option (List ℕ)) (b k : Bool)
-    → IsNoPolicyAt told path f → IsLater told later → IsFaultLine f line status → IsUnreadNote old.seen f note
-    → k ≡ true → IsProperPrefix part (line ++ note) → Appends e e₁ part
-    → WritesPart path (mux_of told old) reload [] (device o o b) (device e e₁ k) BreaksErr
-kept_cut path told later old f line note part status o e e₁ b k none later_is is noted failed prefix said = record {
-  w = kept_written (line ++ note) status;
-  new = record { told = later; gateway = gateway_view old.gateway; seen = old.seen };
-  happens = (
-    inr (record {
-      fault = f;
-      none = none;
-      same = refl;
-      out = refl;
-      line = line;
-      told = is;
-      note = note;
-      noted = noted;
-      err = refl;
-    }),
-    later_is,
-    refl,
-  );
-  out_part = [];
-  err_part = part;
-  breaks = (failed, refl, prefix);
-  sent = Appends_none o;
-  told = said;
-}
-
--- nothing need be noted of a policy that can't be read again
-pub unread_none : (seen : Option Seen) (f : Fault) → IsUnreadNote seen f []
-unread_none None f = refl
-unread_none (Some s) f = none_of_fault f

@@ -3,12 +3,11 @@ pub mod Chains
 pub mod SaidLaws
 pub mod PassingLaws
 pub mod FramesAnswered
-pub mod CountLaws
-pub mod LinesJudged
-pub mod FramesWatched
 pub mod TallyLaws
+pub mod Watched
 pub mod Turning
 pub mod Doings
+pub mod Renewing
 pub mod Noting
 pub mod EndsTaken
 pub mod Taking

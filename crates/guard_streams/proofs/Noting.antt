@@ -21,7 +21,8 @@ use Rattle.guard_frames.proofs.Elements.{All_none}
 use Rattle.guard_frames.proofs.Own.Gateways.{held_unfinished}
 use Rattle.guard_streams.specs.declared.seen.Seen.{Seen}
 use Rattle.guard_streams.specs.AtFault.{IsFaultNote, begun_line}
-use Rattle.guard_streams.specs.Tallying.{IsSeen}
+use Rattle.guard_streams.specs.declared.counts.Counts.{Counts}
+use Rattle.guard_streams.specs.inside.Seeing.{seen_after}
 use Rattle.guard_streams.specs.inside.Noting.{noted_link, fault_note}
 use Rattle.guard_streams.proofs.Doings.{set_here, not_answered, same_answer, held_some}
 
@@ -130,19 +131,20 @@ end_note (Some s) old new link answer added (inr h) =
     (after_end s (gateway_view old) link at.old_link at.new_link at.link_answer at.there
     (held_unfinished old.seats.items link at.old_link at.there) at.does)
 
--- the same where what the sinks of the link took is passed on before
-same_link : (seen seen₁ : Option Seen) (counted : Added) (new : AbstractGateway) (link : ℕ) → IsSeen seen counted seen₁
-    → noted_link seen new link ≡ noted_link seen₁ new link
-same_link None seen₁ counted new link none = ap (λ (x : Option Seen). noted_link x new link) (sym none)
-same_link (Some s) seen₁ counted new link some = ap (λ (x : Option Seen). noted_link x new link) (sym some.2)
+-- the same once it is seen what came of the piece
+same_link : (seen : Option Seen) (told : Result (Unit {0}) LinkFault) (links : List AbstractLink) (counts : Counts) (new : AbstractGateway) (link : ℕ)
+    → noted_link seen new link ≡ noted_link (seen_after seen told links counts) new link
+same_link None told links counts new link = refl
+same_link (Some s) told links counts new link = refl
 
-pub passed_note : (seen seen₁ : Option Seen) (g new passed : AbstractGateway) (link : ℕ) (octets : List ℕ)
-    (answer : Result (Unit {0}) LinkFault) (added counted : Added)
-    → Step g (event.piece link octets) (step_answer answer) added new → IsSeen seen counted seen₁ → passed ≡ new
-    → IsFaultNote seen g link (event.piece link octets) answer (fault_note (noted_link seen₁ passed link) link answer)
-passed_note seen seen₁ g new passed link octets answer added counted step some same =
-    let is : noted_link seen new link ≡ noted_link seen₁ passed link =
-    same_link seen seen₁ counted new link some ∙ ap (λ (x : AbstractGateway). noted_link seen₁ x link) (sym same) in
+pub passed_note : (seen : Option Seen) (counts : Counts) (g new passed : AbstractGateway) (link : ℕ) (octets : List ℕ)
+    (answer : Result (Unit {0}) LinkFault) (added : Added)
+    → Step g (event.piece link octets) (step_answer answer) added new → passed ≡ new
+    → IsFaultNote seen g link (event.piece link octets) answer
+    (fault_note (noted_link (seen_after seen answer passed.links counts) passed link) link answer)
+passed_note seen counts g new passed link octets answer added step same =
+    let is : noted_link seen new link ≡ noted_link (seen_after seen answer passed.links counts) passed link =
+    ap (λ (x : AbstractGateway). noted_link seen x link) (sym same) ∙ same_link seen answer passed.links counts passed link in
     subst (λ (x : Option AbstractLink). IsFaultNote seen g link (event.piece link octets) answer (fault_note x link answer)) is
     (piece_note seen g new link octets answer added step)
 

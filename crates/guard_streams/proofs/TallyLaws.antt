@@ -1,103 +1,55 @@
--- What is seen of what an event adds.
-use Rattle.std.proofs.Common.{◌≡◌, ◌∙◌, ◌+◌, ◌≤◌, ◌⊎◌, ℕ, List, [], ◌∷◌, ◌++◌, ap, inl, inr, refl, sym, subst, length, take, drop, arith, length-append, length-drop}
-use Rattle.std.specs.Prelude.{Option, Some, None}
-use Rattle.std.specs.List.{concat, All}
-use Rattle.std.proofs.lemmas.List.{take-append-drop, length-take-le}
-use Rattle.std.proofs.Math.Seq.{take-add}
-use Rattle.guard_frames.specs.declared.cut.Frame.{Frame}
-use Rattle.guard_frames.specs.declared.cut.Rest.{Rest}
-use Rattle.guard_frames.specs.declared.cut.Rest.TheVariants.{Unfinished, TooLong}
+-- What is seen of a piece.
+use Rattle.std.proofs.Common.{◌≡◌, ℕ, zero, suc, List, [], ◌∷◌, ◌≤◌, ap, refl, drop, length, length-drop, slice_get, arith}
+use Rattle.std.specs.Prelude.{Option, Some, None, Result, Ok, Err}
+use Rattle.std.proofs.lemmas.Option.{same_Some, none-some}
+use Rattle.guard_policy.specs.Policies.{AbstractPolicy}
+use Rattle.guard_frames.specs.declared.link.LinkFault.{LinkFault}
+use Rattle.guard_frames.specs.declared.link.LinkFault.TheVariants.{FrameTooLong, WriteFailed, Closed, TornFrame}
+use Rattle.guard_frames.specs.declared.totals.Totals.{Totals}
 use Rattle.guard_frames.specs.Added.{Added}
-use Rattle.guard_frames.specs.Cutting.{IsFirst, IsRest}
-use Rattle.guard_frames.specs.Frames.{IsFrame, IsTooLong, IsUnfinished, ConsistsOf}
-use Rattle.guard_frames.proofs.Elements.{All_none, All_more}
-use Rattle.guard_frames.proofs.Progress.{concat_more}
-use Rattle.guard_frames.proofs.Splitting.{a_reading}
-use Rattle.guard_streams.specs.Counted.{counts_after}
-use Rattle.guard_streams.specs.Passing.{lines_of}
-use Rattle.guard_streams.specs.Tallying.{IsSeen, totals_after}
+use Rattle.guard_frames.specs.LinkView.{AbstractLink}
+use Rattle.guard_streams.specs.declared.counts.Counts.{Counts}
 use Rattle.guard_streams.specs.declared.seen.Seen.{Seen}
+use Rattle.guard_streams.specs.Counted.{AreCounted}
+use Rattle.guard_streams.specs.Tallying.{both, with_links, IsSeen}
+use Rattle.guard_streams.specs.inside.Seeing.{counts_in, known_counts, seen_after}
 
--- something is seen of it
-pub some_seen : (old : Option Seen) (added : Added) → (new : Option Seen) × IsSeen old added new
-some_seen None added = (None, refl)
-some_seen (Some s) added =
-    let r = a_reading added.out in
-    let new : Seen = record {
-      totals = totals_after s.totals (length r.0) (length (lines_of added.reports));
-      counts = counts_after s.counts (lines_of added.reports);
-      left = s.left;
-    } in
-    (Some new, (new, record { frames = r.0; rest = r.1; split = r.2; is = refl }, refl))
+counts_by : (p : AbstractPolicy) (answer : Result (Unit {0}) LinkFault) (old new : Counts) (reports : List ℕ)
+    → (answer ≡ Err WriteFailed → ⊥) → AreCounted p old reports new → AreCounted p old reports (known_counts answer old new)
+counts_by p (Ok done) old new reports well h = h
+counts_by p (Err FrameTooLong) old new reports well h = h
+counts_by p (Err WriteFailed) old new reports well h = absurd (well refl)
+counts_by p (Err Closed) old new reports well h = h
+counts_by p (Err TornFrame) old new reports well h = h
 
--- ---- whole frames of some octets, up to a place
-
-pub record AreFramesTo (octets : List ℕ) (end count : ℕ) : Type 0 where
-  pub frames : List (List ℕ)
-  pub whole : take end octets ≡ concat frames
-  pub each : All IsFrame frames
-  pub many : count ≡ length frames
-  pub within : end ≤ length octets
-  pub few : count ≤ end
-
-pub no_frames_to : (octets : List ℕ) → AreFramesTo octets 0 0
-no_frames_to octets = record {
-  frames = [];
-  whole = refl;
-  each = All_none IsFrame;
-  many = refl;
-  within = omega arith;
-  few = omega arith;
-}
-
--- and one more
-pub one_frame_to : (octets : List ℕ) (end count size : ℕ) → AreFramesTo octets end count
-    → size ≤ length (drop end octets) → IsFrame (take size (drop end octets))
-    → AreFramesTo octets (end + size) (count + 1)
-one_frame_to octets end count size h within frame =
-    let f = take size (drop end octets) in
-    let rest = length-drop end octets in
-    let long : length f ≡ size = length-take-le size (drop end octets) within in
-    let four = frame.header in
-    let was = h.within in
-    let few = h.few in
-    let many = h.many in
-    let more = length-append h.frames (f ∷ []) in
-    record {
-      frames = h.frames ++ f ∷ [];
-      whole = take-add end size octets ∙ ap (λ (s : List ℕ). s ++ f) h.whole ∙ sym (concat_more h.frames f);
-      each = All_more IsFrame h.frames f h.each frame;
-      many = omega (arith, many, more);
-      within = omega (arith, within, rest, was);
-      few = omega (arith, few, four, long);
-    }
-
--- they are all
-pub all_frames : (octets : List ℕ) (end count : ℕ) → AreFramesTo octets end count
-    → IsUnfinished (drop end octets) ⊎ IsTooLong (drop end octets)
-    → (frames : List (List ℕ)) × (rest : List ℕ) × ConsistsOf octets frames rest × (count ≡ length frames)
-all_frames octets end count h left = (
-  h.frames,
-  drop end octets,
+pub seen_is : (p : AbstractPolicy) (seen : Option Seen) (answer : Result (Unit {0}) LinkFault) (added : Added)
+    (links : List AbstractLink) (counts : Counts)
+    → ((answer ≡ Err WriteFailed → ⊥) → AreCounted p (counts_in seen) added.reports counts)
+    → IsSeen p seen answer added links (seen_after seen answer links counts)
+seen_is p None answer added links counts h = refl
+seen_is p (Some s) answer added links counts h = (
+  _,
   record {
-    whole = sym (take-append-drop end octets) ∙ ap (λ (s : List ℕ). s ++ drop end octets) h.whole;
-    each = h.each;
-    left = left;
+    totals = refl;
+    counts = λ well. counts_by p answer s.counts counts added.reports well (h well);
+    same = λ is. ap (λ (a : Result (Unit {0}) LinkFault). known_counts a s.counts counts) is;
+    left = refl;
+    digest = refl;
   },
-  h.many,
+  refl,
 )
 
--- ---- the same, by what the slice behind the place begins with
+-- ---- the totals of all links, one after another
 
-pub one_cut_at : (octets : List ℕ) (end count : ℕ) (behind : List ℕ) (frame : Frame) → AreFramesTo octets end count
-    → behind ≡ drop end octets → IsFirst behind frame → AreFramesTo octets (end + length frame.octets.now) (count + 1)
-one_cut_at octets end count behind frame h same first =
-    one_frame_to octets end count (length frame.octets.now) h
-    (subst (λ (s : List ℕ). length frame.octets.now ≤ length s) same first.within)
-    (subst IsFrame (first.front ∙ ap (take (length frame.octets.now)) same) first.is)
+pub link_next : (links : List AbstractLink) (i : ℕ) (l : AbstractLink) (t : Totals) → slice_get links i ≡ Some l
+    → with_links t (drop i links) ≡ with_links (both t l.totals) (drop (suc i) links)
+link_next [] i l t h = absurd (none-some l h)
+link_next (x ∷ links) zero l t h = ap (λ (y : AbstractLink). with_links (both t y.totals) links) (same_Some x l h)
+link_next (x ∷ links) (suc i) l t h = link_next links i l t h
 
-pub all_cut_at : (octets : List ℕ) (end count : ℕ) (behind : List ℕ) (left : Rest) → AreFramesTo octets end count
-    → behind ≡ drop end octets → IsRest behind left
-    → (frames : List (List ℕ)) × (rest : List ℕ) × ConsistsOf octets frames rest × (count ≡ length frames)
-all_cut_at octets end count behind Unfinished h same is = all_frames octets end count h (inl (subst IsUnfinished same is))
-all_cut_at octets end count behind TooLong h same is = all_frames octets end count h (inr (subst IsTooLong same is))
+no_items : {A : Type 0} (xs : List A) → length xs ≡ 0 → xs ≡ []
+no_items [] e = refl
+no_items (x ∷ xs) e = absurd (omega (arith, e))
+
+pub none_left : (links : List AbstractLink) (i : ℕ) → length links ≤ i → drop i links ≡ []
+none_left links i past = no_items (drop i links) (omega (arith, length-drop i links, past))

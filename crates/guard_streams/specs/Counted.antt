@@ -1,21 +1,14 @@
--- How often each reason is reported, by the words of the lines of a report.
-use Rattle.std.specs.Prelude.{ℕ, nat_eq, List, [], ◌∷◌, codes, bytes_eq, if◌then◌else◌}
-use Rattle.std.specs.List.{list_any}
+-- How often each reason is reported.
+use Rattle.std.specs.Prelude.{◌≡◌, List, ℕ}
+use Rattle.guard_policy.specs.Policies.{AbstractPolicy}
+use Rattle.guard_frames.specs.declared.why.Reason.{Reason}
+use Rattle.guard_frames.specs.declared.why.Reason.TheVariants.{UnknownMessage, Undecodable, OutsideType, DeniedBy, NotAllowed, NoRule}
+use Rattle.guard_frames.specs.declared.why.Why.{Why}
+use Rattle.guard_frames.specs.declared.why.Why.TheVariants.{BadHeader, NoMemory, Decided}
+use Rattle.guard_frames.specs.OfPolicy.{gives_of}
+use Rattle.guard_frames.specs.Reasons.{Noted}
 use Rattle.guard_frames.specs.Totals.{later}
-use Rattle.guard_files.specs.Word.{first_word, after_word}
 use Rattle.guard_streams.specs.declared.counts.Counts.{Counts}
-
--- The reason that a line gives. Behind the number comes a route, which alone has a `>`, 62, and the name of the message;
--- a bad header and `no-memory` have neither.
-abbrev pub reason_of : List ℕ → List ℕ
-reason_of line =
-    if list_any (λ o. nat_eq o 62) (first_word (after_word line))
-    then first_word (after_word (after_word (after_word line)))
-    else first_word (after_word line)
-
--- one more where the word is the one that is counted
-abbrev pub more : ℕ → List ℕ → List ℕ → ℕ
-more count word counted = if bytes_eq word counted then later count 1 else count
 
 abbrev pub no_counts : Counts
 no_counts = record {
@@ -29,20 +22,21 @@ no_counts = record {
   no_memory = 0;
 }
 
--- after one more line
-abbrev pub count_one : Counts → List ℕ → Counts
-count_one c line = record {
-  bad_header = more c.bad_header (reason_of line) (codes "bad-header");
-  unknown_message = more c.unknown_message (reason_of line) (codes "unknown-message");
-  undecodable = more c.undecodable (reason_of line) (codes "undecodable");
-  outside_type = more c.outside_type (reason_of line) (codes "outside-type");
-  denied_by = more c.denied_by (reason_of line) (codes "denied-by");
-  not_allowed = more c.not_allowed (reason_of line) (codes "not-allowed");
-  no_rule = more c.no_rule (reason_of line) (codes "no-rule");
-  no_memory = more c.no_memory (reason_of line) (codes "no-memory");
-}
+-- one more line that gives this reason
+abbrev pub count_reason : Counts → Reason → Counts
+count_reason c UnknownMessage = record c { unknown_message = later c.unknown_message 1 }
+count_reason c Undecodable = record c { undecodable = later c.undecodable 1 }
+count_reason c OutsideType = record c { outside_type = later c.outside_type 1 }
+count_reason c DeniedBy = record c { denied_by = later c.denied_by 1 }
+count_reason c NotAllowed = record c { not_allowed = later c.not_allowed 1 }
+count_reason c NoRule = record c { no_rule = later c.no_rule 1 }
 
--- and after some
-abbrev pub counts_after : Counts → List (List ℕ) → Counts
-counts_after c [] = c
-counts_after c (line ∷ lines) = counts_after (count_one c line) lines
+-- one more frame that stays
+abbrev pub count_one : Counts → Why → Counts
+count_one c BadHeader = record c { bad_header = later c.bad_header 1 }
+count_one c NoMemory = record c { no_memory = later c.no_memory 1 }
+count_one c (Decided reason) = count_reason c reason
+
+-- The text is lines of a report under this policy, and of each one its reason was counted.
+abbrev pub AreCounted : AbstractPolicy → Counts → List ℕ → Counts → Type 0
+AreCounted p old text new = Noted (gives_of p) (λ c why d. d ≡ count_one c why) old text new

@@ -4,6 +4,7 @@ pub mod Answered
 pub mod Asking
 -- ---- many links
 pub mod Passing
+pub mod InForce
 pub mod Counted
 pub mod Tallying
 pub mod AtFault

@@ -11,6 +11,7 @@ use Rattle.guard_files.specs.declared.fault.Fault.{Fault}
 use Rattle.guard_files.specs.declared.stop.Stop.{Stop}
 use Rattle.guard_files.specs.declared.stop.Stop.TheVariants.{BadRecord, ReadFailed, WriteFailed, ErrorFailed}
 use Rattle.guard_files.specs.Devices.{Input, Device, IsUnread, IsUntouched}
+use Rattle.guard_files.specs.Digest.{IsNumberedAt}
 use Rattle.guard_files.specs.Files.{Told, IsLater}
 use Rattle.guard_files.specs.Reading.{IsPolicyAt, IsNoPolicyAt}
 use Rattle.guard_files.specs.Records.{Record, record_octets, IsAllowed, IsBadRecord, IsLost}
@@ -19,6 +20,7 @@ use Rattle.guard_streams.specs.declared.seen.Seen.{Seen}
 use Rattle.guard_streams.specs.Turns.{AbstractMux, Written, Happens, InTurn, all_out, all_err, status_of, ends_left}
 use Rattle.guard_streams.specs.Saying.{IsSaid, TellsUnread}
 use Rattle.guard_streams.specs.Verbose.{last_lines, nothing_seen}
+use Rattle.guard_streams.specs.Watching.{BehindNote}
 
 -- What was read is records and then this rest, and the records were taken in turn.
 pub record Takes (path : List ℕ) (first : AbstractMux) (input : Input) (rest : List ℕ) : Type 0 where
@@ -177,5 +179,6 @@ WatchesRecords path first input out err status =
 abbrev pub WatchesLinks : Told → List ℕ → Input → Device → Device → ℕ → Type 0
 WatchesLinks told path input out err status =
     ((f : Fault) × IsNoPolicyAt told path f × IsUnread input × IsUntouched out × TellsUnread f err status)
-    ⊎ ((p : AbstractPolicy) × (later : Told) × IsPolicyAt told path p × IsLater told later
-    × WatchesRecords path (new_mux p later (Some nothing_seen)) input out err status)
+    ⊎ ((p : AbstractPolicy) × (digest : List ℕ) × (later : Told) × IsNumberedAt told path p digest × IsLater told later
+    × BehindNote digest input out err status
+    (λ behind. WatchesRecords path (new_mux p later (Some (nothing_seen digest))) input out behind status))

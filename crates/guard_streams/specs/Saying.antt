@@ -8,6 +8,7 @@ use Rattle.guard_files.specs.declared.fault.Fault.TheVariants.{BadHex, CannotRea
 use Rattle.guard_files.specs.Devices.{Device}
 use Rattle.guard_files.specs.Explaining.{TellsWith}
 use Rattle.guard_streams.specs.declared.seen.Seen.{Seen}
+use Rattle.guard_streams.specs.InForce.{kept_note}
 
 abbrev pub HasNoLineFeed : List ℕ → Type 0
 HasNoLineFeed text = (k : ℕ) → k < length text → slice_index text k ≡ 10 → ⊥
@@ -38,10 +39,12 @@ IsSaidOfFault (Policy f) line = line ≡ []
 IsSaidOfFault (Run f) line = line ≡ []
 IsSaidOfFault NoMemory line = line ≡ []
 
--- of a file that can't be read again while a stream runs, where notes are asked for
+-- Of a policy that can't be had anew while a stream runs, where notes are asked for: what the system says, and which one
+-- stays; or nothing, where there is no memory for that.
 abbrev pub IsUnreadNote : Option Seen → Fault → List ℕ → Type 0
 IsUnreadNote None f note = note ≡ []
-IsUnreadNote (Some s) f note = IsSaidOfFault f note
+IsUnreadNote (Some s) f note =
+    (note ≡ []) ⊎ ((said : List ℕ) × IsSaidOfFault f said × (note ≡ said ++ kept_note s.digest))
 
 -- why there is no policy, with what the system says
 abbrev pub TellsUnread : Fault → Device → ℕ → Type 0

@@ -9,7 +9,8 @@ use Rattle.guard_frames.specs.GatewaySteps.{Step}
 use Rattle.guard_frames.specs.LinkView.{AbstractLink}
 use Rattle.guard_files.specs.declared.fault.Fault.{Fault}
 use Rattle.guard_files.specs.Files.{Told, IsLater}
-use Rattle.guard_files.specs.Reading.{IsPolicyAt, IsNoPolicyAt}
+use Rattle.guard_files.specs.Digest.{IsNumberedAt}
+use Rattle.guard_files.specs.Reading.{IsNoPolicyAt}
 use Rattle.guard_files.specs.Records.{Record}
 use Rattle.guard_files.specs.Records.Record.{piece, end, reload}
 use Rattle.guard_files.specs.Writing.{IsFaultLine}
@@ -18,6 +19,7 @@ use Rattle.guard_streams.specs.AtFault.{IsFaultNote}
 use Rattle.guard_streams.specs.Passing.{InRecords, marked, fault_line}
 use Rattle.guard_streams.specs.Saying.{IsUnreadNote}
 use Rattle.guard_streams.specs.Tallying.{IsSeen}
+use Rattle.guard_streams.specs.InForce.{digest_note}
 
 -- what lies between two records: what reads of files to come find, the links under the policy in force, and what is
 -- seen of their frames, where notes are asked for
@@ -58,22 +60,36 @@ abbrev pub renewed_line : ℕ → ℕ → List ℕ
 renewed_line messages rules =
     codes "derguard: policy read again, messages " ++ decimal messages ++ codes ", rules " ++ decimal rules ++ codes "\n"
 
-abbrev pub renewed_note : Option Seen → ℕ → ℕ → List ℕ
-renewed_note None messages rules = []
-renewed_note (Some s) messages rules = renewed_line messages rules
+-- with the number of its texts, where notes are asked for
+abbrev pub renewed_note : Option Seen → ℕ → ℕ → List ℕ → List ℕ
+renewed_note None messages rules digest = []
+renewed_note (Some s) messages rules digest = renewed_line messages rules ++ digest_note digest
+
+-- what is seen once the policy of this number is in force
+abbrev pub renewed_seen : Option Seen → List ℕ → Option Seen
+renewed_seen None digest = None
+renewed_seen (Some s) digest = Some (record s { digest = digest })
 
 -- The policy at the path is in force from now on, and nothing is written but a note.
 pub record Renews (path : List ℕ) (old : AbstractMux) (w : Written) (new : AbstractMux) : Type 0 where
   pub policy : AbstractPolicy
-  pub read : IsPolicyAt old.told path policy
+  pub digest : List ℕ
+  pub read : IsNumberedAt old.told path policy digest
   pub step : Step old.gateway (event.reload policy) (Ok tt) nothing new.gateway
-  pub noted : w ≡ record { out = []; err = renewed_note old.seen (length policy.messages) (length policy.rules); status = 0 }
+  pub seen : new.seen ≡ renewed_seen old.seen digest
+  pub noted : w ≡ record {
+    out = [];
+    err = renewed_note old.seen (length policy.messages) (length policy.rules) digest;
+    status = 0;
+  }
 
--- There is no policy at the path, which is reported with what the system says of it, and the old one stays in force.
+-- There is no policy at the path, which is reported with what the system says of it, and the old one stays in force,
+-- which is noted with its number.
 pub record KeepsOld (path : List ℕ) (old : AbstractMux) (w : Written) (new : AbstractMux) : Type 0 where
   pub fault : Fault
   pub none : IsNoPolicyAt old.told path fault
   pub same : new.gateway ≡ old.gateway
+  pub seen : new.seen ≡ old.seen
   pub out : w.out ≡ []
   pub line : List ℕ
   pub told : IsFaultLine fault line w.status
@@ -85,11 +101,11 @@ pub record KeepsOld (path : List ℕ) (old : AbstractMux) (w : Written) (new : A
 abbrev pub Happens : List ℕ → AbstractMux → Record → Written → AbstractMux → Type 0
 Happens path old (piece link octets) w new =
     (p : PassesOn link old.seen old.gateway (event.piece link octets) w new.gateway) × (new.told ≡ old.told)
-    × IsSeen old.seen p.added new.seen
+    × IsSeen old.gateway.policy old.seen p.answer p.added new.gateway.links new.seen
 Happens path old (end link) w new =
     PassesOn link old.seen old.gateway (event.end link) w new.gateway × (new.told ≡ old.told) × (new.seen ≡ old.seen)
 Happens path old reload w new =
-    (Renews path old w new ⊎ KeepsOld path old w new) × IsLater old.told new.told × (new.seen ≡ old.seen)
+    (Renews path old w new ⊎ KeepsOld path old w new) × IsLater old.told new.told
 
 -- ---- records one after another
 

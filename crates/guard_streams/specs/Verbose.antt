@@ -3,6 +3,7 @@ use Rattle.std.specs.Prelude.{ℕ, nat_eq, List, [], ◌++◌, codes, decimal, i
 use Rattle.guard_frames.specs.declared.running.RunFault.{RunFault}
 use Rattle.guard_frames.specs.declared.running.RunFault.TheVariants.{FrameTooLong, WriteFailed, TornFrame, ReadFailed, OutOfMemory}
 use Rattle.guard_frames.specs.declared.totals.Totals.{Totals}
+use Rattle.guard_frames.specs.LinkView.{AbstractLink}
 use Rattle.guard_frames.specs.Totals.{no_frames, next_number}
 use Rattle.guard_streams.specs.declared.counts.Counts.{Counts}
 use Rattle.guard_streams.specs.declared.seen.Seen.{Seen}
@@ -52,6 +53,10 @@ fault_line OutOfMemory s = []
 abbrev pub fault_lines : RunFault → List ℕ → Seen → List ℕ
 fault_lines f said s = fault_line f s ++ said ++ last_lines s
 
+-- what a link tells of its frames under the policy of this number, and how often each reason was reported
+abbrev pub seen_of : List ℕ → AbstractLink → Counts → Seen
+seen_of digest l counts = record { digest = digest; totals = l.totals; counts = counts; left = l.left }
+
 -- before the first frame
-abbrev pub nothing_seen : Seen
-nothing_seen = record { totals = no_frames; counts = no_counts; left = 0 }
+abbrev pub nothing_seen : List ℕ → Seen
+nothing_seen digest = record { digest = digest; totals = no_frames; counts = no_counts; left = 0 }

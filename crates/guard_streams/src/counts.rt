@@ -1,11 +1,8 @@
 //! How often each reason is reported.
-ghost use Rattle.std.specs.Prelude.{◌≡◌, nat_eq};
-ghost use Rattle.std.specs.List.{list_any};
-ghost use Rattle.guard_streams.specs.Counted.{reason_of, more, no_counts, count_one, counts_after};
-ghost use Rattle.guard_streams.specs.Passing.{lines_of};
+ghost use Rattle.std.specs.Prelude.{◌≡◌};
+ghost use Rattle.guard_streams.specs.Counted.{no_counts};
 
-use guard_files::{after_word, first_word};
-use guard_notes::first_line;
+use guard_frames::{Reason, Watch, Why};
 
 /// How many lines of a report give each reason. Each number stays at the greatest of 64 bits.
 #[derive(Clone, Copy, Debug, PartialEq, Eq)]
@@ -36,66 +33,38 @@ impl Counts {
             no_memory: 0,
         }
     }
+}
 
-    /// After the lines of a text, each of which may lack its line feed.
-    pub fn after(self, text: &[u8]) -> Counts
-        ensures { result ≡ counts_after self (lines_of text.now) }
-    {
-        let mut counts = self;
-        let mut rest = text;
-        while !rest.is_empty() {
-            let (line, others) = first_line(rest);
-            counts = counts.after_line(line);
-            rest = others;
-        }
-        counts
-    }
+impl Watch for Counts {
+    ghost use Rattle.std.specs.Prelude.{◌≡◌};
+    ghost use Rattle.guard_streams.specs.Counted.{count_one};
 
-    /// After one more line.
-    fn after_line(self, line: &[u8]) -> Counts
-        ensures { result ≡ count_one self line.now }
-    {
-        let word = reason_of(line);
-        Counts {
-            bad_header: more(self.bad_header, word, b"bad-header"),
-            unknown_message: more(self.unknown_message, word, b"unknown-message"),
-            undecodable: more(self.undecodable, word, b"undecodable"),
-            outside_type: more(self.outside_type, word, b"outside-type"),
-            denied_by: more(self.denied_by, word, b"denied-by"),
-            not_allowed: more(self.not_allowed, word, b"not-allowed"),
-            no_rule: more(self.no_rule, word, b"no-rule"),
-            no_memory: more(self.no_memory, word, b"no-memory"),
+    ghost notes = { λ old why new. new ≡ count_one old why };
+
+    fn stays(&mut self, why: Why) {
+        match why {
+            Why::BadHeader => self.bad_header = self.bad_header.saturating_add(1),
+            Why::NoMemory => self.no_memory = self.no_memory.saturating_add(1),
+            Why::Decided(reason) => self.count_reason(reason),
         }
     }
 }
 
-/// One more where the word is the one that is counted.
-fn more(count: u64, word: &[u8], counted: &[u8]) -> u64
-    ensures { result ≡ more count word.now counted.now }
-{
-    if word == counted {
-        count.saturating_add(1)
-    } else {
-        count
-    }
-}
+impl Counts {
+    ghost use Rattle.std.specs.Prelude.{◌≡◌};
+    ghost use Rattle.guard_streams.specs.Counted.{count_reason};
 
-/// The reason that a line of a report gives: its second word, where that is no route, and else its fourth.
-fn reason_of(line: &[u8]) -> &[u8]
-    ensures { result.now ≡ reason_of line.now }
-{
-    let second = after_word(line);
-    let word = first_word(second);
-    if is_route(word) {
-        first_word(after_word(after_word(second)))
-    } else {
-        word
+    /// One more line that gives this reason.
+    fn count_reason(&mut self, reason: Reason)
+        ensures { self.new ≡ count_reason self.old reason }
+    {
+        match reason {
+            Reason::UnknownMessage => self.unknown_message = self.unknown_message.saturating_add(1),
+            Reason::Undecodable => self.undecodable = self.undecodable.saturating_add(1),
+            Reason::OutsideType => self.outside_type = self.outside_type.saturating_add(1),
+            Reason::DeniedBy => self.denied_by = self.denied_by.saturating_add(1),
+            Reason::NotAllowed => self.not_allowed = self.not_allowed.saturating_add(1),
+            Reason::NoRule => self.no_rule = self.no_rule.saturating_add(1),
+        }
     }
-}
-
-/// Whether a word of a line is a route: names have no `>`.
-fn is_route(word: &[u8]) -> bool
-    ensures { result ≡ list_any (λ o. nat_eq o 62) word.now }
-{
-    word.contains(&b'>')
 }

@@ -1,13 +1,18 @@
 //! The links of one stream of records, in one gateway.
-ghost use Rattle.std.specs.Prelude.{◌≡◌};
+ghost use Rattle.std.specs.Prelude.{◌≡◌, ◌++◌, ℕ, List, IfOk};
+ghost use Rattle.guard_streams.specs.InForce.{kept_note};
+ghost use Rattle.guard_streams.specs.Saying.{IsSaidOfFault};
 ghost use Rattle.guard_streams.specs.inside.Doing.{is_closed};
+ghost use Rattle.guard_streams.specs.inside.Seeing.{known_counts};
 
+use crate::counts::Counts;
+use crate::in_force::add_kept;
 use crate::passing::{put_fault, put_renewed};
 use crate::saying::{Says, said_of_fault};
 use crate::seen::Seen;
-use crate::sinks::{end_link, feed_link, new_sinks, pass_on};
-use guard_files::{FAILED, Fault, Files, LINKS, Stop, load, report};
-use guard_frames::{Event, Gateway, Kept, Link, LinkFault, Sink, put_all};
+use crate::sinks::{all_totals, end_link, feed_link, new_sinks, pass_on};
+use guard_files::{FAILED, Fault, Files, LINKS, Stop, load_numbered, report};
+use guard_frames::{Event, Gateway, Kept, Link, LinkFault, Sink, Unwatched, put_all};
 use guard_model::OutOfMemory;
 use guard_policy::Policy;
 use std::alloc::Global;
@@ -25,7 +30,7 @@ pub struct Links {
 
 impl Links {
     ghost use Rattle.std.specs.Prelude.{◌≡◌, ◌≤◌, ◌⊎◌, Option, List, [], ℕ, Bool, true};
-    ghost use Rattle.std.specs.Prelude.{false, max, Err, IfOk, OnOk, IfErr};
+    ghost use Rattle.std.specs.Prelude.{false, max, length, Err, IfOk, OnOk, IfErr};
     ghost use Rattle.std.specs.Option.{option_map};
     ghost use Rattle.std.specs.Io.KnownBytes.{Appends};
     ghost use Rattle.guard_frames.specs.GatewayView.{gateway_view};
@@ -38,8 +43,9 @@ impl Links {
     ghost use Rattle.guard_files.specs.Records.Record.{piece, end, reload};
     ghost use Rattle.guard_streams.specs.Muxing.{new_mux, WritesPart, BreaksErr};
     ghost use Rattle.guard_streams.specs.Saying.{IsUnreadNote};
-    ghost use Rattle.guard_streams.specs.Turns.{link_status, renewed_note};
+    ghost use Rattle.guard_streams.specs.Turns.{link_status, renewed_note, renewed_seen};
     ghost use Rattle.guard_streams.specs.inside.Noting.{noted_link, answer_lines};
+    ghost use Rattle.guard_streams.specs.inside.Seeing.{counts_in, seen_after};
     ghost use Rattle.guard_streams.specs.inside.Doing.{IsReady, mux_of, IsTaken, IsCut};
     ghost use Rattle.guard_streams.specs.inside.Doing.{Is, HadEnded, AreEnded, IsEndCut};
 
@@ -95,10 +101,41 @@ impl Links {
             (device_of E.taken E.has_failed err.old err.new)) }
         ensures unseen { result ≡ Err WriteFailed → self.new.seen ≡ self.old.seen }
     {
-        let answer = feed_link(alloc, &mut self.gateway, link, octets);
-        let is_reported = pass_on(&mut self.gateway, link, &mut self.seen, out, err)?;
+        let mut counts = self.counts();
+        let answer = feed_link(alloc, &mut self.gateway, link, octets, &mut counts);
+        let is_reported = pass_on(&mut self.gateway, link, out, err)?;
+        self.see(answer, counts);
         self.status = self.status.max(u8::from(is_reported));
         self.tell_answer(link, answer, err)
+    }
+
+    /// The counts of the reasons so far.
+    fn counts(&self) -> Counts
+        ensures { result ≡ counts_in self.now.seen }
+    {
+        match self.seen {
+            Some(seen) => seen.counts,
+            None => Counts::none(),
+        }
+    }
+
+    /// Sees what came of a piece that was answered so, where notes are asked for; these are the counts after it.
+    fn see(&mut self, answer: Result<(), LinkFault>, counts: Counts)
+        requires { length (gateway_view self.old.gateway).links ≡ 16 }
+        ensures seen { self.new.seen
+            ≡ seen_after self.old.seen answer (gateway_view self.old.gateway).links counts }
+        ensures gateway { self.new.gateway ≡ self.old.gateway }
+        ensures status { self.new.status ≡ self.old.status }
+    {
+        if let Some(old) = self.seen {
+            let digest = old.digest;
+            self.seen = Some(Seen {
+                digest,
+                totals: all_totals(&self.gateway),
+                counts: known_counts(answer, old.counts, counts),
+                left: old.left,
+            });
+        }
     }
 
     /// The end of a link's stream.
@@ -157,7 +194,8 @@ impl Links {
     }
 
     /// Reads the policy at the path again, and notes that where notes are asked for. Where there is none, that is
-    /// reported, with what the system says of it where notes are asked for, and the policy in force stays.
+    /// reported, and the policy in force stays; where notes are asked for, what the system says and which policy stays
+    /// are noted.
     pub fn reload<F: Files, E: Sink, T: Says>(
         &mut self,
         alloc: Global,
@@ -173,13 +211,16 @@ impl Links {
         ensures cut { IfErr result (λ s. (out : Option (List ℕ)) (failed : Bool)
             → IsCut s path.now (mux_of (F.told files.old) self.old) reload
             (device out out failed) (device_of E.taken E.has_failed err.old err.new)) }
-        ensures seen { self.new.seen ≡ self.old.seen }
+        ensures unseen { result ≡ Err WriteFailed → self.new.seen ≡ self.old.seen }
     {
-        match load(alloc, path, files) {
-            Ok(policy) => {
+        match load_numbered(alloc, path, files) {
+            Ok(loaded) => {
+                let (policy, digest) = loaded;
                 let (messages, rules) = (policy.messages(), policy.rules());
-                let _ = self.gateway.step(alloc, Event::Reload(policy));
-                self.note_policy(messages, rules, err)
+                let _ = self
+                    .gateway
+                    .step(alloc, Event::Reload(policy), &mut Unwatched);
+                self.note_policy(messages, rules, &digest, err)
             }
             Err(fault) => match report(alloc, &fault, err) {
                 Ok(status) => {
@@ -191,25 +232,35 @@ impl Links {
         }
     }
 
-    /// Notes a new policy of so many messages and rules, where notes are asked for.
-    fn note_policy<E: Sink>(&self, messages: usize, rules: usize, err: &mut E) -> Result<(), Stop>
+    /// Notes a new policy of so many messages and rules, and keeps and notes its number, where notes are asked for.
+    fn note_policy<E: Sink>(
+        &mut self,
+        messages: usize,
+        rules: usize,
+        digest: &[u8; 32],
+        err: &mut E,
+    ) -> Result<(), Stop>
         ensures all { OnOk result (Appends (E.taken err.old) (E.taken err.new)
-            (renewed_note self.now.seen messages rules)) }
+            (renewed_note self.old.seen messages rules digest.now)) }
         ensures part { IfErr result (λ s. (s ≡ ErrorFailed) × (E.has_failed err.new ≡ true) × ((part : List ℕ)
-            × IsProperPrefix part (renewed_note self.now.seen messages rules)
+            × IsProperPrefix part (renewed_note self.old.seen messages rules digest.now)
             × Appends (E.taken err.old) (E.taken err.new) part)) }
+        ensures seen { self.new.seen ≡ renewed_seen self.old.seen digest.now }
+        ensures gateway { self.new.gateway ≡ self.old.gateway }
+        ensures status { self.new.status ≡ self.old.status }
     {
-        if self.seen.is_none() {
+        let Some(seen) = &mut self.seen else {
             return Ok(());
-        }
-        match put_renewed(err, messages, rules) {
+        };
+        seen.digest = *digest;
+        match put_renewed(err, messages, rules, digest) {
             Ok(()) => Ok(()),
             Err(_) => Err(Stop::ErrorFailed),
         }
     }
 
-    /// Notes what the system says of a policy that can't be read again, where notes are asked for and there is memory
-    /// for that.
+    /// Notes what the system says of a policy that can't be had anew, and which policy stays, where notes are asked for
+    /// and there is memory for that.
     fn note_unread<E: Sink, T: Says>(
         &self,
         alloc: Global,
@@ -223,10 +274,10 @@ impl Links {
             × (part : List ℕ) × IsUnreadNote self.now.seen fault.now note × IsProperPrefix part note
             × Appends (E.taken err.old) (E.taken err.new) part)) }
     {
-        if self.seen.is_none() {
+        let Some(seen) = self.seen else {
             return Ok(());
-        }
-        let Ok(note) = said_of_fault(alloc, fault, system) else {
+        };
+        let Ok(note) = unread_note(alloc, fault, &seen.digest, system) else {
             return Ok(());
         };
         match put_all(err, note.as_slice()) {
@@ -271,6 +322,35 @@ impl Links {
             return None;
         }
         self.gateway.link(link)
+    }
+}
+
+/// What the system says of a policy that can't be had anew, and that the one of this number stays. It fails only where
+/// memory runs out.
+fn unread_note<T: Says>(
+    alloc: Global,
+    fault: &Fault,
+    digest: &[u8; 32],
+    system: &T,
+) -> Result<Vec<u8>, OutOfMemory>
+    ensures { IfOk result (λ note. (said : List ℕ) × IsSaidOfFault fault.now said
+        × (note.items ≡ said ++ kept_note digest.now)) }
+{
+    let mut note = said_of_fault(alloc, fault, system)?;
+    add_kept(&mut note, digest)?;
+    Ok(note)
+}
+
+/// The new counts, unless a sink of the link has failed: then it isn't known which lines it took.
+fn known_counts(answer: Result<(), LinkFault>, old: Counts, new: Counts) -> Counts
+    ensures { result ≡ known_counts answer old new }
+{
+    match answer {
+        Ok(())
+        | Err(LinkFault::FrameTooLong)
+        | Err(LinkFault::Closed)
+        | Err(LinkFault::TornFrame) => new,
+        Err(LinkFault::WriteFailed) => old,
     }
 }
 

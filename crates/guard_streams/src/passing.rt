@@ -10,11 +10,13 @@ ghost use Rattle.guard_frames.specs.LinkView.{link_view};
 ghost use Rattle.guard_frames.specs.Prefix.{IsProperPrefix};
 ghost use Rattle.guard_files.specs.Records.{header, record_octets};
 ghost use Rattle.guard_files.specs.Records.Record.{piece};
+ghost use Rattle.guard_streams.specs.InForce.{digest_note};
 ghost use Rattle.guard_streams.specs.Turns.{renewed_line};
 ghost use Rattle.guard_streams.specs.AtFault.{begun_line};
 ghost use Rattle.guard_streams.specs.inside.Noting.{fault_note, answer_lines};
 ghost use Rattle.guard_streams.specs.Passing.{InRecords, IsShort, lines_of, marked, marked_line, link_mark};
 
+use crate::in_force::append_digest;
 use arrayvec::ArrayVec;
 use guard_files::LONGEST_PIECE;
 use guard_frames::{Failed, Link, LinkFault, Sink, append, put_all, put_both};
@@ -180,10 +182,17 @@ fn put_frame<E: Sink>(
     put_all(err, whole.as_slice())
 }
 
-/// Puts the note of a new policy of so many messages and rules, in one call.
-pub fn put_renewed<E: Sink>(err: &mut E, messages: usize, rules: usize) -> Result<(), Failed>
-    ensures all { OnOk result (Appends (E.taken err.old) (E.taken err.new) (renewed_line messages rules)) }
-    ensures part { OnErr result ((part : List ℕ) × IsProperPrefix part (renewed_line messages rules)
+/// Puts the note of a new policy of so many messages and rules, and of the number of its texts, in one call.
+pub fn put_renewed<E: Sink>(
+    err: &mut E,
+    messages: usize,
+    rules: usize,
+    digest: &[u8; 32],
+) -> Result<(), Failed>
+    ensures all { OnOk result (Appends (E.taken err.old) (E.taken err.new)
+        (renewed_line messages rules ++ digest_note digest.now)) }
+    ensures part { OnErr result ((part : List ℕ)
+        × IsProperPrefix part (renewed_line messages rules ++ digest_note digest.now)
         × Appends (E.taken err.old) (E.taken err.new) part) }
     ensures failed { OnErr result (E.has_failed err.new ≡ true) }
     ensures lines { AsksLines (E.asked err.old) (E.asked err.new) }
@@ -196,6 +205,7 @@ pub fn put_renewed<E: Sink>(err: &mut E, messages: usize, rules: usize) -> Resul
     append(&mut whole, b", rules ");
     append(&mut whole, second.format(rules).as_bytes());
     append(&mut whole, b"\n");
+    append_digest(&mut whole, digest);
     put_all(err, whole.as_slice())
 }
 

@@ -3,34 +3,49 @@ ghost use Rattle.std.specs.Prelude.{◌≡◌, ◌++◌, ℕ, List, IfOk, OnOk, 
 ghost use Rattle.guard_files.specs.Faults.{IsText};
 ghost use Rattle.guard_files.specs.Writing.{line_of};
 ghost use Rattle.guard_files.specs.declared.fault.Fault.TheVariants.{Run};
-ghost use Rattle.guard_streams.specs.Verbose.{nothing_seen, totals_line, count_line, count_lines};
+ghost use Rattle.guard_frames.specs.LinkView.{link_view};
+ghost use Rattle.guard_streams.specs.Verbose.{nothing_seen, seen_of, totals_line, count_line, count_lines};
 ghost use Rattle.guard_streams.specs.Verbose.{last_lines, frame_line, fault_line, fault_lines};
 
 use crate::counts::Counts;
 use guard_files::{Fault, add};
-use guard_frames::{RunFault, Totals};
+use guard_frames::{Link, RunFault, Totals};
 use guard_model::OutOfMemory;
 use itoa::Buffer;
 use std::alloc::Global;
 
-/// How many frames there were, how often each reason was reported, and what a fault leaves of the frame after them: the
-/// length that is too long, or how many octets of it there are.
+/// Which policy is in force, by the number of its texts, how many frames there were, how often each reason was reported,
+/// and what a fault leaves of the frame after them: the length that is too long, or how many octets of it there are.
 #[derive(Clone, Copy, Debug, PartialEq, Eq)]
 pub struct Seen {
+    pub digest: [u8; 32],
     pub totals: Totals,
     pub counts: Counts,
     pub left: usize,
 }
 
 impl Seen {
-    /// Before the first frame.
-    pub fn nothing() -> Seen
-        ensures { result ≡ nothing_seen }
+    /// Before the first frame, under the policy of this number.
+    pub fn nothing(digest: [u8; 32]) -> Seen
+        ensures { result ≡ nothing_seen digest }
     {
         Seen {
+            digest,
             totals: Totals::none(),
             counts: Counts::none(),
             left: 0,
+        }
+    }
+
+    /// What a link tells of its frames under the policy of this number, and these counts.
+    pub fn of(link: &Link, counts: Counts, digest: [u8; 32]) -> Seen
+        ensures { result ≡ seen_of digest (link_view link.now) counts }
+    {
+        Seen {
+            digest,
+            totals: link.totals(),
+            counts,
+            left: link.left(),
         }
     }
 }

@@ -1,6 +1,6 @@
 //! A gateway over sinks in memory, which are emptied after each event.
 ghost use Rattle.std.specs.Prelude.{◌≡◌, ◌≤◌, Some, Err, List, ℕ, not, nat_eq, true};
-ghost use Rattle.std.specs.Prelude.{length, slice_get, OnOk, OnErr, IfOk, IfErr};
+ghost use Rattle.std.specs.Prelude.{length, slice_get, OnOk, IfOk, IfErr};
 ghost use Rattle.std.specs.List.{All};
 ghost use Rattle.std.specs.Io.KnownBytes.{Appends};
 ghost use Rattle.guard_frames.specs.declared.seats.Ends.{Ends};
@@ -11,17 +11,19 @@ ghost use Rattle.guard_frames.specs.Gateways.AbstractEvent.{end};
 ghost use Rattle.guard_frames.specs.GatewaySteps.{Step};
 ghost use Rattle.guard_frames.specs.GatewayView.{gateway_view, gateway_ends};
 ghost use Rattle.guard_frames.specs.declared.gateway.StepFault.TheVariants.{NoSuchLink};
+ghost use Rattle.guard_frames.specs.declared.link.LinkFault.TheVariants.{WriteFailed};
+ghost use Rattle.guard_frames.specs.Totals.{no_frames};
 ghost use Rattle.guard_frames.specs.KeptView.{kept_octets};
 ghost use Rattle.guard_files.specs.Devices.{device_of};
 ghost use Rattle.guard_streams.specs.Passing.{InRecords, marked};
-ghost use Rattle.guard_streams.specs.inside.Doing.{AreEmpty, IsReady, IsFed, ArePassed, AreCut, added_to};
-ghost use Rattle.guard_streams.specs.Tallying.{IsSeen};
+ghost use Rattle.guard_streams.specs.inside.Doing.{AreEmpty, IsReady, IsFed, ArePassed, AreCut};
+ghost use Rattle.guard_streams.specs.Counted.{AreCounted};
+ghost use Rattle.guard_streams.specs.Tallying.{both, with_links};
 
+use crate::counts::Counts;
 use crate::passing::{put_lines, put_pieces};
-use crate::seen::Seen;
-use crate::tallying::tallied;
-use guard_files::Stop;
-use guard_frames::{Ends, Event, Gateway, Kept, LinkFault, Sink, StepFault};
+use guard_files::{LINKS, Stop};
+use guard_frames::{Ends, Event, Gateway, Kept, LinkFault, Sink, StepFault, Totals, Unwatched};
 use guard_model::OutOfMemory;
 use std::alloc::Global;
 
@@ -40,18 +42,20 @@ pub fn new_sinks(alloc: Global, count: u16) -> Result<Vec<Ends<Kept>>, OutOfMemo
     Ok(ends)
 }
 
-/// Feeds a piece to a link, whose sinks are empty, and answers as the link does.
+/// Feeds a piece to a link, whose sinks are empty, and answers as the link does. The reasons of the lines are counted.
 pub fn feed_link(
     alloc: Global,
     gateway: &mut Gateway<Kept>,
     link: u16,
     octets: &[u8],
+    counts: &mut Counts,
 ) -> Result<(), LinkFault>
     requires link { link ≤ 15 }
     requires ready { IsReady gateway.old }
-    ensures { IsFed link gateway.old octets.now result gateway.new }
+    ensures { (fed : IsFed link gateway.old octets.now result gateway.new) × ((result ≡ Err WriteFailed → ⊥) →
+        AreCounted (gateway_view gateway.old).policy counts.old fed.added.reports counts.new) }
 {
-    answer_of(gateway.step(alloc, Event::Piece(link, octets)))
+    answer_of(gateway.step(alloc, Event::Piece(link, octets), counts))
 }
 
 /// Ends a link, and answers as it does.
@@ -61,7 +65,7 @@ pub fn end_link(alloc: Global, gateway: &mut Gateway<Kept>, link: u16) -> Result
     ensures step { Step (gateway_view gateway.old) (end link) (step_answer result) nothing (gateway_view gateway.new) }
     ensures ready { IsReady gateway.new }
 {
-    answer_of(gateway.step(alloc, Event::End(link)))
+    answer_of(gateway.step(alloc, Event::End(link), &mut Unwatched))
 }
 
 /// The answer of a link that is there.
@@ -76,12 +80,10 @@ fn answer_of(answer: Result<(), StepFault>) -> Result<(), LinkFault>
     }
 }
 
-/// Writes what the sinks of a link took, and empties them; answers whether anything was reported. Where notes are asked
-/// for it is seen what they took.
+/// Writes what the sinks of a link took, and empties them; answers whether anything was reported.
 pub fn pass_on<O: Sink, E: Sink>(
     gateway: &mut Gateway<Kept>,
     link: u16,
-    seen: &mut Option<Seen>,
     out: &mut O,
     err: &mut E,
 ) -> Result<bool, Stop>
@@ -93,15 +95,11 @@ pub fn pass_on<O: Sink, E: Sink>(
         → AreCut s link ends
         (device_of O.taken O.has_failed out.old out.new)
         (device_of E.taken E.has_failed err.old err.new)) }
-    ensures seen { IfOk result (λ any. (ends : Ends Kept) → slice_get (gateway_ends gateway.old) link ≡ Some ends
-        → IsSeen seen.old (added_to ends) seen.new) }
-    ensures same { OnErr result (seen.new ≡ seen.old) }
 {
     let Some(ends) = gateway.ends_mut(link) else {
         return Ok(false);
     };
     put_ends(link, ends, out, err)?;
-    see(seen, ends);
     let is_reported = !ends.reports.octets().is_empty();
     empty(ends);
     Ok(is_reported)
@@ -129,12 +127,28 @@ fn put_ends<O: Sink, E: Sink>(
     Ok(())
 }
 
-/// Sees what the sinks of a link took, where notes are asked for.
-fn see(seen: &mut Option<Seen>, ends: &Ends<Kept>)
-    ensures { IsSeen seen.old (added_to ends.now) seen.new }
+/// How many frames there were, as the links tell.
+pub fn all_totals(gateway: &Gateway<Kept>) -> Totals
+    requires { length (gateway_view gateway.now).links ≡ 16 }
+    ensures { result ≡ with_links no_frames (gateway_view gateway.now).links }
 {
-    if let Some(old) = *seen {
-        *seen = Some(tallied(old, ends.out.octets(), ends.reports.octets()));
+    let mut totals = Totals::none();
+    for link in 0..LINKS {
+        let Some(one) = gateway.link(link) else {
+            unreachable!()
+        };
+        totals = both(totals, one.totals());
+    }
+    totals
+}
+
+fn both(totals: Totals, more: Totals) -> Totals
+    ensures { result ≡ both totals more }
+{
+    Totals {
+        frames: totals.frames.saturating_add(more.frames),
+        passed: totals.passed.saturating_add(more.passed),
+        denied: totals.denied.saturating_add(more.denied),
     }
 }
 

@@ -9,16 +9,18 @@ ghost use Rattle.guard_streams.specs.Saying.{IsSaidOfRun, TellsUnread};
 ghost use Rattle.guard_streams.specs.Verbose.{last_lines, fault_lines};
 ghost use Rattle.guard_streams.specs.Watching.{WatchesStream};
 
+use crate::counts::Counts;
 use crate::guarding::status_of;
+use crate::in_force::put_digest;
 use crate::saying::{Says, said_of_fault, said_of_run};
 use crate::seen::{Seen, fault_notes, last_notes, line_with};
-use crate::watching::watch_all;
-use guard_files::{FAILED, Fault, Files, load, new_frame_room, tell_line, tell_no_memory};
-use guard_frames::{RunFault, Sink, Source};
+use guard_files::{FAILED, Fault, Files, load_numbered, tell_line, tell_no_memory};
+use guard_frames::{Link, RunFault, Sink, Source, decide_link, new_buffer};
 use std::alloc::Global;
 
 /// Guards the stream under the policy at the path, with its reports on standard error, and answers the status, as `run`
-/// does. Behind the reports, and behind the line of a fault, it says how many frames there were and how often each
+/// does, by the same loop. It begins with the number of the policy's texts; where standard error fails in that, nothing
+/// is read. Behind the reports, and behind the line of a fault, it says how many frames there were and how often each
 /// reason was reported. Where there is no memory for that, it says so, and the status is 3.
 pub fn run_verbosely<F: Files, S: Source, O: Sink, E: Sink, T: Says>(
     alloc: Global,
@@ -33,23 +35,32 @@ pub fn run_verbosely<F: Files, S: Source, O: Sink, E: Sink, T: Says>(
         (device_of O.taken O.has_failed out.old out.new)
         (device_of E.taken E.has_failed err.old err.new) result }
 {
-    let policy = match load(alloc, path, files) {
-        Ok(policy) => policy,
+    let (policy, digest) = match load_numbered(alloc, path, files) {
+        Ok(loaded) => loaded,
         Err(fault) => return tell_unread(alloc, &fault, err, system),
     };
-    let Ok(mut room) = new_frame_room(alloc) else {
+    let Ok(mut link) = Link::new(alloc) else {
         return tell_no_memory(err);
     };
-    let mut seen = Seen::nothing();
-    match watch_all(
+    let Ok(mut buffer) = new_buffer(alloc) else {
+        return tell_no_memory(err);
+    };
+    let Ok(()) = put_digest(err, &digest) else {
+        return FAILED;
+    };
+    let mut counts = Counts::none();
+    let ran = decide_link(
         alloc,
-        &policy,
-        room.as_mut_slice(),
+        &mut link,
+        &mut buffer,
         input,
         out,
         err,
-        &mut seen,
-    ) {
+        &policy,
+        &mut counts,
+    );
+    let seen = Seen::of(&link, counts, digest);
+    match ran {
         Ok(()) => tell_last(alloc, &seen, err),
         // Standard error took its last line in part: there is no place to say anything.
         Err(_) if err.failed() => FAILED,

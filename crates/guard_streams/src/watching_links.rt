@@ -5,12 +5,13 @@ ghost use Rattle.guard_files.specs.declared.stop.Stop.TheVariants as stop;
 ghost use Rattle.guard_streams.specs.Saying.{IsSaid};
 ghost use Rattle.guard_streams.specs.Muxing.{WatchesLinks, TellsNotes, TellsStopWith, seen_lines};
 
+use crate::in_force::put_digest;
 use crate::links::Links;
 use crate::muxing::guard;
 use crate::saying::{Failing, Says, line_said};
 use crate::seen::{Seen, add_last};
 use crate::verbose::tell_unread;
-use guard_files::{FAILED, Files, Stop, add, load, new_room, tell_line, tell_no_memory};
+use guard_files::{FAILED, Files, Stop, add, load_numbered, new_room, tell_line, tell_no_memory};
 use guard_frames::{Sink, Source};
 use guard_model::OutOfMemory;
 use std::alloc::Global;
@@ -21,8 +22,9 @@ const READ_FAILED: &[u8] = b"derguard: F5 ReadFailed\n";
 
 const WRITE_FAILED: &[u8] = b"derguard: F2 WriteFailed\nderguard: standard output failed\n";
 
-/// Guards the links of the stream under the policy at the path, and answers the status, as `mux` does. New policies are
-/// noted as they come; behind all else, and behind the line that says why the links aren't guarded to their ends, it is
+/// Guards the links of the stream under the policy at the path, and answers the status, as `mux` does. It begins with
+/// the number of the policy's texts; where standard error fails in that, nothing is read. New policies are noted as they
+/// come, with their numbers; behind all else, and behind the line that says why the links aren't guarded to their ends, it is
 /// said how many frames there were and how often each reason was reported. Where there is no memory for that, it says
 /// so, and the status is 3.
 pub fn mux_verbosely<F: Files, S: Source, O: Sink, E: Sink, T: Says>(
@@ -38,15 +40,18 @@ pub fn mux_verbosely<F: Files, S: Source, O: Sink, E: Sink, T: Says>(
         (device_of O.taken O.has_failed out.old out.new)
         (device_of E.taken E.has_failed err.old err.new) result }
 {
-    let policy = match load(alloc, path, files) {
-        Ok(policy) => policy,
+    let (policy, digest) = match load_numbered(alloc, path, files) {
+        Ok(loaded) => loaded,
         Err(fault) => return tell_unread(alloc, &fault, err, system),
     };
-    let Ok(mut links) = Links::new(alloc, policy, Some(Seen::nothing())) else {
+    let Ok(mut links) = Links::new(alloc, policy, Some(Seen::nothing(digest))) else {
         return tell_no_memory(err);
     };
     let Ok(mut room) = new_room(alloc) else {
         return tell_no_memory(err);
+    };
+    let Ok(()) = put_digest(err, &digest) else {
+        return FAILED;
     };
     let guarded = guard(
         alloc,

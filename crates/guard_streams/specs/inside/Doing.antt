@@ -33,10 +33,6 @@ pub record AreEmpty (ends : Ends Kept) : Type 0 where
   pub out : kept_octets ends.out ≡ []
   pub reports : kept_octets ends.reports ≡ []
 
--- what they took since then
-abbrev pub added_to : Ends Kept → Added
-added_to ends = record { out = kept_octets ends.out; reports = kept_octets ends.reports }
-
 -- There are sixteen links, and nothing lies in their sinks.
 pub record IsReady (g : Gateway Kept) : Type 0 where
   pub many : length (gateway_view g).links ≡ 16

@@ -1,32 +1,32 @@
--- What becomes of the next frame of a stream that is watched.
-use Rattle.std.specs.Prelude.{◌≡◌, ◌⊎◌, ℕ, List}
-use Rattle.std.specs.Io.KnownBytes.{Appends}
-use Rattle.guard_frames.specs.Added.{Octets}
-use Rattle.guard_frames.specs.Calls.{EndsLine}
-use Rattle.guard_frames.specs.Guarding.{Adds}
-use Rattle.guard_frames.specs.Outcomes.{Decision, FrameGoes, staying}
-use Rattle.guard_frames.specs.Totals.{after_going, after_staying, next_number}
+-- What the code sees of a piece.
+use Rattle.std.specs.Prelude.{Option, Some, None, List, Result, Ok, Err}
+use Rattle.guard_frames.specs.declared.link.LinkFault.{LinkFault}
+use Rattle.guard_frames.specs.declared.link.LinkFault.TheVariants.{FrameTooLong, WriteFailed, Closed, TornFrame}
+use Rattle.guard_frames.specs.LinkView.{AbstractLink}
+use Rattle.guard_frames.specs.Totals.{no_frames}
+use Rattle.guard_streams.specs.declared.counts.Counts.{Counts}
 use Rattle.guard_streams.specs.declared.seen.Seen.{Seen}
-use Rattle.guard_streams.specs.Counted.{counts_after}
-use Rattle.guard_streams.specs.Passing.{lines_of}
+use Rattle.guard_streams.specs.Counted.{no_counts}
+use Rattle.guard_streams.specs.Tallying.{with_links}
 
--- It goes, and is out.
-pub record IsOut (d : Decision) (frame : List ℕ) (old new : Seen) (out reports : Octets) : Type 0 where
-  pub goes : FrameGoes d frame
-  pub sent : Appends out.0 out.1 frame
-  pub silent : reports.1 ≡ reports.0
-  pub totals : new.totals ≡ after_going old.totals
-  pub counts : new.counts ≡ old.counts
+-- the counts so far
+abbrev pub counts_in : Option Seen → Counts
+counts_in None = no_counts
+counts_in (Some s) = s.counts
 
--- It stays, and its line is out.
-pub record IsReported (d : Decision) (frame : List ℕ) (old new : Seen) (out reports : Octets) : Type 0 where
-  pub line : List ℕ
-  pub adds : Adds d (next_number old.totals) (staying frame) line
-  pub ends : EndsLine line
-  pub same : out.1 ≡ out.0
-  pub told : Appends reports.0 reports.1 line
-  pub totals : new.totals ≡ after_staying old.totals
-  pub counts : new.counts ≡ counts_after old.counts (lines_of line)
+-- the new counts, unless the piece is answered so that they aren't known
+abbrev pub known_counts : Result (Unit {0}) LinkFault → Counts → Counts → Counts
+known_counts (Ok done) old new = new
+known_counts (Err FrameTooLong) old new = new
+known_counts (Err WriteFailed) old new = old
+known_counts (Err Closed) old new = new
+known_counts (Err TornFrame) old new = new
 
-abbrev pub IsPassed : Decision → List ℕ → Seen → Seen → Octets → Octets → Type 0
-IsPassed d frame old new out reports = IsOut d frame old new out reports ⊎ IsReported d frame old new out reports
+abbrev pub seen_after : Option Seen → Result (Unit {0}) LinkFault → List AbstractLink → Counts → Option Seen
+seen_after None answer links counts = None
+seen_after (Some s) answer links counts = Some (record {
+  digest = s.digest;
+  totals = with_links no_frames links;
+  counts = known_counts answer s.counts counts;
+  left = s.left;
+})

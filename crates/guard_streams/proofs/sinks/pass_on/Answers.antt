@@ -1,11 +1,9 @@
-use Rattle.std.proofs.Common.{◌≡◌, ◌∙◌, ℕ, List, ap, length, not, nat_eq, subst}
+use Rattle.std.proofs.Common.{◌≡◌, ◌∙◌, ℕ, List, ap, length, not, nat_eq}
 use Rattle.std.proofs.lemmas.Option.{same_Some}
 use Rattle.guard_frames.specs.declared.kept.Kept.{Kept}
 use Rattle.guard_frames.specs.declared.seats.Ends.{Ends}
 use Rattle.guard_frames.specs.KeptView.{kept_octets}
 use Rattle.guard_frames.specs.Lending.{HasEnds}
-use Rattle.guard_streams.specs.Tallying.{IsSeen}
-use Rattle.guard_streams.specs.inside.Doing.{added_to}
 use Rattle.guard_streams.proofs.Doings.{passed_of, some_of}
 use Rattle.guard_streams.proofs.sinks.pass_on.Goals as goal
 
@@ -23,9 +21,3 @@ returns-clause-done g c = λ ends there. (
           ∙ ap (λ (s : List ℕ). not (nat_eq (length s) 0)) (c.octets.ensures
           ∙ ap (λ (e : Ends Kept). kept_octets e.reports) same),
     ))
-
-pub returns-clause-seen : goal.returns-clause-seen
-returns-clause-seen g c = λ ends there. (
-    let lent = c.in-Some.ends.now in
-    let same : lent ≡ ends = same_Some lent ends (c.in-Some.ensures.there ∙ there) in
-    subst (λ (x : Ends Kept). IsSeen c.args.seen.now (added_to x) c.see.new.seen) same c.see.ensures)

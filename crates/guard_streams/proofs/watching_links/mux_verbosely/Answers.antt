@@ -20,16 +20,16 @@ returns-in_default-new_room g c =
 
 pub returns-in-Ok-guarded : goal.returns-in-Ok-guarded
 returns-in-Ok-guarded g c =
-    let later = g.F.Files.told c.load.new.files in
+    let later = g.F.Files.told c.load_numbered.new.files in
     let path = c.args.path.now in
-    let p = policy_view c.in-Ok.policy in
+    let p = policy_view c.in-Ok.loaded.0 in
     let links = c.guard-guarded.new.links in
     let input = input_of (g.S.Source.tells c.args.input.now) (g.S.Source.tells c.guard-guarded.new.input)
     (g.S.Source.takes c.args.input.now) (g.S.Source.takes c.guard-guarded.new.input)
     (g.S.Source.has_failed c.guard-guarded.new.input) in
     let out = device (g.O.Sink.taken c.args.out.now) (g.O.Sink.taken c.guard-guarded.new.out)
     (g.O.Sink.has_failed c.guard-guarded.new.out) in
-    let before = g.E.Sink.taken c.args.err.now in
+    let before = g.E.Sink.taken c.put_digest.new.err in
     let reported = g.E.Sink.taken c.guard-guarded.new.err in
     let was = g.E.Sink.has_failed c.guard-guarded.new.err in
     let is = g.E.Sink.has_failed c.tell_notes.new.err in
@@ -39,23 +39,28 @@ returns-in-Ok-guarded g c =
     c.in-Ok-guarded.ensures.done in
     inr (
       p,
+      c.in-Ok.loaded.1,
       later,
       c.in-Ok.ensures.there,
       c.in-Ok.ensures.later,
       inl (
-        links.status,
-        reported,
-        finishes_told path _ input out before reported was is links.status done.0,
-        subst (λ (s : Option Seen). TellsNotes (seen_lines s) links.status told c.tell_notes.result) (sym done.1)
-            (rw (← c.seen.ensures, ← c.status.ensures) c.tell_notes.ensures),
+        before,
+        c.in-Ok-put_digest.ensures.all,
+        inl (
+          links.status,
+          reported,
+          finishes_told path _ input out before reported was is links.status done.0,
+          subst (λ (s : Option Seen). TellsNotes (seen_lines s) links.status told c.tell_notes.result) (sym done.1)
+              (rw (← c.seen.ensures, ← c.status.ensures) c.tell_notes.ensures),
+        ),
       ),
     )
 
 pub returns : goal.returns
 returns g c =
-    let later = g.F.Files.told c.load.new.files in
+    let later = g.F.Files.told c.load_numbered.new.files in
     let path = c.args.path.now in
-    let p = policy_view c.in-Ok.policy in
+    let p = policy_view c.in-Ok.loaded.0 in
     let links = c.guard-guarded.new.links in
     let s = c.in-Err-guarded.reason in
     let input = input_of (g.S.Source.tells c.args.input.now) (g.S.Source.tells c.guard-guarded.new.input)
@@ -63,7 +68,7 @@ returns g c =
     (g.S.Source.has_failed c.guard-guarded.new.input) in
     let out = device (g.O.Sink.taken c.args.out.now) (g.O.Sink.taken c.guard-guarded.new.out)
     (g.O.Sink.has_failed c.guard-guarded.new.out) in
-    let before = g.E.Sink.taken c.args.err.now in
+    let before = g.E.Sink.taken c.put_digest.new.err in
     let reported = g.E.Sink.taken c.guard-guarded.new.err in
     let was = g.E.Sink.has_failed c.guard-guarded.new.err in
     let is = g.E.Sink.has_failed c.tell_stop.new.err in
@@ -77,14 +82,23 @@ returns g c =
     let seen = seen_told s path _ input out before reported was is same stops.0 links.seen stops.1 in
     inr (
       p,
+      c.in-Ok.loaded.1,
       later,
       c.in-Ok.ensures.there,
       c.in-Ok.ensures.later,
-      inr (
-        s,
-        reported,
-        moved,
-        tells_seen_before s path _ input out (device before reported is) moved links.seen told c.tell_stop.result seen
-            (rw (← c.seen-in-Err-guarded.ensures) c.tell_stop.ensures.told),
+      inl (
+        before,
+        c.in-Ok-put_digest.ensures.all,
+        inr (
+          s,
+          reported,
+          moved,
+          tells_seen_before s path _ input out (device before reported is) moved links.seen told c.tell_stop.result seen
+              (rw (← c.seen-in-Err-guarded.ensures) c.tell_stop.ensures.told),
+        ),
       ),
     )
+
+pub returns-in_default-put_digest : goal.returns-in_default-put_digest
+returns-in_default-put_digest g c =
+    inr (policy_view c.in-Ok.loaded.0, c.in-Ok.loaded.1, g.F.Files.told c.load_numbered.new.files, c.in-Ok.ensures.there, c.in-Ok.ensures.later, inr ((refl, refl), refl, c.in_default-put_digest.ensures.failed, refl, c.in_default-put_digest.ensures.part))

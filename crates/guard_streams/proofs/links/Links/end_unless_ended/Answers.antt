@@ -1,9 +1,6 @@
-use Rattle.std.proofs.Common.{◌∙◌, ap, sym, inl, inr, refl, arith}
+use Rattle.std.proofs.Common.{◌∙◌, sym, inl, inr}
 use Rattle.guard_frames.specs.Added.{nothing}
-use Rattle.guard_frames.specs.declared.gateway.Gateway.{Gateway}
-use Rattle.guard_frames.specs.declared.kept.Kept.{Kept}
 use Rattle.guard_frames.specs.GatewayView.{gateway_view}
-use Rattle.guard_frames.specs.Gateways.{AbstractGateway}
 use Rattle.guard_streams.specs.inside.Noting.{noted_link, fault_note}
 use Rattle.guard_streams.proofs.Doings.{end_taken, end_cut, was_open, had_ended, told_ok, told_err}
 use Rattle.guard_streams.proofs.Noting.{end_note}

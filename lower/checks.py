@@ -1,5 +1,7 @@
 """Looks at lowered texts by rules of the guard that lowering alone doesn't keep: limits, names, numbers, tags."""
 
+from collections.abc import Iterator
+
 from bindings import Bindings
 from job import Output, Scope
 from library import Library, children
@@ -11,7 +13,7 @@ from tokens import Fault, cut
 from tree import Component, Constrained, Definition, Element, ListOf, Node, Plain, Reference, Set, Structure, Tagged
 from tree import Type
 
-MOST_NODES, MOST_COMPONENTS, DEEPEST, LARGEST_TAG, LAST_BIT, MOST_MODULES = 100_000, 64, 32, 268_435_455, 65_535, 64
+MOST_NODES, MOST_COMPONENTS, DEEPEST, LARGEST_TAG, MOST_MODULES = 100_000, 64, 32, 268_435_455, 64
 # What the guard would refuse: an output, why, whether less depth may help (and how deep it is nested, if that is why),
 # and the place of the innermost part without which the deepest path isn't too deep.
 Finding = tuple[Output, str, int, str]
@@ -19,6 +21,7 @@ Finding = tuple[Output, str, int, str]
 Path = tuple[tuple[str, int, str], ...]
 # How large a type is, as the guard counts: types, constraints, how deep it is nested, and that path.
 Measure = tuple[int, int, int, Path]
+Member = tuple[Component, Scope]
 
 
 class Checker:
@@ -40,7 +43,7 @@ class Checker:
         if definition not in self.measured:
             before, self.here = self.here, self.outputs.get((definition.module.name, definition.name))
             self.measured[definition] = (0, 0, 0, ())
-            self.find(definition.kind == "unread", f"the lowered text can't be read: {definition.why}")
+            self.find(definition.unread, f"the lowered text can't be read: {definition.unread}")
             if definition.type is not None:
                 place = str(self.here.place) if self.here else ""
                 self.measured[definition] = self.type(Scope(definition.module), definition.type, place)
@@ -54,25 +57,22 @@ class Checker:
 
     def type(self, scope: Scope, node: Type, place: str) -> Measure:
         if isinstance(node, Tagged | Constrained | ListOf):
-            inner = f"{place}.*" if isinstance(node, ListOf) else place
+            is_list = isinstance(node, ListOf)
+            inner = f"{place}.*" if is_list else place
             nodes, constraints, depth, path = self.type(scope, node.inner, inner)
-        if isinstance(node, Tagged):
-            number = int(node.number.text())
-            self.find(number > LARGEST_TAG, f"the tag {number} is above {LARGEST_TAG}")
-            return nodes, constraints, depth + self.job.is_explicit(scope, node), path
-        if isinstance(node, Constrained):
-            return nodes, constraints + sum(map(weigh, node.constraints)), depth, path
-        if isinstance(node, ListOf):
-            constraints += weigh(node.size) if node.size else 0
-            return nodes + 1, constraints, depth + 1, (("*", depth, ""), *path)
+            constraints += sum(weigh(child) for child in children(node) if child is not node.inner)
+            path = (("*", depth, ""), *path) if is_list else path
+            if isinstance(node, Tagged):
+                number = int(node.number.text())
+                self.find(number > LARGEST_TAG, f"the tag {number} is above {LARGEST_TAG}")
+                depth += self.job.is_explicit(scope, node)
+            return nodes + is_list, constraints, depth + is_list, path
         if isinstance(node, Structure):
             return self.structure(scope, node, place)
         if isinstance(node, Plain):
             numbers = [item.number.text() for item in node.items if item.number]
             is_clear = is_set([item.name for item in node.items]) and is_set(numbers)
             self.find(not is_clear, "two of its names or numbers are equal")
-            large = node.word == "BIT STRING" and any(n.isdigit() and int(n) > LAST_BIT for n in numbers)
-            self.find(large, f"a named bit is above {LAST_BIT}")
             return 1, 0, 1, ()
         definition = self.library.find(scope.module, node.name) if isinstance(node, Reference) else ""
         if isinstance(definition, Definition):
@@ -99,16 +99,14 @@ class Checker:
         self.find(clash, f"the tags of {' and '.join(clash)} can't be told apart")
         return total, all_constraints, deepest + 1, path
 
-    def flat(self, scope: Scope, node: Structure, deep: int = 0) -> list[tuple[Component, Scope]]:
+    def flat(self, scope: Scope, node: Structure, deep: int = 0) -> Iterator[Member]:
         """The components, with those of COMPONENTS OF in their places."""
-        found: list[tuple[Component, Scope]] = []
         for item in node.items:
             there, base, _ = self.job.base(scope, item.type)
             if not item.of:
-                found.append((item, scope))
+                yield item, scope
             elif isinstance(base, Structure) and deep < DEEPEST:
-                found += self.flat(there, base, deep + 1)
-        return found
+                yield from self.flat(there, base, deep + 1)
 
     def too_large(self) -> list[Finding]:
         """The largest definitions, where all together are too large: as many as have to go."""

@@ -27,7 +27,7 @@ class Library:
         """Takes a module in; of two texts of one module the first counts, if they are equal."""
         known = self.modules.setdefault(module.name, module)
         if [d.text() for d in known.definitions] != [d.text() for d in module.definitions]:
-            raise module.source.fault(module.a, f"another module has the name {module.name}: {known.source.path}")
+            raise module.fault(f"another module has the name {module.name}: {known.source.path}")
 
     def find(self, module: Module, name: str, source: str | None = None) -> Definition | str:
         """The definition that a name stands for in a module, or why there is none; `source` is what is before `.`."""

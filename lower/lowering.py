@@ -2,6 +2,7 @@
 
 import re
 from collections.abc import Callable
+from dataclasses import replace
 from typing import Any
 
 from bindings import LEAVE_OUT
@@ -41,7 +42,8 @@ class Job(Structures):
         node, site = out.origin, Site(out.place)
         is_class = node.kind == "type" and not self.library.is_type(node)
         if node.kind in ("unread", "class", "macro") or is_class or node.type is None:
-            raise self.stop(out.place, node, "unread", node.why or f"{node.name} is a class or a macro")
+            why = node.unread.why if node.unread else f"{node.name} is a class or a macro"
+            raise self.stop(out.place, node, "unread", why)
         if node.name in node.module.twice:
             raise self.stop(out.place, node.module.twice[node.name], "text", f"{node.name} is defined twice")
         lowered = self.type(scope, node.type, Site(out.place, free=node.kind != "value"))
@@ -359,16 +361,23 @@ class Job(Structures):
             why = "EXTERNAL as its SEQUENCE, without a descriptor and without a single type"
             self.note(site, node, kind, why, NEITHER if held else TIGHTER, text)
             return self.aside(lambda: Lowered(text), site, "External")
-        all_kept, has_values = True, False
-        for there, constraint in (pair for pair in held if kind in ("string", "time")):
-            values = "" if constraint.marked else self.contents(there, constraint.root, word)
-            sizes = self.sizes(there, constraint.root) if kind == "string" and not constraint.marked else None
+        split = [(there, c, part) for there, c in held for part in intersected(c.root)]
+        lost, has_values, width = list[str](), False, WIDE.get(word, 0)
+        for there, c, part in split:
+            rooted = c is not held[-1][1]
+            values = "" if c.marked else self.contents(there, part, word)
+            sizes = self.sizes(there, part, rooted) if kind == "string" and not c.marked else None
+            limits = octet_sizes(sizes, width) if sizes else ""
+            if limits and not rooted and "..." in part.text():
+                self.note(site, part, "extension-mark", "closed: other sizes are refused", TIGHTER)
             text = "VisibleString" if values and kind == "time" and not has_values else text
-            text += f" ({values})" if values else octet_sizes(sizes, WIDE.get(word, 0)) if sizes else ""
-            all_kept, has_values = all_kept and bool(values or sizes), has_values or bool(values)
+            text += f" ({values})" if values else limits
+            has_values = has_values or bool(values)
+            lost += [] if values or sizes and width else [(c if c.marked else part).text()]
         mark, why = LOOSER, f"all contents that {word} can have, and others"
-        if all_kept and has_values:
+        if has_values and not lost:
             mark, why = SAME, "the contents of these values"
+        why += f"; kept in part or not at all: {', '.join(lost)}" if lost else ""
         self.note(site, node, "time" if kind == "time" else "string", why, mark, text)
         return Lowered(text)
 
@@ -391,6 +400,13 @@ BY_FORM: dict[type[Type], Callable[[Job, Scope, Any, Site], Lowered]] = {
     Constrained: Job.constrained, Structure: Job.structure, ListOf: Job.list_of,
     Plain: Job.plain, Selection: Job.selection, Reference: Job.reference,
 }  # fmt: skip
+
+
+def intersected(node: Set) -> list[Set]:
+    """The parts of an intersection that is the whole of a set, each as a set of its own."""
+    parts = node.unions[0] if len(node.unions) == 1 else []
+    ends = [(part, (part.minus or part).b) for part in parts]
+    return [replace(node, a=part.a, b=end, unions=[[part]]) for part, end in ends] or [node]
 
 
 def octet_sizes(sizes: Sizes, width: int) -> str:

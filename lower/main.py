@@ -55,7 +55,7 @@ def wanted(library: Library, names: list[str]) -> dict[str, Definition]:
             raise Fault(f"{name} is in more than one module: {where}; write Module.{name}")
         if held[0].kind not in ("type", "set", "unread") or held[0].parameters is not None:
             hint = f": write a module with Mine ::= {name}{{..}}, and name Mine" if held[0].parameters else ""
-            raise held[0].source.fault(held[0].a, f"{name} is no type without parameters{hint}")
+            raise held[0].fault(f"{name} is no type without parameters{hint}")
         found += held
     found = list(dict.fromkeys(found))
     short = [definition.name for definition in found]
@@ -128,7 +128,7 @@ def run(words: argparse.Namespace) -> int:
         for message in result.messages:
             print(f"{message.name}: {message.mark}{message.unsigned}")
         for name, cause in ((message.name, cause) for message in result.messages for cause in message.causes[:3]):
-            fault = cause.node.source.fault(cause.node.a, f"{cause.place}: {cause.why}")
+            fault = cause.node.fault(f"{cause.place}: {cause.why}")
             print(f"derguard-lower: {name} can't go: {fault.shown()}", file=sys.stderr)
         for name in (name for name in (*bindings.bind, *bindings.depths) if name not in bindings.used):
             way = bindings.way(library, name)

@@ -13,6 +13,7 @@ OTHERS = "ANY BOOLEAN ENUMERATED EXTERNAL INTEGER NULL OID-IRI REAL RELATIVE-OID
 SINGLE = STRINGS | TIMES | set(OTHERS.split())
 PAIRS = ("OCTET STRING", "BIT STRING", "OBJECT IDENTIFIER", "CHARACTER STRING", "EMBEDDED PDV", "INSTANCE OF")
 VALUE_WORDS = ("TRUE", "FALSE", "NULL", "PLUS-INFINITY", "MINUS-INFINITY", "NOT-A-NUMBER")
+ENDS = ("MIN", "MAX")
 VALUE_MARKS = {"{": "braces", '"': "string", "'": "bits"}
 OPENING = {"{": 1, "(": 1, "[": 1, "[[": 2, "}": -1, ")": -1, "]": -1, "]]": -2}
 BUILT_IN_CLASSES = ("TYPE-IDENTIFIER", "ABSTRACT-SYNTAX")
@@ -65,9 +66,10 @@ class Reader:
                 return choice
         return ""
 
-    def need(self, word: str) -> None:
-        if not self.take(word):
-            raise self.fault(f"{word} is missing before {self.here()}")
+    def need(self, *words: str) -> None:
+        for word in words:
+            if not self.take(word):
+                raise self.fault(f"{word} is missing before {self.here()}")
 
     def skip_braces(self) -> tuple[int, int]:
         """Goes past a token, or past a group in braces or parentheses."""
@@ -106,18 +108,17 @@ class Reader:
                 self.need(",")
         return found
 
-    def value(self) -> Value:
-        """A value; one in braces is kept as its tokens."""
+    def value(self, *ends: str) -> Value:
+        """A value, or one of these ends; a value in braces is kept as its tokens."""
         begin, text, name, module, inner = self.at, self.text(), "", None, None
         form = VALUE_MARKS.get(text[:1], "name")
         if form != "name":
             self.skip_braces()
-        elif self.take("-") or text.isdigit():
-            if not self.text().isdigit():
+        elif self.take("-") or text[:1].isdigit():
+            if not self.text()[:1].isdigit():
                 raise self.fault("a number is missing")
-            form = "real" if self.text(1) == "." and self.text(2).isdigit() else "number"
-            self.at += 3 if form == "real" else 1
-        elif text in VALUE_WORDS and self.text(1) != ":":
+            form = "number" if self.next().isdigit() else "real"
+        elif text in ends or text in VALUE_WORDS and self.text(1) != ":":
             form, name = "word", self.next()
         elif self.is_lower():
             name = self.next()
@@ -143,8 +144,7 @@ class Reader:
         """A constraint in parentheses, or (with `bare`) SIZE where none stand round it."""
         begin = self.at
         if bare and self.text() == "SIZE":
-            element = self.element()
-            return self.node(Constraint, begin, root=self.node(Set, begin, unions=[[element]]), bare=True)
+            return self.node(Constraint, begin, root=self.set(), bare=True)
         self.need("(")
         node = self.set_with_mark()
         self.need(")")
@@ -191,19 +191,19 @@ class Reader:
         elif self.take("INCLUDES") or self.text() == "[" or self.begins_type():
             node.form, node.type = "type", self.type()
         else:
-            node.form, node.values = "single", [self.end()]
+            node.form, node.values = "single", [self.value(*ENDS)]
             less = self.take("<")
             if less or self.text() == "..":
                 self.need("..")
                 node.form, node.marks = "range", f"{less}..{self.take('<')}"
-                node.values.append(self.end())
+                node.values.append(self.value(*ENDS))
         node.b = self.at
         return node
 
     def begins_type(self) -> bool:
         """Whether a word is here that begins a type, and no value."""
         word = self.text()
-        is_word = word in VALUE_WORDS and self.text(1) != "(" or word in ("MIN", "MAX")
+        is_word = word in VALUE_WORDS and self.text(1) != "(" or word in ENDS
         return word[:1].isupper() and not is_word and not (self.text(1) == "." and self.is_lower(2))
 
     def part(self) -> Part:
@@ -223,10 +223,6 @@ class Reader:
                 one()
         while is_table and self.text() == "{":
             self.skip_braces()
-
-    def end(self) -> Value:
-        begin, word = self.at, self.take("MIN", "MAX")
-        return self.node(Value, begin, form="word", name=word) if word else self.value()
 
     # types
 
@@ -304,9 +300,7 @@ class Reader:
 
     def structure(self, begin: int, word: str) -> Structure:
         """X.680 25 and 29; commas are asked for between components alone."""
-        group, inside = 0, 0
-        items: list[Component] = []
-        marks: list[Node] = []
+        group, inside, items, marks = 0, 0, list[Component](), list[Node]()
         self.need("{")
         while not self.take("}"):
             start = self.at
@@ -347,8 +341,7 @@ class Reader:
             self.need("TAGS")
         node.implied = bool(self.take("EXTENSIBILITY IMPLIED"))
         node.cuts.append((self.at - 2 * node.implied, self.at))
-        self.need("::=")
-        self.need("BEGIN")
+        self.need("::=", "BEGIN")
         node.body = self.at
         if self.text() == "EXPORTS":
             node.exports = self.skip_past(";", "; is missing")
@@ -371,12 +364,10 @@ class Reader:
         return end if IDENTIFIER.fullmatch(self.source.between(begin, end)) else begin, end
 
     def imports(self, node: Module) -> tuple[int, int]:
-        begin, symbols = self.at, list[int]()
-        self.need("IMPORTS")
-        start = self.at
-        while not self.take(";"):
-            if not self.text():
-                raise self.source.fault(begin, "; is missing after IMPORTS")
+        begin, end = self.skip_past(";", "; is missing after IMPORTS")
+        self.at = start = begin + 1
+        symbols: list[int] = []
+        while self.at < end - 1:
             if self.take("FROM"):
                 module, after = self.word("the name of a module"), self.at
                 by_name = self.is_lower() and self.text(1) not in (",", "FROM")
@@ -392,7 +383,8 @@ class Reader:
             else:
                 self.skip_braces()
         node.imported = {self.tokens[k].text: clause.module for clause in node.clauses for k in clause.symbols}
-        return begin, self.at
+        self.at = end
+        return begin, end
 
     def definition(self, module: Module) -> None:
         """One assignment; where it can't be read, all up to what looks like the next one."""
@@ -406,12 +398,11 @@ class Reader:
             if not name[:1].isalpha():
                 raise
             self.at = begin
-            node = self.node(Definition, begin, module=module, name=name, kind="unread", why=fault.why)
+            node = self.node(Definition, begin, module=module, name=name)
+            node.kind, node.unread = "unread", fault
             assigned = self.next() == "::="
             while self.text() and not (self.text() == "END" or assigned and self.begins_assignment()):
                 assigned = self.next() == "::=" or assigned
-            places = (k for k in range(begin, self.at + 1) if self.tokens[k].start >= fault.start)
-            node.why_at = next(places, begin)
         node.b = self.at
         module.definitions.append(node)
         first = module.named.get(name)
@@ -435,9 +426,7 @@ class Reader:
 
     def assignment(self, node: Definition) -> None:
         if self.text(1) == "MACRO":
-            node.kind = "macro"
-            while self.next() != "END" and self.text():
-                pass
+            node.kind, _ = "macro", self.skip_past("END", "END is missing")
             return
         if not node.name[:1].isalpha() or node.name in OUTSIDE:
             raise self.fault(f"an assignment can't begin with {self.here()}")

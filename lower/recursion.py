@@ -15,8 +15,6 @@ class Recursion:
 
     def __init__(self, library: Library, bindings: Bindings, messages: list[Definition], depth: int) -> None:
         self.library, self.bindings, self.depth = library, bindings, depth
-        self.groups: dict[Definition, int] = {}
-        self.members: list[list[Definition]] = []
         self.heads: set[Definition] = set()
         graph: Graph = {}
         todo = list(messages)
@@ -27,16 +25,15 @@ class Recursion:
                 found = self.references(kind, Place(definition)) if kind else ()
                 graph[definition] = list(dict.fromkeys(used for node in found for used in self.named(node, definition)))
                 todo += graph[definition]
-        for group in circles(graph):
-            self.groups |= {definition: len(self.members) for definition in group}
-            self.members.append(group)
-            left = [group]
-            while left:
-                circle = left.pop()
-                head = max(circle, key=lambda d: (sum(d in graph[user] for user in circle), -circle.index(d)))
-                self.heads.add(head)
-                rest = [definition for definition in circle if definition is not head]
-                left += circles({d: [used for used in graph[d] if used in rest] for d in rest})
+        self.members = circles(graph)
+        self.groups = {d: number for number, group in enumerate(self.members) for d in group}
+        left = list(self.members)
+        while left:
+            circle = left.pop()
+            head = max(circle, key=lambda d: (sum(d in graph[u] for u in circle), -circle.index(d)))
+            self.heads.add(head)
+            rest = [definition for definition in circle if definition is not head]
+            left += circles({d: [used for used in graph[d] if used in rest] for d in rest})
 
     def references(self, node: Node, place: Place | None = None) -> Iterator[Reference]:
         """The references in a tree; where it has a place, those of the bindings stand for what they replace."""
@@ -76,17 +73,15 @@ def circles(graph: Graph) -> list[list[Definition]]:
     found: list[list[Definition]] = []
 
     def visit(node: Definition) -> int:
-        """The first definition on the stack that a definition reaches, by its order."""
+        """The first on the stack that a definition reaches, by its order; those off it are last."""
         low = order[node] = len(order)
         stack.append(node)
         for used in graph[node]:
-            if used not in order:
-                low = min(low, visit(used))
-            elif used in stack:
-                low = min(low, order[used])
+            low = min(low, order[used] if used in order else visit(used))
         if low == order[node]:
             at = stack.index(node)
             group, stack[at:] = stack[at:], []
+            order.update(dict.fromkeys(group, len(graph)))
             if len(group) > 1 or node in graph[node]:
                 found.append(group)
         return low

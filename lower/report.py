@@ -1,14 +1,14 @@
 """What a run made: the texts of modules, the reports for people and programs, bindings to start from."""
 
 import json
-from collections import Counter
+from collections import Counter, defaultdict
 from dataclasses import dataclass, field
 from typing import Any
 
 from job import CANT, LOOSER, MARKS, NEITHER, SAME, Change, Output, reached
 from library import spelled
 from lowering import Job
-from tokens import has_comment
+from tokens import Fault, has_comment
 from tree import Definition, Module
 
 @dataclass
@@ -16,30 +16,29 @@ class Text:
     module: Module
     name: str
     outputs: list[Output] = field(default_factory=list)
+    needed: set[str] = field(default_factory=set)
     text: str = ""
 
 
 def texts(modules: list[Module], roots: list[Output]) -> list[Text]:
     """The texts of all modules that some outputs reach; these are exported, since rules are made of them."""
     held = {module: Text(module, spelled(module.name)) for module in modules}
-    needed: dict[Module, set[str]] = {}
-    for out in roots:
-        needed.setdefault(out.module, set()).add(out.name)
-    for out in reached(roots):
+    outputs = reached(roots)
+    for out in outputs:
         held[out.module].outputs.append(out)
-        for used in out.imports.values():
-            needed.setdefault(used.module, set()).add(used.name)
+    for used in (*roots, *(used for out in outputs for used in out.imports.values())):
+        held[used.module].needed.add(used.name)
     found = [text for text in held.values() if text.outputs]
     for text in found:
-        text.text = whole(text, needed.get(text.module, set()))
+        text.text = whole(text)
     return found
 
 
-def whole(text: Text, needed: set[str]) -> str:
+def whole(text: Text) -> str:
     module, tokens = text.module, text.module.source.tokens
     before = tokens[module.a].space.replace("\ufeff", "").lstrip("\n")
     edits = [(module.a, module.a + 1, spelled(module.name)), *((a, b, "") for a, b in module.cuts if b > a)]
-    parts = [before, module.source.emit(module.a, module.body, edits), exports(text, needed), imports(text)]
+    parts = [before, module.source.emit(module.a, module.body, edits), exports(text), imports(text)]
     left = list(text.outputs)
     for definition in module.definitions:
         own = [out for out in left if out.origin is definition]
@@ -54,7 +53,7 @@ def whole(text: Text, needed: set[str]) -> str:
     return "".join(parts).replace("\u00a0", " ").replace("\x0c", "\n")
 
 
-def exports(text: Text, needed: set[str]) -> str:
+def exports(text: Text) -> str:
     if text.module.exports is None:
         return ""
     source, (a, b) = text.module.source, text.module.exports
@@ -63,24 +62,22 @@ def exports(text: Text, needed: set[str]) -> str:
     names = {out.name for out in text.outputs}
     symbols = [(token.space, spelled(token.text)) for token in source.tokens[a + 1 : b] if token.text[:1].isalpha()]
     kept = [(space, name) for space, name in symbols if name in names]
-    kept += [(" ", name) for name in sorted(needed - {name for _, name in kept})]
+    kept += [(" ", name) for name in sorted(text.needed - {name for _, name in kept})]
     return f"{source.tokens[a].space}EXPORTS{','.join(space + name for space, name in kept)};"
 
 
 def imports(text: Text) -> str:
-    wanted: dict[str, list[str]] = {}
-    for out in text.outputs:
-        for name, used in out.imports.items():
-            held = wanted.setdefault(spelled(used.module.name), [])
-            held += [name] if name not in held else []
+    wanted = defaultdict[str, dict[str, None]](dict)
+    for name, used in (pair for out in text.outputs for pair in out.imports.items()):
+        wanted[spelled(used.module.name)][name] = None
     if not wanted:
         return ""
     module, tokens = text.module, text.module.source.tokens
     parts = [tokens[module.imports[0]].space if module.imports else "\n\n", "IMPORTS"]
     symbols = [(clause, k, spelled(tokens[k].text)) for clause in module.clauses for k in clause.symbols]
-    stay = {k: name for clause, k, name in symbols if name in wanted.get(spelled(clause.module), [])}
+    stay = {k: name for clause, k, name in symbols if name in wanted[spelled(clause.module)]}
     for clause in module.clauses:
-        names, kept = wanted.get(spelled(clause.module), []), [k for k in clause.symbols if k in stay]
+        names, kept = wanted[spelled(clause.module)], [k for k in clause.symbols if k in stay]
         if names and kept:
             held = [tokens[k].space + stay[k] for k in kept]
             held += [f" {name}" for name in names if name not in [stay[k] for k in kept]]
@@ -152,9 +149,10 @@ class Result:
         return int(any(message.unsigned for message in self.messages))
 
     @property
-    def unread(self) -> list[Definition]:
-        modules = self.job.library.modules.values()
-        return [definition for module in modules for definition in module.definitions if definition.kind == "unread"]
+    def unread(self) -> list[tuple[str, Fault]]:
+        """The assignments that couldn't be read: their names, and why."""
+        held = [one for module in self.job.library.modules.values() for one in module.definitions]
+        return [(one.name, one.unread) for one in held if one.unread]
 
     def collect(self) -> None:
         """Numbers the changes that messages reach, and joins their marks."""
@@ -192,14 +190,13 @@ def quoted(held: object) -> str:
     return json.dumps(held, ensure_ascii=False)
 
 
-def where(found: Change | Definition) -> dict[str, Any]:
+def where(found: Change | Fault) -> dict[str, Any]:
     """The place in a file of a change, a cause, or what couldn't be read."""
-    node, index = (found, found.why_at) if isinstance(found, Definition) else (found.node, found.node.a)
-    line, column = node.source.place_of(node.source.tokens[index].start)
-    return {"file": node.source.path, "line": line, "column": column}
+    fault = found.node.fault(found.why) if isinstance(found, Change) else found
+    return dict(zip(("file", "line", "column"), fault.place()))
 
 
-def at(found: Change | Definition) -> str:
+def at(found: Change | Fault) -> str:
     return ":".join(map(str, where(found).values()))
 
 
@@ -231,7 +228,7 @@ def as_json(result: Result) -> str:
     modules = [
         {"name": text.name, "source": text.module.source.path, "output": f"{text.name}.asn1"} for text in result.texts
     ]
-    unread = [where(node) | {"why": f"{node.name}: {node.why}"} for node in result.unread]
+    unread = [where(fault) | {"why": f"{name}: {fault.why}"} for name, fault in result.unread]
     held = {"status": result.status, "messages": messages, "changes": changes, "left_out": left_out, "holes": holes}
     return json.dumps(held | {"modules": modules, "unread": unread}, indent=1, ensure_ascii=False) + "\n"
 
@@ -252,7 +249,7 @@ def as_markdown(result: Result) -> str:
         lines.append(f"- {at(cause)}: {cause.place}: {cause.why}")
         lines += [f"  - {place}" for place in cause.takes]
     lines += ["", "## Assignments that couldn't be read", ""] if result.unread else []
-    lines += [f"- {at(node)}: {node.name}: {node.why}" for node in result.unread]
+    lines += [f"- {at(fault)}: {name}: {fault.why}" for name, fault in result.unread]
     return "\n".join(lines) + "\n"
 
 

@@ -7,7 +7,7 @@ from functools import partial
 from job import LOOSER, NEITHER, TIGHTER, CannotGo, Change, Lowered, NoValue, Place, Scope, Site
 from library import spelled
 from tokens import Edit, has_comment
-from tree import Component, ListOf, Node, Reference, Structure, Tagged, Type
+from tree import Component, ListOf, Node, Reference, Structure, Tagged
 from values import Constraints
 
 WHY_EXPLICIT = (
@@ -40,10 +40,6 @@ class Entry:
 
 
 class Structures(Constraints):
-    def type(self, scope: Scope, node: Type, site: Site) -> Lowered:
-        """A type of any form."""
-        raise NotImplementedError
-
     def structure(self, scope: Scope, node: Structure, site: Site) -> Lowered:
         """A group of additions in brackets is a version, and so is each addition outside."""
         automatic, before = self.is_automatic(scope, node), self.mark()

@@ -138,6 +138,26 @@ class Contents(Case):
             self.gives(f"A ::= [0] IMPLICIT {kind}", f"A ::= [0] IMPLICIT {text}", "looser")
 
 
+    def test_alphabets(self) -> None:
+        """Octets have no alphabet: FROM goes and is named, SIZE beside it stays."""
+        body = 'A ::= [0] BMPString (SIZE (1..2) ^ FROM ("a".."z"))'
+        result = self.gives(body, "A ::= [0] OCTET STRING (SIZE (2 | 4))", "looser", "IMPLICIT")
+        said = "and others; kept in part or not at all: "
+        self.assertTrue(result.changes[0].why.endswith(f'{said}FROM ( "a" .. "z" )'))
+        body = 'A ::= [0] B\nB ::= T61String (SIZE (1..4)) (FROM ("0".."9", ...))'
+        result = lower([self.text(body, "IMPLICIT")], "A")
+        lost = said + 'SIZE ( 1 .. 4 ), FROM ( "0" .. "9" , ... )'
+        self.assertTrue(result.changes[0].why.endswith(lost))
+
+    def test_sizes_that_are_closed(self) -> None:
+        """What isn't declared behind `...` is refused; before a further constraint additions go."""
+        body, size = "A ::= [0] BMPString (SIZE (1..2, ..., 3))", "(SIZE (2 | 4 | 6))"
+        result = self.gives(body, f"A ::= [0] OCTET STRING {size}", "neither", "IMPLICIT")
+        self.assertIn(("extension-mark", "tighter"), self.steps(result))
+        expected = "A ::= [0] OCTET STRING (SIZE (2 | 4)) (SIZE (2 | 4 | 6 | 8))"
+        self.gives(f"{body} (SIZE (1..4))", expected, "looser", "IMPLICIT")
+
+
 class Faults(Case):
     def says(self, why: str, *words: str) -> None:
         """The words of a command line, behind those of a module that has A and P, are answered by this fault."""

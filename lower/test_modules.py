@@ -119,7 +119,7 @@ class Modules(Case):
         body = 'ERR MACRO ::= BEGIN TYPE NOTATION ::= "P" type END\nfoo ERR P INTEGER ::= 5\nA ::= NULL\n'
         body += 'Bad ::= SEQUENCE {a INTEGER b NULL}'
         result = self.gives(body, "A ::= NULL", "same")
-        self.assertEqual([node.name for node in result.unread], ["foo", "Bad"])
+        self.assertEqual([name for name, _ in result.unread], ["foo", "Bad"])
 
     def test_faults(self) -> None:
         with self.assertRaises(Fault) as caught:

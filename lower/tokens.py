@@ -21,7 +21,7 @@ RESERVED = STRINGS | TIMES | set(
     SYNTAX TAGS TRUE TYPE-IDENTIFIER UNION UNIQUE UNIVERSAL WITH""".split()
 )  # fmt: skip
 TOKEN = re.compile(
-    r"""&?[A-Za-z](?:-?[A-Za-z0-9_])* | [0-9]+ | "(?:[^"]|"")*" | '[0-9A-Fa-f\s]*'[BH]
+    r"""&?[A-Za-z](?:-?[A-Za-z0-9_])* | [0-9]+(?:\.[0-9]+)? | "(?:[^"]|"")*" | '[0-9A-Fa-f\s]*'[BH]
       | ::= | \.\.\. | \.\. | \[\[ | \]\] | [][{}(),;:|^<>.!@=*+/$\#-]""",
     re.VERBOSE,
 )
@@ -44,16 +44,19 @@ class Fault(Exception):
 
     def __init__(self, why: str, source: Source | None = None, start: int = 0) -> None:
         super().__init__(why)
-        self.why, self.source, self.start = why, source, start
+        self.why, self.source, self.start = why, source or Source("", ""), start
+
+    def place(self) -> tuple[str, int, int]:
+        """File, line and column, from 1."""
+        text, start = self.source.text, self.start
+        return self.source.path, text.count("\n", 0, start) + 1, start - text.rfind("\n", 0, start)
 
     def shown(self) -> str:
         """The fault with its line and a caret below."""
-        if self.source is None:
-            return self.why
-        line, column = self.source.place_of(self.start)
+        path, line, column = self.place()
         number, text = f"{line:>6} | ", self.source.text.split("\n")[line - 1].expandtabs(1)
         caret = f"{' ' * (len(number) - 2)}| {' ' * (column - 1)}^"
-        return f"{self.source.path}:{line}:{column}: {self.why}\n{number}{text}\n{caret}"
+        return f"{path}:{line}:{column}: {self.why}\n{number}{text}\n{caret}" if path else self.why
 
 
 @dataclass(eq=False)
@@ -63,10 +66,6 @@ class Source:
     path: str
     text: str
     tokens: list[Token] = field(default_factory=list)
-
-    def place_of(self, start: int) -> tuple[int, int]:
-        """Line and column of a character, from 1."""
-        return self.text.count("\n", 0, start) + 1, start - self.text.rfind("\n", 0, start)
 
     def fault(self, index: int, why: str) -> Fault:
         return Fault(why, self, self.tokens[min(index, len(self.tokens) - 1)].start)

@@ -5,7 +5,7 @@ from __future__ import annotations
 from dataclasses import dataclass, field
 from typing import dataclass_transform
 
-from tokens import Edit, Source
+from tokens import Edit, Fault, Source
 
 Span = tuple[Source, int, int]
 
@@ -24,6 +24,9 @@ class Node:
 
     def text(self) -> str:
         return self.source.between(self.a, self.b)
+
+    def fault(self, why: str) -> Fault:
+        return self.source.fault(self.a, why)
 
     def emit(self, *edits: Edit) -> str:
         return self.source.emit(self.a, self.b, edits)
@@ -174,8 +177,7 @@ class Definition(Node):
     body: tuple[int, int] = (0, 0)
     fields: dict[str, ClassField] = field(default_factory=dict)
     syntax: tuple[int, int] | None = None
-    why: str = ""
-    why_at: int = 0
+    unread: Fault | None = None
 
 
 class Import(Node):

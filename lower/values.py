@@ -111,10 +111,9 @@ class Constraints(Outputs):
         if base.word != "INTEGER":
             return self.value(*self.referred(scope, node), (there, base))
         found = within_limits(self.number(scope, node))
-        definition = self.library.find(scope.module, node.name, node.module)
-        if isinstance(definition, str) or definition.module is not self.here.module:
-            return found
-        if node.name in scope.actuals or spelled(node.name) != node.name:
+        definition = self.library.known(scope.module, node.name, node.module, "value")
+        keeps_name = spelled(node.name) == node.name and node.name not in scope.actuals
+        if definition is None or definition.module is not self.here.module or not keeps_name:
             return found
         try:
             return self.refer(self.output(definition))
@@ -195,17 +194,17 @@ class Constraints(Outputs):
                 return f" {self.constraint(scope, last, (scope, node), site, True)}" if has_additions(last) else ""
         return ""
 
-    def sizes(self, scope: Scope, node: Set) -> Sizes | None:
+    def sizes(self, scope: Scope, node: Set, rooted: bool = False) -> Sizes | None:
         """The ranges of a set of numbers, None above for no limit; None where it isn't plain to see."""
         try:
-            return [size for element in union(node) for size in self.element_sizes(scope, element)]
+            return [size for e in union(node) for size in self.element_sizes(scope, e, rooted)]
         except NoValue:
             return None
 
-    def element_sizes(self, scope: Scope, node: Element) -> Sizes:
+    def element_sizes(self, scope: Scope, node: Element, rooted: bool) -> Sizes:
         if node.form == "size" and node.constraint is not None:
-            parts = union(node.constraint.root) + union(node.constraint.more)
-            return [size for part in parts for size in self.element_sizes(scope, part)]
+            parts = union(node.constraint.root) + union(None if rooted else node.constraint.more)
+            return [size for part in parts for size in self.element_sizes(scope, part, rooted)]
         known = {"MAX": None, "MIN": 0}
         ends = [known[v.name] if v.name in known else self.number(scope, v) for v in node.values]
         if not ends or "<" in node.marks or ends[0] is None:

@@ -1,11 +1,13 @@
 """Trials of the program as a process: a folder to work in, calls at the top of the repository, and what differs."""
 from __future__ import annotations
 
+import hashlib
 import os
 import pathlib
 import resource
 import subprocess
 import threading
+import tomllib
 import zlib
 from collections.abc import Callable
 from dataclasses import dataclass, field
@@ -16,6 +18,16 @@ from wire import EXAMPLES, PASSES, PROGRAM, TOP, Answer, call
 POLICY = "examples/orders.toml"
 PAYMENTS = "examples/payments/payments.toml"
 FULL = pathlib.Path("/dev/full")
+
+
+def digest_note(path: str) -> str:
+    """The note of the number of a policy's texts: each behind its length as eight octets."""
+    policy = TOP / path
+    listed = tomllib.loads(policy.read_text())["modules"]
+    digest = hashlib.sha256()
+    for text in (policy.read_bytes(), *((policy.parent / name).read_bytes() for name in listed)):
+        digest.update(len(text).to_bytes(8, "big") + text)
+    return f"derguard: digest {digest.hexdigest()}\n"
 
 
 def octets_of(given: str | bytes) -> bytes:

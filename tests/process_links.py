@@ -8,7 +8,7 @@ import shutil
 import subprocess
 from collections.abc import Callable
 
-from process import PAYMENTS, POLICY, Trial, made, one_frame, payments_frames, run, run_from, run_much
+from process import PAYMENTS, POLICY, Trial, digest_note, made, one_frame, payments_frames, run, run_from, run_much
 from process_streams import WRITE_FAILED, into_full
 from wire import EXAMPLES, PROGRAM, TOP, Answer, by_link, has_sanitizer, piece, waits_until
 
@@ -16,7 +16,8 @@ LINKS = EXAMPLES / "payments/payments.mux"
 TWO_REPORTS = """link 1 2 clearing>bank status not-allowed said-why PaymentRules:29:21 $
 link 0 2 bank>clearing transfer not-allowed small PaymentRules:9:99 $.money.amount, sealed PaymentRules:13:3 $.seal
 """
-READ_AGAIN = "derguard: policy read again, messages 3, rules 5\n"
+DIGEST = digest_note(PAYMENTS)
+READ_AGAIN = "derguard: policy read again, messages 3, rules 5\n" + DIGEST
 TOTALS = "derguard: frames 6, passed 4, denied 2\nderguard: not-allowed 2\n"
 
 
@@ -38,7 +39,7 @@ def links(trial: Trial) -> None:
     quiet = run_from(LINKS, "mux", PAYMENTS)
     trial.compare("two links of a family", quiet, 1, of_payments((0, 1), (1, 5), (0, 2), (1, 7)), TWO_REPORTS)
     first, rest = quiet.err.decode().split("\n", 1)
-    noted = f"{first}\n{READ_AGAIN}{rest}{TOTALS}"
+    noted = f"{DIGEST}{first}\n{READ_AGAIN}{rest}{TOTALS}"
     trial.compare("notes of links", run_from(LINKS, "mux", PAYMENTS, "--verbose"), 1, quiet.out, noted)
     got, out = run("mux", PAYMENTS, stream=stream[:1100]), of_payments((0, 1), (1, 5), (0, 2))
     trial.compare("a record that is cut short", got, 3, out, TWO_REPORTS + "derguard: bad record\n")

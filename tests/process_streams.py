@@ -5,7 +5,8 @@ import os
 import subprocess
 import time
 
-from process import FULL, PAYMENTS, POLICY, Trial, made, one_frame, payments_frames, run, run_from, run_much
+from process import FULL, PAYMENTS, POLICY, Trial, digest_note, made, one_frame, payments_frames
+from process import run, run_from, run_much
 from wire import EXAMPLES, PASSES, PROGRAM, TOP, Answer, has_sanitizer, piece
 
 ORDERS_STREAM = EXAMPLES / "orders.frames"
@@ -25,6 +26,7 @@ PAYMENTS_REPORTS = """\
 REASONS = "unknown-message", "undecodable", "not-allowed", "no-rule"
 WRITE_FAILED = "derguard: F2 WriteFailed\n"
 NONE_YET = "derguard: frames 0, passed 0, denied 0\n"
+DIGEST = digest_note(POLICY)
 
 
 def sent() -> bytes:
@@ -47,8 +49,8 @@ def notes(trial: Trial) -> None:
     """Notes behind the reports, and behind a fault."""
     totals = "derguard: frames 6, passed 2, denied 4\n" + "".join(f"derguard: {reason} 1\n" for reason in REASONS)
     got = run_from(ORDERS_STREAM, "run", POLICY, "--verbose")
-    trial.compare("notes of a stream", got, 1, sent(), REPORTS + totals)
-    fault = f"derguard: F4 TornFrame\nderguard: frame 1, octets 34\n{NONE_YET}"
+    trial.compare("notes of a stream", got, 1, sent(), DIGEST + REPORTS + totals)
+    fault = f"{DIGEST}derguard: F4 TornFrame\nderguard: frame 1, octets 34\n{NONE_YET}"
     got = run("run", POLICY, "--verbose", stream=one_frame()[:34])
     trial.compare("notes of a torn frame", got, 3, "", fault)
 
@@ -56,8 +58,8 @@ def notes(trial: Trial) -> None:
 def system(trial: Trial) -> None:
     """What the system says: an output that is full, a folder to read from, and no policy."""
     no_policy, no_file = trial.folder / "no.toml", "No such file or directory (os error 2)"
-    is_folder = f"derguard: F5 ReadFailed\nderguard: standard input: Is a directory (os error 21)\n{NONE_YET}"
-    is_full = f"{WRITE_FAILED}derguard: standard output failed\n"
+    is_folder = f"{DIGEST}derguard: F5 ReadFailed\nderguard: standard input: Is a directory (os error 21)\n{NONE_YET}"
+    is_full = f"{DIGEST}{WRITE_FAILED}derguard: standard output failed\n"
     is_full += f"derguard: standard output: No space left on device (os error 28)\n{NONE_YET}"
     inputs = {"run": trial.file("one", one_frame()), "mux": trial.file("record", piece(0, one_frame()))}
     for command, stream in inputs.items():

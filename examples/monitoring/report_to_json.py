@@ -11,7 +11,7 @@ A line is an object. It has `time`, in UTC, and by the kind of line:
                   `code`, `offset` and `path` (undecodable), or
                   `violations`, a list of `rule`, `module`, `line`, `column` and `path` (not-allowed)
     a fault       `fault`, as "F4 TornFrame", and `link` where it is that of a link
-    a note        `note`, and the numbers that it has by their names, as `frames`, `passed` and `denied`
+    a note        `note`, and the numbers that it has by their names, as `frames`, `passed`, `denied` and `digest`
     another line  `text`
 
 A last line without its end has `cut` too. Each line is written before the next one is read. With --to they are appended
@@ -47,6 +47,7 @@ LINK_FAULT = re.compile(r"link (?P<link>\d+) (?P<fault>F\d \w+)")
 FAULT = re.compile(r"[A-Z]\d+ [A-Z]\w+.*|no-memory|bad record|cannot read .*")
 COUNTS = re.compile(r"(?:policy read again, )?[a-z-]+ \d+(?:, [a-z]+ \d+)*")
 COUNT = re.compile(r"([a-z-]+) (\d+)")
+DIGEST = re.compile(r"(?:the old policy stays, )?digest (?P<digest>[0-9a-f]{64})")
 ALONE = {"bad-header", "no-memory"}
 PLAIN = {"pass", "no-rule", "unknown-message"}
 NUMBERS = {"link", "frame", "line", "column", "offset"}
@@ -92,6 +93,8 @@ def said_in(text: str) -> Fields:
     """The fields of what comes after `derguard: `, a fault or a note."""
     if FAULT.fullmatch(text):
         return {"fault": text}
+    if digest := DIGEST.fullmatch(text):
+        return {"note": text} | fields_in(digest)
     counts = COUNT.findall(text) if COUNTS.fullmatch(text) else []
     return {"note": text} | {name: int(number) for name, number in counts}
 

@@ -45,6 +45,19 @@ def is_as_said(words, frames, word):
         give_up(f"{' '.join(words)} reports {lines} where {word or 'nothing'} was meant")
 
 
+def notes(work):
+    """The same frames with notes, beside the same without."""
+    say("With `--verbose`, the reports to `/dev/null`:\n")
+    say("| frames | `run`, ns a frame | `run --verbose`, ns a frame | times | aim |")
+    say("|---|---|---|---|---|")
+    for name, frames, status, aim in (("goes", GOES, 0, 1.05), ("not-allowed", NOT_ALLOWED, 1, 1.1)):
+        file = work.put("flood.frames", frames)
+        words = {noted: [GUARD, "run", ORDERS] + noted * ["--verbose"] for noted in (False, True)}
+        times = nanoseconds({noted: Stream(work, file, words[noted], status, False) for noted in words})
+        say(f"| {name} | {times[False]:.0f} | {times[True]:.0f} | {times[True] / times[False]:.2f} | {aim} |")
+    say()
+
+
 def flood(work):
     say("### A flood of one kind\n")
     say("`run`, nanoseconds a frame, with the reports to `/dev/null` and to a pipe that `cat` reads.\n")
@@ -60,4 +73,5 @@ def flood(work):
         share = f"{times[False] / goes:.1f}" if len(frames) < 1000 else "-"
         say(f"| {name} | {len(frames)} | {times[False]:.0f} | {times[True]:.0f} | {share} | {aim or '-'} |")
     say()
+    notes(work)
     return []

@@ -8,7 +8,7 @@ use Rattle.guard_model.specs.AbstractType as type
 use Rattle.guard_model.specs.AbstractType.{AbstractType, AbstractKind, Constraints, type_of}
 use Rattle.guard_model.specs.AbstractValue as value
 use Rattle.guard_model.specs.AbstractValue.{AbstractValue, Items}
-use Rattle.guard_model.specs.Kinds.{kind_of, is_integer}
+use Rattle.guard_model.specs.Kinds.{kind_of, element_of, is_integer}
 use Rattle.guard_model.specs.Limits.{fits_128_bits}
 use Rattle.guard_der.specs.Fits.{fits, fits_kind, fits_items, every_fits, are_few}
 use Rattle.guard_eval.specs.Elements.{every_item}
@@ -16,7 +16,7 @@ use Rattle.guard_eval.specs.Member.{is_member, all_hold}
 use Rattle.guard_eval.specs.NumberSets.{HasNumbers}
 use Rattle.guard_eval.specs.Violations.{first_failing}
 use Rattle.guard_eval.specs.inside.Failures.{first_failure}
-use Rattle.guard_eval.specs.inside.LongLists.{element_type, is_number_of, own_failure}
+use Rattle.guard_eval.specs.inside.LongLists.{is_number_of, own_failure}
 use Rattle.guard_eval.proofs.Applied.{with_true}
 use Rattle.guard_eval.proofs.Bases.{KeepsBase, AllKeepBase}
 use Rattle.guard_eval.proofs.Law.{constraints_clear}
@@ -51,7 +51,7 @@ own_kept cons kind v b h own =
 with_both : (f own listed members : Bool) → f ≡ true → own ≡ true → listed ≡ members → listed ≡ ((f && own) && members)
 with_both f own listed members e k same = rw (e, k) same
 
-pub member_listed : (t u : AbstractType) (vs : Items) (set : Integers) → element_type (kind_of t) ≡ Some u → IsTrue (is_integer (kind_of u)) → KeepsBase t → IsTrue (fits t (value.items vs))
+pub member_listed : (t u : AbstractType) (vs : Items) (set : Integers) → element_of (kind_of t) ≡ Some u → IsTrue (is_integer (kind_of u)) → KeepsBase t → IsTrue (fits t (value.items vs))
     → is_none (own_failure t (value.items vs)) ≡ true → Allows set u → every_item (is_number_of set) vs ≡ is_member t (value.items vs)
 member_listed (type_of tags (type.sequence_of w) cons) u vs set e whole b h own has =
     let is : w ≡ u = same_Some w u e in

@@ -1,33 +1,33 @@
 //! Members of a type where a value may be a long list of numbers: what the type of the numbers allows is found out once.
-ghost use Rattle.std.specs.Prelude.{◌≡◌, IfOk, IsTrue, option_map};
+ghost use Rattle.std.specs.Prelude.{◌≡◌, IfOk, IsTrue};
 ghost use Rattle.std.specs.Option.{is_none};
-ghost use Rattle.guard_model.specs.TypeView.{type_view, kind_view};
+ghost use Rattle.guard_model.specs.TypeView.{type_view};
 ghost use Rattle.guard_model.specs.ValueView.{value_view, items_view};
 ghost use Rattle.guard_der.specs.Fits.{fits};
 ghost use Rattle.guard_der.specs.Sound.{is_sound};
 ghost use Rattle.guard_eval.specs.Elements.{every_item};
 ghost use Rattle.guard_eval.specs.Member.{is_member};
-ghost use Rattle.guard_eval.specs.inside.LongLists.{element_type, is_number_of, own_failure};
+ghost use Rattle.guard_eval.specs.inside.LongLists.{is_number_of, own_failure};
 
 use crate::members::member;
 use crate::number_sets::numbers_of_type;
 use crate::search::first_failure;
 use guard_integers::IntSet;
-use guard_model::{Kind, OutOfMemory, Path, Ty, Value};
+use guard_model::{OutOfMemory, Path, Ty, Value};
 use std::alloc::Global;
 
 /// From so many numbers on, a set of what their type allows costs less than asking each of its constraints for each.
 const MANY: usize = 256;
 
-/// Whether a value is a member of the type, as `member` says. Where it is a list of many numbers, the constraints of
-/// their type aren't asked for each of them: what they allow is found out once, as a set. Conditions: the type is
-/// sound, and the value fits it. OutOfMemory is the only error.
+/// Whether a value is a member of the type, as `member` says (X.680 clauses 49 to 51). Where it is a list of many
+/// numbers, the constraints of their type aren't asked for each of them: what they allow is found out once, as a set.
+/// Conditions: the type is sound, and the value fits it. OutOfMemory is the only error.
 pub fn member_of(alloc: Global, ty: &Ty, value: &Value) -> Result<bool, OutOfMemory>
     requires sound { IsTrue (is_sound (type_view ty.now)) }
     requires fits { IsTrue (fits (type_view ty.now) (value_view value.now)) }
     ensures { IfOk result (λ b. b ≡ is_member (type_view ty.now) (value_view value.now)) }
 {
-    let (Some(element), Value::Items(items)) = (element_type(&ty.kind), value) else {
+    let (Some(element), Value::Items(items)) = (ty.kind.element(), value) else {
         return Ok(member(ty, value));
     };
     if items.len() < MANY || !element.kind.is_integer() || !keeps_own(ty, value) {
@@ -35,17 +35,6 @@ pub fn member_of(alloc: Global, ty: &Ty, value: &Value) -> Result<bool, OutOfMem
     }
     let numbers = numbers_of_type(alloc, element)?;
     Ok(are_numbers_of(&numbers, items))
-}
-
-/// The type of the elements of an OF type. None where the kind has no elements.
-fn element_type(kind: &Kind) -> Option<&Ty>
-    ensures { option_map (λ t. type_view t.now) result ≡ element_type (kind_view kind.now) }
-{
-    match kind {
-        Kind::SequenceOf(element) => Some(element),
-        Kind::SetOf(element) => Some(element),
-        _ => None,
-    }
 }
 
 /// Whether the value keeps the type's own constraints. Those of its parts aren't asked.
@@ -67,6 +56,7 @@ fn are_numbers_of(numbers: &IntSet, items: &[Value]) -> bool
     true
 }
 
+/// Whether the value is a number that the set holds.
 fn is_number_of(numbers: &IntSet, value: &Value) -> bool
     ensures { result ≡ is_number_of numbers.now (value_view value.now) }
 {

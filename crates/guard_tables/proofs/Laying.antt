@@ -7,7 +7,7 @@ use Rattle.guard_model.specs.declared.site.Step.TheVariants.{Component, Element}
 use Rattle.guard_model.specs.AbstractType as type
 use Rattle.guard_model.specs.AbstractType.{AbstractType, AbstractKind, Components, type_of, no_components, component}
 use Rattle.guard_model.specs.AbstractValue as value
-use Rattle.guard_model.specs.AbstractValue.{AbstractValue, Fields, Items}
+use Rattle.guard_model.specs.AbstractValue.{AbstractValue, Fields}
 use Rattle.guard_model.specs.Counts.{component_count}
 use Rattle.guard_model.specs.Kinds.{kind_of, element_of, part_of}
 use Rattle.guard_tagcheck.specs.Distinct.{AbstractClash}

@@ -1,11 +1,11 @@
 //! Steps in which nodes are put together, from the inside out.
-ghost use Rattle.std.specs.Prelude.{◌≡◌, ◌<◌, ◌≤◌, ◌-◌, ◌++◌, ◌∷◌, [], length, map, drop, None, Some, IfOk, true};
+ghost use Rattle.std.specs.Prelude.{◌≡◌, ◌<◌, ◌≤◌, ◌-◌, ◌++◌, ◌∷◌, length, map, drop, None, Some, IfOk, true};
 ghost use Rattle.guard_model.specs.Limits.{most_components};
 ghost use Rattle.guard_tables.specs.Lay.{implied_of};
 ghost use Rattle.guard_tables.specs.NodeViews.{condition_view, implication_view};
 ghost use Rattle.guard_tables.specs.Plan as plans;
 ghost use Rattle.guard_tables.specs.Plan.{body_in, tags_in, form_in, asked_of};
-ghost use Rattle.guard_tables.specs.TableNodes.{IsNode, ascend, spots_of, own_tags};
+ghost use Rattle.guard_tables.specs.TableNodes.{ascend, own_tags};
 ghost use Rattle.guard_tables.specs.inside.Aside.{AreNodes, spots_at};
 ghost use Rattle.guard_tables.specs.inside.Assembled.{Lays, Stacks, WithPart, MayCome, plan_in, parts_in};
 ghost use Rattle.guard_tables.specs.inside.Assembled.{body_of_group, body_of_elements, spots_so_far};

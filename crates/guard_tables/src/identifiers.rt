@@ -1,5 +1,5 @@
 //! Identifier octets (X.690 8.1.2).
-ghost use Rattle.std.specs.Prelude.{◌≡◌, ◌≤◌, ◌<◌, not};
+ghost use Rattle.std.specs.Prelude.{◌≡◌, ◌≤◌, ◌<◌};
 ghost use Rattle.guard_model.specs.Tags.{class_rank};
 ghost use Rattle.guard_tables.specs.NodeViews.{octet_of, identifier_of, other_of};
 ghost use Rattle.guard_tables.specs.TableNodes.{own_tags};

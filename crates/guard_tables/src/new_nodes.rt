@@ -1,5 +1,5 @@
 //! Nodes before they are with the others, and what is said of them as components.
-ghost use Rattle.std.specs.Prelude.{◌≡◌, ◌+◌, ◌≤◌, ℕ, List, [], None, Some, true, false, pos, map, vec_len};
+ghost use Rattle.std.specs.Prelude.{◌≡◌, ◌+◌, ◌≤◌, ℕ, List, None, Some, true, false, map};
 ghost use Rattle.std.specs.Option.{is_none};
 ghost use Rattle.guard_model.specs.Limits.{most_components};
 ghost use Rattle.guard_tables.specs.NodeViews as views;

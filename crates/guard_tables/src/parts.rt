@@ -1,7 +1,7 @@
 //! What a type, and WITH COMPONENTS (X.680 51.8.5 to 51.8.9), ask of parts.
 ghost use Rattle.std.specs.Prelude.{◌≡◌, ◌++◌, map, option_map, OnOk};
 ghost use Rattle.guard_model.specs.Components.{components_in, component_at};
-ghost use Rattle.guard_model.specs.TypeView.{kind_view, type_view, component_view, components_of};
+ghost use Rattle.guard_model.specs.TypeView.{kind_view, component_view, components_of};
 ghost use Rattle.guard_model.specs.TypeView.{part_view, parts_of, presence_view};
 ghost use Rattle.guard_tables.specs.Terms.{is_scalar, parts_from, kind_terms, listed_terms, placed, unlisted};
 ghost use Rattle.guard_tables.specs.inside.OnePart.{inner_terms, part_terms, ruled_out_terms};

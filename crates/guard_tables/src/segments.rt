@@ -1,6 +1,6 @@
 //! Segments of the numbers, in each of which the same conditions fail. That they are in order, and one for each number,
 //! makes the search quick and nothing more: each is tested when it is made, and again when it is found.
-ghost use Rattle.std.specs.Prelude.{◌≡◌, ◌≤ℤ◌, ℕ, ℤ, Some, true, map, slice_get, IfOk, IfSome, OnOk};
+ghost use Rattle.std.specs.Prelude.{◌≡◌, ◌≤ℤ◌, ℤ, Some, true, map, IfOk, IfSome, OnOk};
 ghost use Rattle.std.specs.Option.{is_some};
 ghost use Rattle.guard_tables.specs.Marking.{Facts, test_passes, is_on_number, are_on_numbers};
 ghost use Rattle.guard_tables.specs.Formulas.{failed_unless};

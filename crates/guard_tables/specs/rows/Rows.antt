@@ -6,7 +6,7 @@ use Rattle.guard_model.specs.declared.tag.Tag.{Tag}
 use Rattle.guard_model.specs.declared.ty.Limit.TheVariants.{At}
 use Rattle.guard_model.specs.declared.ty.Word.TheVariants.{Present}
 use Rattle.guard_model.specs.AbstractType as type
-use Rattle.guard_model.specs.AbstractType.{AbstractType, AbstractKind, Constraint, Constraints, Element, type_of, no_components, component, at, no_constraints, constraint}
+use Rattle.guard_model.specs.AbstractType.{AbstractType, Constraint, Constraints, Element, type_of, no_components, component, at, no_constraints, constraint}
 use Rattle.guard_model.specs.AbstractValue as value
 use Rattle.guard_tables.specs.declared.fault.TableFault.TheVariants.{RuleTypeMismatch, TooManyConditions, TooManyRules}
 use Rattle.guard_tables.specs.Conditions.{conditions}

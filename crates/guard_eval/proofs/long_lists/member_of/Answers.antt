@@ -2,7 +2,7 @@ use Rattle.std.proofs.Common.{◌≡◌, true, List, Some, option_map, sym, ap, 
 use Rattle.std.specs.Option.{is_none}
 use Rattle.guard_model.specs.AbstractValue as value
 use Rattle.guard_model.specs.AbstractValue.{AbstractValue}
-use Rattle.guard_model.specs.Kinds.{kind_of, is_integer}
+use Rattle.guard_model.specs.Kinds.{kind_of, element_of, is_integer}
 use Rattle.guard_model.specs.TypeView.{type_view}
 use Rattle.guard_model.specs.ValueView.{value_view, items_view}
 use Rattle.guard_model.specs.declared.value.Value.{Value}
@@ -10,7 +10,7 @@ use Rattle.guard_model.proofs.ValueViews.{value_view_items}
 use Rattle.guard_der.specs.Fits.{fits}
 use Rattle.guard_eval.specs.Elements.{every_item}
 use Rattle.guard_eval.specs.Member.{is_member}
-use Rattle.guard_eval.specs.inside.LongLists.{element_type, is_number_of, own_failure}
+use Rattle.guard_eval.specs.inside.LongLists.{is_number_of, own_failure}
 use Rattle.guard_eval.proofs.AtPlace.{kind_of_view}
 use Rattle.guard_eval.proofs.LongLists.{member_listed}
 use Rattle.guard_eval.proofs.Soundness.{sound_keeps_base}
@@ -22,7 +22,7 @@ returns c =
     let u = type_view c.in-Some-Items.element.now in
     let vs = items_view c.in-Some-Items.items.items in
     let is : value_view c.args.value.now ≡ value.items vs = ap value_view c.in-Some-Items.is-1 ∙ value_view_items c.in-Some-Items.items in
-    let listed : element_type (kind_of t) ≡ Some u = ap element_type (kind_of_view c.args.ty.now) ∙ sym c.element_type.ensures ∙ ap (option_map (λ r. type_view r.now)) c.in-Some-Items.is-0 in
+    let listed : element_of (kind_of t) ≡ Some u = ap element_of (kind_of_view c.args.ty.now) ∙ sym c.element.ensures ∙ ap (option_map (λ r. type_view r.now)) c.in-Some-Items.is-0 in
     let whole : is_integer (kind_of u) ≡ true = ap is_integer (kind_of_view c.in-Some-Items.element.now) ∙ sym c.is_integer.ensures ∙ c.if-not-is_integer.false in
     let own : is_none (own_failure t (value.items vs)) ≡ true = ap (λ (v : AbstractValue). is_none (own_failure t v)) (sym is) ∙ sym c.keeps_own.ensures ∙ c.if-not-keeps_own.false in
     c.are_numbers_of.ensures ∙ ap (λ (xs : List Value). every_item (is_number_of c.in_ok-numbers.numbers) (items_view xs)) c.deref.ensures.value

@@ -1,4 +1,4 @@
-use Rattle.std.proofs.Common.{◌≡◌, List, [], ◌∷◌, map, refl, sym, ap, ◌∙◌}
+use Rattle.std.proofs.Common.{◌≡◌, List, [], ◌∷◌, map, refl, ap, ◌∙◌}
 use Rattle.std.specs.Arc.{arc_value}
 use Rattle.guard_model.specs.AbstractType.{AbstractKind, NamedNumber, enumerated}
 use Rattle.guard_model.specs.TypeView.{kind_view}

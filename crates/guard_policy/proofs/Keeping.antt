@@ -157,7 +157,8 @@ as_said : (ms : List KeptMessage) (kept : KeptRule) (r : AbstractRule) → IsSai
 as_said ms kept r said found =
     let ty : unwrap_or (found_type ms kept.ty) no_type ≡ r.ty = ap (λ (o : Option AbstractType). unwrap_or o no_type) found in
     let name = said.name in let effect = said.effect in let from = said.from in let to = said.to in let message = said.message in
-    rw (name, effect, from, to, message, ty) refl
+    let home = said.home in let type_name = said.type_name in
+    rw (name, effect, from, to, message, home, type_name, ty) refl
 
 -- what is kept of the rule of this number represents it
 pub kept_one : (messages : List AbstractMessage) (all : List AbstractRule) (n : ℕ) (r : AbstractRule) (l : AbstractListed) (kept : KeptRule)
@@ -219,6 +220,6 @@ type_missing ms rules n r there sound none =
     absurd cc
 
 pub typed_is : (ms : List KeptMessage) (r : KeptRule) (t : AbstractType) → Some t ≡ found_type ms r.ty
-    → ◌≡◌ {A = AbstractRule} (record { name = string_bytes r.name; effect = r.effect; from = string_bytes r.from; to = string_bytes r.to; message = string_bytes r.message; ty = t }) (kept_rule_view ms r)
+    → ◌≡◌ {A = AbstractRule} (record { name = string_bytes r.name; effect = r.effect; from = string_bytes r.from; to = string_bytes r.to; message = string_bytes r.message; home = string_bytes r.home; type_name = string_bytes r.type_name; ty = t }) (kept_rule_view ms r)
 typed_is ms r t e =
-    ap (λ (o : Option AbstractType). record { name = string_bytes r.name; effect = r.effect; from = string_bytes r.from; to = string_bytes r.to; message = string_bytes r.message; ty = unwrap_or o no_type }) e
+    ap (λ (o : Option AbstractType). record { name = string_bytes r.name; effect = r.effect; from = string_bytes r.from; to = string_bytes r.to; message = string_bytes r.message; home = string_bytes r.home; type_name = string_bytes r.type_name; ty = unwrap_or o no_type }) e

@@ -30,6 +30,8 @@ rule_of entry t effect = record {
   from = text_of key.From entry;
   to = text_of key.To entry;
   message = text_of key.Message entry;
+  home = text_of key.Module entry;
+  type_name = text_of key.TypeName entry;
   ty = t;
 }
 

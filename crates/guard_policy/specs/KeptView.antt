@@ -26,5 +26,7 @@ kept_rule_view messages r = record {
   from = string_bytes r.from;
   to = string_bytes r.to;
   message = string_bytes r.message;
+  home = string_bytes r.home;
+  type_name = string_bytes r.type_name;
   ty = unwrap_or (found_type messages r.ty) no_type;
 }

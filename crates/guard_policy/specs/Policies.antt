@@ -10,13 +10,15 @@ pub record AbstractMessage : Type 0 where
   pub home : List ℕ
   pub ty : AbstractType
 
--- a rule; its sender and its receiver may each be `*`, for every one
+-- a rule; its sender and its receiver may each be `*`, for every one, and its type has this name in the module `home`
 pub record AbstractRule : Type 0 where
   pub name : List ℕ
   pub effect : Effect
   pub from : List ℕ
   pub to : List ℕ
   pub message : List ℕ
+  pub home : List ℕ
+  pub type_name : List ℕ
   pub ty : AbstractType
 
 -- messages and rules in file order, and the names of the schema's modules

@@ -14,5 +14,7 @@ said_view r = record {
   from = r.from.now;
   to = r.to.now;
   message = r.message.now;
+  home = r.home.now;
+  type_name = r.type_name.now;
   ty = type_view r.ty.now;
 }

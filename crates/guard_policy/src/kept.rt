@@ -45,6 +45,8 @@ pub(crate) struct KeptRule {
     pub from: String,
     pub to: String,
     pub message: String,
+    pub home: String,
+    pub type_name: String,
     pub ty: TypePlace,
 }
 
@@ -83,6 +85,8 @@ impl Kept {
             from: &rule.from,
             to: &rule.to,
             message: &rule.message,
+            home: &rule.home,
+            type_name: &rule.type_name,
             ty,
         })
     }
@@ -147,12 +151,16 @@ fn without_type(alloc: Global, rule: &SaidRule, ty: TypePlace) -> Result<KeptRul
     let from = String::from_str(alloc, rule.from)?;
     let to = String::from_str(alloc, rule.to)?;
     let message = String::from_str(alloc, rule.message)?;
+    let home = String::from_str(alloc, rule.home)?;
+    let type_name = String::from_str(alloc, rule.type_name)?;
     Ok(KeptRule {
         name,
         effect: rule.effect,
         from,
         to,
         message,
+        home,
+        type_name,
         ty,
     })
 }

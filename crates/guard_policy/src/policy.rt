@@ -34,6 +34,10 @@ pub struct SaidRule<'a> {
     pub from: &'a str,
     pub to: &'a str,
     pub message: &'a str,
+    /// The name of the module that assigns its type.
+    pub home: &'a str,
+    /// The name of its type in this module.
+    pub type_name: &'a str,
     pub ty: &'a Ty,
 }
 

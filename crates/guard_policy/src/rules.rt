@@ -104,6 +104,8 @@ fn rule_said<'a>(table: &'a Table, effect: Effect, ty: &'a Ty) -> SaidRule<'a>
         from: text_of(table, Key::From),
         to: text_of(table, Key::To),
         message: text_of(table, Key::Message),
+        home: text_of(table, Key::Module),
+        type_name: text_of(table, Key::TypeName),
         ty,
     }
 }

@@ -8,6 +8,7 @@ use Rattle.guard_policy.specs.declared.policy.Effect.TheVariants.{Allow, Deny}
 use Rattle.guard_policy.specs.Policies.{AbstractPolicy, AbstractRule}
 use Rattle.guard_authors.specs.declared.summary.Row.{Row}
 use Rattle.guard_authors.specs.declared.summary.Row.TheVariants.{Rule, Reason}
+use Rattle.guard_authors.specs.declared.summary.Unruled.TheVariants.{BadHeader, UnknownMessage, Undecodable, OutsideType, NotAllowed, NoRule}
 use Rattle.guard_authors.specs.Summary.{IsRowOf, counted_lines, how_often, reasons_in, rules_in}
 
 abbrev rule : AbstractType → List ℕ → Effect → AbstractRule
@@ -17,6 +18,8 @@ rule t name effect = record {
   from = codes "north";
   to = codes "south";
   message = codes "order";
+  home = codes "Orders";
+  type_name = codes "Order";
   ty = t;
 }
 
@@ -28,7 +31,7 @@ policy t = record {
 }
 
 abbrev five : List Row
-five = Rule 0 ∷ Reason 5 ∷ Rule 0 ∷ Rule 1 ∷ Rule 0 ∷ []
+five = Rule 0 ∷ Reason NoRule ∷ Rule 0 ∷ Rule 1 ∷ Rule 0 ∷ []
 
 pub let_through : how_often (rules_in five) 0 ≡ 3
 let_through = refl
@@ -47,9 +50,9 @@ pub table : (t : AbstractType) → counted_lines (policy t) five
 unfolding digits
 table t = refl
 
--- each reason by its number, and a rule that has no frame
+-- each reason, and a rule that has no frame
 abbrev each : List Row
-each = Reason 0 ∷ Reason 1 ∷ Reason 2 ∷ Reason 3 ∷ Reason 4 ∷ Reason 5 ∷ Reason 4 ∷ Rule 1 ∷ []
+each = Reason BadHeader ∷ Reason UnknownMessage ∷ Reason Undecodable ∷ Reason OutsideType ∷ Reason NotAllowed ∷ Reason NoRule ∷ Reason NotAllowed ∷ Rule 1 ∷ []
 
 pub reasons : (t : AbstractType) → counted_lines (policy t) each
     ≡ codes "  north>south order: allow small 0\n" ++ codes "  north>south order: deny big 1\n"
@@ -58,5 +61,5 @@ pub reasons : (t : AbstractType) → counted_lines (policy t) each
 unfolding digits
 reasons t = refl
 
-pub not_three_names : (t : AbstractType) → IsRowOf (policy t) None (Reason 0)
+pub not_three_names : (t : AbstractType) → IsRowOf (policy t) None (Reason BadHeader)
 not_three_names t = refl

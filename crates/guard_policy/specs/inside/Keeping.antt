@@ -43,6 +43,8 @@ pub record IsSaid (r : AbstractRule) (kept : KeptRule) : Type 0 where
   pub from : string_bytes kept.from ≡ r.from
   pub to : string_bytes kept.to ≡ r.to
   pub message : string_bytes kept.message ≡ r.message
+  pub home : string_bytes kept.home ≡ r.home
+  pub type_name : string_bytes kept.type_name ≡ r.type_name
 
 -- the first message of this name
 pub record IsFirst (name : List ℕ) (messages : List KeptMessage) (m : KeptMessage) : Type 0 where

@@ -89,6 +89,8 @@ pub said : policy_in orders (document (order ∷ []) (small ∷ [])) ≡ record 
     from = codes "north";
     to = codes "south";
     message = codes "order";
+    home = codes "Orders";
+    type_name = codes "Small";
     ty = integer;
   } ∷ [];
   modules = codes "Orders" ∷ [];

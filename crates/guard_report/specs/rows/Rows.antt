@@ -39,6 +39,8 @@ rule_called name = record {
   from = codes "north";
   to = codes "south";
   message = codes "order";
+  home = codes "Orders";
+  type_name = codes "Order";
   ty = order;
 }
 

@@ -16,6 +16,6 @@ unreachable-requires c =
 pub returns : goal.returns
 returns c =
     let p = c.args.self.now in
-    rw (c.deref-2.ensures, c.deref-3.ensures, c.deref-4.ensures, c.deref-5.ensures)
+    rw (c.deref-2.ensures, c.deref-3.ensures, c.deref-4.ensures, c.deref-5.ensures, c.deref-6.ensures, c.deref-7.ensures)
     (ap Some (typed_is p.messages.items c.in_ok-rule.rule.now (type_view c.in-Some.ty.now) c.in-Some.ensures)
     ∙ viewed (kept_rule_view p.messages.items) p.rules.items c.args.number (Some c.in_ok-rule.rule) (rw c.deref.ensures.value at c.in_ok-rule.ensures.lookup))

@@ -5,6 +5,7 @@ use Rattle.std.specs.Io.KnownBytes.{Appends, Keeps}
 use Rattle.std.proofs.lemmas.Grind.{common_steps}
 use Rattle.std.proofs.Math.Seq.{take-add}
 use Rattle.std.proofs.lemmas.List.{take_rest, take-append-drop}
+pub use Rattle.guard_frames.specs.Added.{sent_more, reported_more}
 use Rattle.guard_frames.specs.Added.{Added, nothing, joined, BothAppend}
 use Rattle.guard_frames.specs.Prefix.{IsProperPrefix}
 
@@ -56,13 +57,6 @@ Prefix_second part first second h = record {
 }
 
 -- ---- both sinks
-
--- what was added to one of the two
-abbrev pub sent_more : Added → List ℕ → Added
-sent_more a s = record { out = a.out ++ s; reports = a.reports }
-
-abbrev pub reported_more : Added → List ℕ → Added
-reported_more a s = record { out = a.out; reports = a.reports ++ s }
 
 pub both_none : (o r : Option (List ℕ)) → BothAppend (o, o) (r, r) nothing
 both_none o r = record { sent = Appends_none o; reported = Appends_none r }

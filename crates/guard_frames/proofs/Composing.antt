@@ -16,7 +16,7 @@ use Rattle.guard_frames.specs.declared.link.LinkFault.{LinkFault}
 use Rattle.guard_frames.specs.declared.link.LinkFault.TheVariants as link
 use Rattle.guard_frames.specs.declared.link.Closing.{Closing}
 use Rattle.guard_frames.specs.declared.link.Closing.TheVariants.{FrameTooLong, OutFailed, ReportsFailed, TornFrame}
-use Rattle.guard_frames.specs.inside.Closing.{link_fault, left_by, Puts, HasFailed, UnlessReports}
+use Rattle.guard_frames.specs.inside.Closing.{link_fault, left_by, Puts, HasFailed, NotedBy}
 use Rattle.guard_frames.proofs.Counting.{later_later, counted-append}
 use Rattle.guard_frames.proofs.Going.{frames_of-append, text_out-append}
 use Rattle.guard_frames.proofs.Progress.{AllAdd-append, number_after}
@@ -113,9 +113,9 @@ told_write_failed OutFailed o r h e = inl h
 told_write_failed ReportsFailed o r h e = inr h
 told_write_failed (TornFrame count) o r h e = absurd cc
 
-pub unlost : (closing : Closing) (So : Type 0) → UnlessReports (Err closing) So
-    → (◌≡◌ {A = Result (Unit {0}) LinkFault} (Err (link_fault closing)) (Err link.WriteFailed) → ⊥) → So
-unlost (FrameTooLong size) So h f = h
-unlost OutFailed So h f = h
-unlost ReportsFailed So h f = absurd (f refl)
-unlost (TornFrame count) So h f = h
+pub unlost : (closing : Closing) (So : Added → Type 0) (a : Added) → NotedBy (Err closing) So a
+    → (◌≡◌ {A = Result (Unit {0}) LinkFault} (Err (link_fault closing)) (Err link.WriteFailed) → ⊥) → So a
+unlost (FrameTooLong size) So a h f = h
+unlost OutFailed So a h f = absurd (f refl)
+unlost ReportsFailed So a h f = absurd (f refl)
+unlost (TornFrame count) So a h f = h

@@ -112,19 +112,19 @@ breaks_now d n h p now used a e x =
     subst (λ (s : List ℕ). BreaksOff (λ _. d) n s a) (sym (held_splits h p now used e)) (breaks_longer d n now (drop used p) a x)
 
 -- what closes the link then
-pub broken_puts : (d : Decision) (n m : Totals) (s held : List ℕ) (b : Broken) (closing : Closing) (a : Added) (So : List ℕ → Type 0) → IsBroken d n s b a So →
+pub broken_puts : (d : Decision) (n m : Totals) (s held : List ℕ) (b : Broken) (closing : Closing) (a : Added) (So : Added → Type 0) → IsBroken d n s b a So →
     ClosedBy b closing m → Puts d n s held m (Err closing) a
 broken_puts d n m s held (Out t) closing a So x is =
     subst (λ (c : Closing). Puts d n s held m (Err c) a) (sym is.0) (x.0, is.1 ∙ x.1)
-broken_puts d n m s held Reports closing a So x is = subst (λ (c : Closing). Puts d n s held m (Err c) a) (sym is) x
+broken_puts d n m s held Reports closing a So x is = subst (λ (c : Closing). Puts d n s held m (Err c) a) (sym is) x.0
 
-pub broken_longer : (d : Decision) (n : Totals) (h p now : List ℕ) (used : ℕ) (b : Broken) (a : Added) (So : List ℕ → Type 0) → now ≡ h ++ take used p →
+pub broken_longer : (d : Decision) (n : Totals) (h p now : List ℕ) (used : ℕ) (b : Broken) (a : Added) (So : Added → Type 0) → now ≡ h ++ take used p →
     IsBroken d n now b a So → IsBroken d n (h ++ p) b a So
 unfolding breaks_longer
 broken_longer d n h p now used (Out t) a So e x =
     subst (λ (s : List ℕ). IsBroken d n s (Out t) a So) (sym (held_splits h p now used e))
-    (breaks_longer d (next_number n) now (drop used p) a x.0, x.1, x.2)
-broken_longer d n h p now used Reports a So e x = breaks_now d (next_number n) h p now used a e x
+    (breaks_longer d (next_number n) now (drop used p) a x.0, x.1, x.2, x.3)
+broken_longer d n h p now used Reports a So e x = (breaks_now d (next_number n) h p now used a e x.0, x.1, x.2)
 
 -- octets that begin with a frame and have no more than one are that frame
 nothing_left : (now rest : List ℕ) (fs : List (List ℕ)) → ConsistsOf now fs rest → length rest < length now →

@@ -1,5 +1,5 @@
 -- What a run leaves in its link where that is closed.
-use Rattle.std.proofs.Common.{◌≡◌, ◌<◌, ◌+◌, ◌⊎◌, inl, inr, ap, sym, subst, ℕ, Bool, true, List, ◌∙◌, length}
+use Rattle.std.proofs.Common.{◌≡◌, ◌<◌, ◌+◌, ◌⊎◌, inl, inr, ap, sym, refl, subst, ℕ, Bool, true, List, ◌∙◌, length}
 use Rattle.std.specs.Prelude.{Result, Ok, Err}
 use Rattle.guard_frames.specs.declared.totals.Totals.{Totals}
 use Rattle.guard_frames.specs.declared.running.RunFault.{RunFault}
@@ -10,15 +10,18 @@ use Rattle.guard_frames.specs.Frames.{IsTooLong, ConsistsOf}
 use Rattle.guard_frames.specs.LinkView.{AbstractLink}
 use Rattle.guard_frames.specs.Totals.{no_frames}
 use Rattle.guard_frames.specs.Outcomes.{Decision, frames_of}
-use Rattle.guard_frames.specs.Added.{Added}
+use Rattle.guard_frames.specs.Added.{Added, joined, sent_more}
 use Rattle.guard_frames.specs.Feeding.{Decides}
 use Rattle.guard_frames.specs.Runs.{RunsAll, Runs, IsFoundTooLong}
-use Rattle.guard_frames.specs.Leaving.{Leaves, Unless}
-use Rattle.guard_frames.specs.inside.Closing.{run_fault, left_by, Puts, HasFailed, UnlessReports}
+use Rattle.guard_frames.specs.Leaving.{Leaves, Watched, WatchedInPart, IsWatched}
+use Rattle.guard_frames.specs.Reasons.{Told, Noted}
+use Rattle.guard_frames.specs.declared.why.Reason.{Reason}
+use Rattle.guard_frames.specs.inside.Closing.{run_fault, left_by, Puts, HasFailed, NotedBy}
 use Rattle.guard_frames.specs.inside.Putting.{IsBroken, ClosedBy, SinkFailed}
 use Rattle.guard_frames.specs.declared.sending.Broken.{Broken}
 use Rattle.guard_frames.specs.declared.sending.Broken.TheVariants.{Out, Reports}
 use Rattle.guard_frames.proofs.Counting.{counts}
+use Rattle.guard_frames.proofs.Noting.{watched_on}
 
 abbrev pub runs_all : (d : Decision) (read rest : List ℕ) (m : Totals) (a : Added) (Last : List ℕ → Type 0) → Decides d no_frames read rest m a → Last rest → RunsAll d read a Last
 runs_all d read rest m a Last x last = record { outcomes = x.outcomes; rest = rest; split = x.split; out = x.out; reports = x.reports; last = last }
@@ -38,19 +41,19 @@ leaves_closed d l read held OutFailed a Ended o r soon h left failed = (h.0, inr
 leaves_closed d l read held ReportsFailed a Ended o r soon h left failed = (h, inl failed)
 leaves_closed d l read held (TornFrame count) a Ended o r soon h left failed = absurd h
 
-pub unless_closed : (closing : Closing) (o r : Bool) (So : Type 0) → HasFailed closing o r → UnlessReports (Err closing) So →
-    Unless (r ≡ true) (Err (run_fault closing)) So
-unless_closed (FrameTooLong size) o r So failed h = h
-unless_closed OutFailed o r So failed h = inr h
-unless_closed ReportsFailed o r So failed h = inl failed
-unless_closed (TornFrame count) o r So failed h = h
-
-pub unless_then : (result : Result (Unit {0}) Closing) (So Then : Type 0) → (So → Then) → UnlessReports result So → UnlessReports result Then
-unless_then (Ok done) So Then f h = f h
-unless_then (Err (FrameTooLong size)) So Then f h = f h
-unless_then (Err OutFailed) So Then f h = f h
-unless_then (Err ReportsFailed) So Then f h = tt
-unless_then (Err (TornFrame count)) So Then f h = f h
+-- what a watch was told then
+pub watched_closed : {W : Type 0} (Gives : Reason → List ℕ → Type 0) (notes : W → Told → W → Type 0) (d : Decision) (old last new : W)
+    (closing : Closing) (read : List ℕ) (front back : Added) (o r : Bool) → HasFailed closing o r → Watched d Gives notes old read front last →
+    NotedBy (Err closing) (λ z. Noted Gives notes last z new) back → IsWatched (Err (run_fault closing))
+    (Watched d Gives notes old read (joined front back) new) (WatchedInPart (r ≡ true) d Gives notes old read (joined front back) new)
+watched_closed {W} Gives notes d old last new (FrameTooLong size) read front back o r failed p h =
+    watched_on W Gives notes d old last new read front back p h
+watched_closed {W} Gives notes d old last new OutFailed read front back o r failed p h =
+    record { front = front; back = back; split = refl; last = last; before = p; told = sent_more back h.0; ahead = h.1; known = inr (h.0, refl) }
+watched_closed {W} Gives notes d old last new ReportsFailed read front back o r failed p h =
+    record { front = front; back = back; split = refl; last = last; before = p; told = h.0; ahead = h.1; known = inl failed }
+watched_closed {W} Gives notes d old last new (TornFrame count) read front back o r failed p h =
+    watched_on W Gives notes d old last new read front back p h
 
 pub write_failed : (closing : Closing) (o r : Bool) → HasFailed closing o r
     → ◌≡◌ {A = Result (Unit {0}) RunFault} (Err (run_fault closing)) (Err run.WriteFailed) → (o ≡ true) ⊎ (r ≡ true)
@@ -82,11 +85,11 @@ same_fault f k e = let same : f ≡ k = cc in ap (λ (x : RunFault). Err x) same
 
 -- ---- what closes it where a sink has failed
 
-pub broken_noted : (d : Decision) (n m : Totals) (s : List ℕ) (b : Broken) (closing : Closing) (a : Added) (So : List ℕ → Type 0) → IsBroken d n s b a So →
-    ClosedBy b closing m → UnlessReports (Err closing) (So a.reports)
+pub broken_noted : (d : Decision) (n m : Totals) (s : List ℕ) (b : Broken) (closing : Closing) (a : Added) (So : Added → Type 0) → IsBroken d n s b a So →
+    ClosedBy b closing m → NotedBy (Err closing) So a
 broken_noted d n m s (Out t) closing a So x is =
-    subst (λ (c : Closing). UnlessReports (Err c) (So a.reports)) (sym is.0) x.2
-broken_noted d n m s Reports closing a So x is = subst (λ (c : Closing). UnlessReports (Err c) (So a.reports)) (sym is) tt
+    subst (λ (c : Closing). NotedBy (Err c) So a) (sym is.0) (x.2, x.3)
+broken_noted d n m s Reports closing a So x is = subst (λ (c : Closing). NotedBy (Err c) So a) (sym is) (x.1, x.2)
 
 pub broken_failed : (b : Broken) (closing : Closing) (m : Totals) (o r : Bool) → SinkFailed b o r → ClosedBy b closing m → HasFailed closing o r
 broken_failed (Out t) closing m o r h is = subst (λ (c : Closing). HasFailed c o r) (sym is.0) h

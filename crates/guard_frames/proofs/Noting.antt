@@ -1,12 +1,22 @@
--- What is noted of lines, text by text.
-use Rattle.std.proofs.Common.{◌≡◌, ℕ, List, [], ◌∷◌, ◌++◌, ◌∙◌, ap, sym, refl, subst, append_assoc}
+-- What a watch is told, part by part.
+use Rattle.std.proofs.Common.{◌≡◌, ℕ, List, [], ◌∷◌, ◌++◌, ◌∙◌, ap, sym, refl, subst, length, append_assoc}
+use Rattle.std.specs.Prelude.{Result, Ok, Err}
 use Rattle.std.proofs.lemmas.List.{append-nil}
+use Rattle.guard_frames.specs.declared.totals.Totals.{Totals}
 use Rattle.guard_frames.specs.declared.why.Reason.{Reason}
 use Rattle.guard_frames.specs.declared.why.Why.{Why}
 use Rattle.guard_frames.specs.declared.report.Report.{Report}
 use Rattle.guard_frames.specs.declared.report.Report.TheVariants.{BadHeader, NoMemory, Line}
-use Rattle.guard_frames.specs.Judged.{report_line, why_of, ReportGives}
-use Rattle.guard_frames.specs.Reasons.{Says, AreNoted, Noted}
+use Rattle.guard_frames.specs.declared.link.Closing.{Closing}
+use Rattle.guard_frames.specs.declared.link.Closing.TheVariants.{FrameTooLong, OutFailed, ReportsFailed, TornFrame}
+use Rattle.guard_frames.specs.inside.Closing.{NotedBy}
+use Rattle.guard_frames.specs.Added.{Added, nothing, joined, sent_more, reported_more}
+use Rattle.guard_frames.specs.Frames.{IsFrame}
+use Rattle.guard_frames.specs.inside.Judged.{report_line, why_of, ReportGives}
+use Rattle.guard_frames.specs.Outcomes.{Decision}
+use Rattle.guard_frames.specs.Reasons.{Says, Told, IsPaused, Tells, IsTold, Noted}
+use Rattle.guard_frames.specs.Reasons.Told.{pauses, reads, goes, stays}
+use Rattle.guard_frames.specs.Leaving.{AllDecided, Watched}
 
 -- the line of a report says why
 says_why : (Gives : Reason → List ℕ → Type 0) (n : ℕ) (r : Report) → ReportGives Gives r → Says Gives (why_of r) (report_line n r)
@@ -14,43 +24,98 @@ says_why Gives n BadHeader h = (n, refl)
 says_why Gives n NoMemory h = (n, refl)
 says_why Gives n (Line line reason) h = h
 
-module _ (W : Type 0) (Gives : Reason → List ℕ → Type 0) (notes : W → Why → W → Type 0) where
-  are_noted-append : (a b c : W) (xs ys : List Why) (s t : List ℕ) → AreNoted Gives notes a xs s b → AreNoted Gives notes b ys t c
-      → AreNoted Gives notes a (xs ++ ys) (s ++ t) c
-  are_noted-append a b c [] ys s t p q =
-      subst (λ (w : W). AreNoted Gives notes w ys (s ++ t) c) p.1
-      (subst (λ (x : List ℕ). AreNoted Gives notes b ys (x ++ t) c) (sym p.0) q)
-  are_noted-append a b c (x ∷ xs) ys s t (line, lines, joined, says, next, noted, others) q = (
-    line,
-    lines ++ t,
-    ap (λ z. z ++ t) joined ∙ append_assoc line lines t,
-    says,
-    next,
-    noted,
-    are_noted-append next b c xs ys lines t others q,
+-- ---- octets that are added
+
+pub joined_nothing : (a : Added) → joined a nothing ≡ a
+joined_nothing a = λ i. record { out = append-nil a.out i; reports = append-nil a.reports i }
+
+joined_sent : (a b : Added) (s : List ℕ) → joined a (sent_more b s) ≡ sent_more (joined a b) s
+joined_sent a b s = λ i. record { out = sym (append_assoc a.out b.out s) i; reports = a.reports ++ b.reports }
+
+joined_reported : (a b : Added) (s : List ℕ) → joined a (reported_more b s) ≡ reported_more (joined a b) s
+joined_reported a b s = λ i. record { out = a.out ++ b.out; reports = sym (append_assoc a.reports b.reports s) i }
+
+-- ---- what was told, and then more
+
+abbrev Never : List ℕ → Added → Totals → Type 0
+Never read front t = ⊥
+
+-- no piece came where there was no pause
+none_read : (Gives : Reason → List ℕ → Type 0) (told : List Told) (read : List ℕ) (a : Added) → IsPaused told → Tells Never Gives told read a → ⊥
+none_read Gives [] read a p h = p
+none_read Gives (pauses t ∷ told) read a p h = h.0
+none_read Gives (reads n ∷ told) read a p h = p
+none_read Gives (goes n ∷ told) read a p h = p
+none_read Gives (stays why ∷ told) read a p h = p
+
+tells_on : (At : List ℕ → Added → Totals → Type 0) (Gives : Reason → List ℕ → Type 0) (xs ys : List Told) (read : List ℕ) (a b : Added) →
+    Tells At Gives xs read a → Tells Never Gives ys [] b → Tells At Gives (ys ++ xs) read (joined a b)
+tells_on At Gives xs [] read a b h k =
+    subst (Tells At Gives xs read) (sym (ap (joined a) k.1 ∙ joined_nothing a)) h
+tells_on At Gives xs (pauses t ∷ ys) read a b h k = absurd k.0
+tells_on At Gives xs (reads n ∷ ys) read a b h (first, piece, e, size, paused, k) = absurd (none_read Gives ys first b paused k)
+tells_on At Gives xs (goes n ∷ ys) read a b h (first, frame, e, is, size, k) =
+    (joined a first, frame, ap (joined a) e ∙ joined_sent a first frame, is, size, tells_on At Gives xs ys read a first h k)
+tells_on At Gives xs (stays why ∷ ys) read a b h (first, line, e, says, k) =
+    (joined a first, line, ap (joined a) e ∙ joined_reported a first line, says, tells_on At Gives xs ys read a first h k)
+
+module _ (W : Type 0) (notes : W → Told → W → Type 0) where
+  is_told_on : (a b c : W) (xs ys : List Told) → IsTold notes a xs b → IsTold notes b ys c → IsTold notes a (ys ++ xs) c
+  is_told_on a b c xs [] h k = subst (IsTold notes a xs) (sym k) h
+  is_told_on a b c xs (y ∷ ys) h (last, k, noted) = (last, is_told_on a b last xs ys h k, noted)
+
+module _ (W : Type 0) (Gives : Reason → List ℕ → Type 0) (notes : W → Told → W → Type 0) where
+  pub noted_none : (a : W) → Noted Gives notes a nothing a
+  noted_none a = ([], (refl, refl), refl)
+
+  pub noted_same : (a b : W) → b ≡ a → Noted Gives notes a nothing b
+  noted_same a b e = subst (λ (w : W). Noted Gives notes a nothing w) (sym e) (noted_none a)
+
+  pub noted_on : (a b c : W) (x y : Added) → Noted Gives notes a x b → Noted Gives notes b y c → Noted Gives notes a (joined x y) c
+  noted_on a b c x y p q =
+      (q.0 ++ p.0, tells_on Never Gives p.0 q.0 [] x y p.1 q.1, is_told_on W notes a b c p.0 q.0 p.2 q.2)
+
+  -- one more frame goes
+  pub noted_going : (a b c : W) (n : ℕ) (x : Added) (frame : List ℕ) → Noted Gives notes a x b → IsFrame frame → n ≡ length frame → notes b (goes n) c
+      → Noted Gives notes a (sent_more x frame) c
+  noted_going a b c n x frame p is size noted = (goes n ∷ p.0, (x, frame, refl, is, size, p.1), (b, p.2, noted))
+
+  -- one more stays
+  pub noted_staying : (a b c : W) (n : ℕ) (r : Report) (x : Added) (line : List ℕ) → Noted Gives notes a x b → line ≡ report_line n r → ReportGives Gives r
+      → notes b (stays (why_of r)) c → Noted Gives notes a (reported_more x line) c
+  noted_staying a b c n r x line p is gives noted =
+      let says : Says Gives (why_of r) line = subst (Says Gives (why_of r)) (sym is) (says_why Gives n r gives) in
+      (stays (why_of r) ∷ p.0, (x, line, refl, says, p.1), (b, p.2, noted))
+
+  -- what a piece adds, after what was added before it
+  pub noted_by_on : (result : Result (Unit {0}) Closing) (a b c : W) (x y : Added) → Noted Gives notes a x b →
+      NotedBy result (λ z. Noted Gives notes b z c) y → NotedBy result (λ z. Noted Gives notes a z c) (joined x y)
+  noted_by_on (Ok done) a b c x y p q = noted_on a b c x y p q
+  noted_by_on (Err (FrameTooLong size)) a b c x y p q = noted_on a b c x y p q
+  noted_by_on (Err OutFailed) a b c x y p q =
+      (q.0, subst (λ (z : Added). Noted Gives notes a z c) (joined_sent x y q.0) (noted_on a b c x (sent_more y q.0) p q.1))
+  noted_by_on (Err ReportsFailed) a b c x y p q = (joined x q.0, noted_on a b c x q.0 p q.1)
+  noted_by_on (Err (TornFrame count)) a b c x y p q = noted_on a b c x y p q
+
+  -- ---- a run
+
+  pub watched_none : (d : Decision) (a : W) → Watched d Gives notes a [] nothing a
+  watched_none d a = ([], (refl, refl), refl)
+
+  pub watched_pause : (d : Decision) (a b c : W) (t : Totals) (read : List ℕ) (x : Added) → Watched d Gives notes a read x b → AllDecided d read x t →
+      notes b (pauses t) c → Watched d Gives notes a read x c
+  watched_pause d a b c t read x p decided noted = (pauses t ∷ p.0, (decided, p.1), (b, p.2, noted))
+
+  -- a piece comes after a pause
+  pub watched_piece : (d : Decision) (a b c e : W) (t : Totals) (n : ℕ) (read piece : List ℕ) (x : Added) → Watched d Gives notes a read x b →
+      AllDecided d read x t → notes b (pauses t) c → n ≡ length piece → notes c (reads n) e → Watched d Gives notes a (read ++ piece) x e
+  watched_piece d a b c e t n read piece x p decided paused size noted = (
+    reads n ∷ pauses t ∷ p.0,
+    (read, piece, refl, size, tt, (decided, p.1)),
+    (c, (b, p.2, paused), noted),
   )
 
-  pub noted_none : (a : W) → Noted Gives notes a [] a
-  noted_none a = ([], (refl, refl))
-
-  pub noted_same : (a b : W) → b ≡ a → Noted Gives notes a [] b
-  noted_same a b e = subst (λ (w : W). Noted Gives notes a [] w) (sym e) (noted_none a)
-
-  pub noted_on : (a b c : W) (s t : List ℕ) → Noted Gives notes a s b → Noted Gives notes b t c → Noted Gives notes a (s ++ t) c
-  noted_on a b c s t p q = (p.0 ++ q.0, are_noted-append a b c p.0 q.0 s t p.1 q.1)
-
-  -- one more line
-  pub noted_more : (a b c : W) (why : Why) (s line : List ℕ) → Noted Gives notes a s b → Says Gives why line → notes b why c
-      → Noted Gives notes a (s ++ line) c
-  noted_more a b c why s line p says noted =
-      noted_on a b c s line p (why ∷ [], (line, [], sym (append-nil line), says, c, noted, (refl, refl)))
-
-  -- the line of a report, where of the lines before it and of this one some were put and the others are left
-  pub noted_report : (a b c : W) (n : ℕ) (r : Report) (text lines line put left : List ℕ) → line ≡ report_line n r → ReportGives Gives r
-      → Noted Gives notes a (text ++ lines) b → notes b (why_of r) c → put ++ left ≡ lines ++ line
-      → Noted Gives notes a ((text ++ put) ++ left) c
-  noted_report a b c n r text lines line put left is gives before noted e =
-      let says : Says Gives (why_of r) line = subst (Says Gives (why_of r)) (sym is) (says_why Gives n r gives) in
-      let same : (text ++ lines) ++ line ≡ (text ++ put) ++ left =
-      append_assoc text lines line ∙ ap (λ x. text ++ x) (sym e) ∙ sym (append_assoc text put left) in
-      subst (λ (x : List ℕ). Noted Gives notes a x c) same (noted_more a b c (why_of r) (text ++ lines) line before says noted)
+  pub watched_on : (d : Decision) (a b c : W) (read : List ℕ) (x y : Added) → Watched d Gives notes a read x b → Noted Gives notes b y c →
+      Watched d Gives notes a read (joined x y) c
+  watched_on d a b c read x y p q =
+      (q.0 ++ p.0, tells_on (AllDecided d) Gives p.0 q.0 read x y p.1 q.1, is_told_on W notes a b c p.0 q.0 p.2 q.2)

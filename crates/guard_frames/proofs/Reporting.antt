@@ -5,7 +5,7 @@ use Rattle.guard_reader.specs.declared.marks.Marks.{Marks}
 use Rattle.guard_frames.specs.Bodies.{AbstractBody, IsBody, HasNames, body_in}
 use Rattle.guard_frames.specs.Outcomes.{Decision, BodyGoes, FrameGoes, staying}
 use Rattle.guard_frames.specs.Guarding.{Adds}
-use Rattle.guard_frames.specs.Judged.{IsReportOf, report_line}
+use Rattle.guard_frames.specs.inside.Judged.{IsReportOf, report_line}
 use Rattle.guard_frames.specs.declared.report.Report.{Report}
 use Rattle.guard_frames.specs.declared.report.Report.TheVariants.{BadHeader, NoMemory, Line}
 use Rattle.guard_frames.proofs.HeaderLaws.{body_takes, no_body}

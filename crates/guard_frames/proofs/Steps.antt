@@ -55,7 +55,7 @@ pub up_to_more : (end : ℕ) (s f : List ℕ) → IsAt s end f → take (end + l
 up_to_more end s f at = take-add end (length f) s ∙ ap (λ x. take end s ++ x) (sym at.front)
 
 -- between them, to the end of the frame at `end`
-between_more : (sent end : ℕ) (s f : List ℕ) → sent ≤ end → IsAt s end f →
+pub between_more : (sent end : ℕ) (s f : List ℕ) → sent ≤ end → IsAt s end f →
     take (end + length f - sent) (drop sent s) ≡ take (end - sent) (drop sent s) ++ f
 between_more sent end s f le at =
     let e : end + length f - sent ≡ (end - sent) + length f = omega (arith, le) in

@@ -1,5 +1,5 @@
 -- What the loop over some octets has put, where lines wait to be put.
-use Rattle.std.proofs.Common.{◌≡◌, ◌⊎◌, ℕ, ◌+◌, ◌-◌, List, [], ◌++◌, ◌∙◌, ap, sym, refl, subst, inl, inr, take, drop, length, append_assoc, arith}
+use Rattle.std.proofs.Common.{◌≡◌, ◌⊎◌, ℕ, ◌+◌, ◌-◌, ◌≤◌, List, [], ◌++◌, ◌∙◌, ap, sym, refl, subst, inl, inr, take, drop, length, append_assoc, arith}
 use Rattle.std.proofs.lemmas.List.{append-nil}
 use Rattle.guard_frames.specs.Prefix.{IsProperPrefix}
 use Rattle.guard_frames.specs.declared.totals.Totals.{Totals}
@@ -14,7 +14,7 @@ use Rattle.guard_frames.specs.inside.Waiting.{AreLines}
 use Rattle.guard_frames.proofs.Appending.{sent_more, reported_more, Prefix_second}
 use Rattle.guard_frames.proofs.Asking.{ends_joined}
 use Rattle.guard_frames.proofs.Progress.{no_prefix, cuts_one, BreaksAfter}
-use Rattle.guard_frames.proofs.Steps.{IsAt, SoFar, at_first, one_goes, one_stays, breaks_waiting, breaks_report}
+use Rattle.guard_frames.proofs.Steps.{IsAt, SoFar, between_more, at_first, one_goes, one_stays, breaks_waiting, breaks_report}
 
 -- ---- whole lines
 
@@ -95,17 +95,46 @@ none_wait d n m b s lines part sent end a h inside = elim h.alone [
   | inr same ↦ absurd (no_prefix part (subst (IsProperPrefix part) (no_frame s sent end same) inside))
 ]
 
+-- what was put, and the frames and lines that wait
+abbrev pub so_far_told : Added → List ℕ → List ℕ → ℕ → ℕ → Added
+so_far_told a s lines sent end = reported_more (sent_more a (take (end - sent) (drop sent s))) lines
+
 -- so all that is reported is out
-pub broken_out : (d : Decision) (n m b k : Totals) (s lines part : List ℕ) (sent end : ℕ) (a : Added) (So : List ℕ → Type 0) → Waits d n m b s lines sent end a →
-    IsProperPrefix part (take (end - sent) (drop sent s)) → IsCountOf b part k → So (a.reports ++ lines) →
+pub broken_out : (d : Decision) (n m b k : Totals) (s lines part : List ℕ) (sent end : ℕ) (a : Added) (So : Added → Type 0) → Waits d n m b s lines sent end a →
+    IsProperPrefix part (take (end - sent) (drop sent s)) → IsCountOf b part k → So (so_far_told a s lines sent end) →
     IsBroken d n s (Out k) (sent_more a part) So
 broken_out d n m b k s lines part sent end a So h inside count so =
     let x = frames_break d n m b k s lines part sent end a h inside count in
-    (x.0, x.1, subst So (none_wait d n m b s lines part sent end a h inside) so)
+    let out : a.out ++ take (end - sent) (drop sent s) ≡ (a.out ++ part) ++ inside.more =
+    sym (append_assoc a.out part inside.more ∙ ap (λ z. a.out ++ z) inside.joined) in
+    let told : so_far_told a s lines sent end ≡ sent_more (sent_more a part) inside.more =
+    λ i. record { out = out i; reports = none_wait d n m b s lines part sent end a h inside i } in
+    (x.0, x.1, inside.more, subst So told so)
 
--- none of a text waits
-pub text_alone : (text left : List ℕ) → left ≡ [] → text ≡ text ++ left
-text_alone text left none = sym (ap (λ x. text ++ x) none ∙ append-nil text)
+-- ---- what a watch is told
+
+-- one more frame that goes, where lines that waited are put
+pub told_going : (s f lines left : List ℕ) (sent end : ℕ) (a : Added) → sent ≤ end → IsAt s end f → left ≡ [] →
+    sent_more (so_far_told a s lines sent end) f ≡ so_far_told (reported_more a lines) s left sent (end + length f)
+told_going s f lines left sent end a le at none =
+    let waiting : List ℕ = take (end - sent) (drop sent s) in
+    let out : (a.out ++ waiting) ++ f ≡ a.out ++ take (end + length f - sent) (drop sent s) =
+    append_assoc a.out waiting f ∙ ap (λ x. a.out ++ x) (sym (between_more sent end s f le at)) in
+    let reports : a.reports ++ lines ≡ (a.reports ++ lines) ++ left =
+    sym (ap (λ x. (a.reports ++ lines) ++ x) none ∙ append-nil (a.reports ++ lines)) in
+    λ i. record { out = out i; reports = reports i }
+
+-- or one that stays, where frames that waited are put, and of its line and of those before it some are left
+pub told_staying : (s lines line put left : List ℕ) (sent end next : ℕ) (a : Added) → put ++ left ≡ lines ++ line →
+    reported_more (so_far_told a s lines sent end) line
+    ≡ so_far_told (reported_more (sent_more a (take (end - sent) (drop sent s))) put) s left next next
+told_staying s lines line put left sent end next a same =
+    let front : List ℕ = a.out ++ take (end - sent) (drop sent s) in
+    let out : front ≡ front ++ take (next - next) (drop next s) =
+    sym (ap (λ x. front ++ x) (no_frame s next next refl) ∙ append-nil front) in
+    let reports : (a.reports ++ lines) ++ line ≡ (a.reports ++ put) ++ left =
+    append_assoc a.reports lines line ∙ ap (λ x. a.reports ++ x) (sym same) ∙ sym (append_assoc a.reports put left) in
+    λ i. record { out = out i; reports = reports i }
 
 -- The lines are put, and then a frame goes.
 pub goes_next : (d : Decision) (n m c k : Totals) (s f lines left : List ℕ) (sent end : ℕ) (a : Added) → Waits d n m c s lines sent end a → IsAt s end f →

@@ -14,6 +14,13 @@ nothing = record { out = []; reports = [] }
 abbrev pub joined : Added → Added → Added
 joined a b = record { out = a.out ++ b.out; reports = a.reports ++ b.reports }
 
+-- what was added, and then more of one of the two
+abbrev pub sent_more : Added → List ℕ → Added
+sent_more a s = record { out = a.out ++ s; reports = a.reports }
+
+abbrev pub reported_more : Added → List ℕ → Added
+reported_more a s = record { out = a.out; reports = a.reports ++ s }
+
 -- the octets of a device before a call and after it, where it says them
 abbrev pub Octets : Type 0
 Octets = Option (List ℕ) × Option (List ℕ)

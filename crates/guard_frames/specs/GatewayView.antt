@@ -54,11 +54,11 @@ Took taken has_failed old (piece i octets) answer added new =
 Took taken has_failed old (end i) answer added new = new ≡ old
 Took taken has_failed old (reload p) answer added new = new ≡ old
 
--- What an event did to a gateway with its sinks, by what was answered. This is so of what it reported, unless a sink of
--- the link has failed.
-pub record IsStepOf {S : Type 0} (taken : S → Option (List ℕ)) (has_failed : S → Bool) (So : List ℕ → Type 0)
+-- What an event did to a gateway with its sinks, by what was answered. This is so of what it added, unless a sink of the
+-- link has failed.
+pub record IsStepOf {S : Type 0} (taken : S → Option (List ℕ)) (has_failed : S → Bool) (So : Added → Type 0)
     (old : Gateway S) (event : Event) (answer : Result (Unit {0}) StepFault) (new : Gateway S) : Type 0 where
   pub added : Added
   pub step : Step (gateway_view old) (event_view event) answer added (gateway_view new)
   pub took : Took taken has_failed (gateway_ends old) (event_view event) answer added (gateway_ends new)
-  pub noted : (answer ≡ Err (Link WriteFailed) → ⊥) → So added.reports
+  pub noted : (answer ≡ Err (Link WriteFailed) → ⊥) → So added

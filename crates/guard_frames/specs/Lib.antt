@@ -12,7 +12,6 @@ pub mod Added
 pub mod Calls
 pub mod Reasons
 pub mod Guarding
-pub mod Judged
 pub mod Answering
 -- ---- what the calls do
 pub mod ThroughView

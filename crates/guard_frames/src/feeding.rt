@@ -5,7 +5,7 @@ ghost use Rattle.guard_frames.specs.Frames.{IsUnfinished};
 ghost use Rattle.guard_frames.specs.Added.{Added, BothAppend};
 ghost use Rattle.guard_frames.specs.Calls.{AsksLines};
 ghost use Rattle.guard_frames.specs.Reasons.{Noted};
-ghost use Rattle.guard_frames.specs.inside.Closing.{Puts, HasFailed, UnlessReports};
+ghost use Rattle.guard_frames.specs.inside.Closing.{Puts, HasFailed, NotedBy};
 ghost use Rattle.guard_frames.specs.inside.Putting.{ClosedBy};
 
 use crate::cut::{Rest, body_length};
@@ -26,11 +26,11 @@ impl Link {
     ghost use Rattle.guard_frames.specs.Calls.{AsksLines};
     ghost use Rattle.guard_frames.specs.Feeding.{Takes};
     ghost use Rattle.guard_frames.specs.Reasons.{Noted};
-    ghost use Rattle.guard_frames.specs.inside.Closing.{Puts, left_by, HasFailed, UnlessReports};
+    ghost use Rattle.guard_frames.specs.inside.Closing.{Puts, left_by, HasFailed, NotedBy};
     ghost use Rattle.guard_frames.specs.declared.link.LinkFault.TheVariants.{Closed, WriteFailed};
 
     /// Feeds one more piece of the link's stream: each frame that is whole then and goes is put to `out`, and the
-    /// report line of each other one to `reports`; the watch is told why these stay. The octets of a frame that isn't
+    /// report line of each other one to `reports`; the watch is told of each. The octets of a frame that isn't
     /// whole yet are held. Memory is taken only for the text of reports.
     ///
     /// # Errors
@@ -50,7 +50,7 @@ impl Link {
             (link_view self.new) result added
             × BothAppend (O.taken out.old, O.taken out.new) (R.taken reports.old, R.taken reports.new) added
             × ((result ≡ Err WriteFailed → ⊥) →
-            Noted (D.gives policy.now) W.notes watch.old added.reports watch.new) }
+            Noted (D.gives policy.now) W.notes watch.old added watch.new) }
         ensures shut { (link_view self.old).closed ≡ true → (result ≡ Err Closed) × (self.new ≡ self.old)
             × (out.new ≡ out.old) × (reports.new ≡ reports.old) × (watch.new ≡ watch.old) }
         ensures failed { IsErrOf result WriteFailed →
@@ -63,7 +63,7 @@ impl Link {
         Ok(self.take(alloc, policy, piece, out, reports, watch)?)
     }
 
-    /// Takes the next piece of the stream of a link, and tells the watch why frames stay. What goes wrong closes it.
+    /// Takes the next piece of the stream of a link, and tells the watch of its frames. What goes wrong closes it.
     /// Condition: the link is open.
     pub(crate) fn take<D: Decide, O: Sink, R: Sink, W: Watch>(
         &mut self,
@@ -79,7 +79,7 @@ impl Link {
             × Puts (D.decides policy.now) self.old.totals (self.old.held.items ++ piece.now) self.new.held.items
             self.new.totals result added
             × BothAppend (O.taken out.old, O.taken out.new) (R.taken reports.old, R.taken reports.new) added
-            × UnlessReports result (Noted (D.gives policy.now) W.notes watch.old added.reports watch.new) }
+            × NotedBy result (λ told. Noted (D.gives policy.now) W.notes watch.old told watch.new) added }
         ensures open { OnOk result (self.new.closed ≡ false) }
         ensures closes { OnErr result (IsShut (link_view self.new)) }
         ensures left { IfErr result (λ c. self.new.left ≡ left_by c) }
@@ -115,7 +115,7 @@ fn put_piece<D: Decide, O: Sink, R: Sink, W: Watch>(
     ensures puts { (added : Added)
         × Puts (D.decides policy.now) totals.old (held.old.items ++ piece.now) held.new.items totals.new result added
         × BothAppend (O.taken out.old, O.taken out.new) (R.taken reports.old, R.taken reports.new) added
-        × UnlessReports result (Noted (D.gives policy.now) W.notes watch.old added.reports watch.new) }
+        × NotedBy result (λ told. Noted (D.gives policy.now) W.notes watch.old told watch.new) added }
     ensures failed { IfErr result (λ c. HasFailed c (O.has_failed out.new) (R.has_failed reports.new)) }
     ensures lines { AsksLines (R.asked reports.old) (R.asked reports.new) }
 {
@@ -164,7 +164,7 @@ fn put_rest<D: Decide, O: Sink, R: Sink, W: Watch>(
     ensures puts { (added : Added)
         × Puts (D.decides policy.now) totals.old piece.now held.new.items totals.new result added
         × BothAppend (O.taken out.old, O.taken out.new) (R.taken reports.old, R.taken reports.new) added
-        × UnlessReports result (Noted (D.gives policy.now) W.notes watch.old added.reports watch.new) }
+        × NotedBy result (λ told. Noted (D.gives policy.now) W.notes watch.old told watch.new) added }
     ensures failed { IfErr result (λ c. HasFailed c (O.has_failed out.new) (R.has_failed reports.new)) }
     ensures lines { AsksLines (R.asked reports.old) (R.asked reports.new) }
 {

@@ -90,7 +90,7 @@ impl<S: Drop> Gateway<S> {
 
 impl<S: Sink> Gateway<S> {
     /// One event: a piece of a link's stream, its end, or a new policy. The link is fed or ended by the policy in
-    /// force, as `Link::feed` and `Link::end` say, and the watch is told why frames stay.
+    /// force, as `Link::feed` and `Link::end` say, and the watch is told of each frame.
     ///
     /// # Errors
     /// NoSuchLink (F6) where there is no link of the event's number; nothing changes then. Link with the link's own
@@ -102,7 +102,7 @@ impl<S: Sink> Gateway<S> {
         watch: &mut W,
     ) -> Result<(), StepFault>
         ensures { IsStepOf S.taken S.has_failed
-            (λ reported. Noted (gives_of (gateway_view self.old).policy) W.notes watch.old reported watch.new)
+            (λ told. Noted (gives_of (gateway_view self.old).policy) W.notes watch.old told watch.new)
             self.old event.entry result self.new }
     {
         match event {

@@ -30,7 +30,7 @@ pub struct Whole {
 }
 
 /// Decides the whole frames at the front of the octets, counted on from `totals`, and puts each one that goes, or the
-/// line of one that stays; the watch is told why. Frames that go side by side wait to be put in one call, and so do
+/// line of one that stays; the watch is told of each. Frames that go side by side wait to be put in one call, and so do
 /// lines of frames that stay side by side, as many as `Waiting` lets wait. What waits for one sink is put before
 /// anything goes to the other, and at the return nothing waits. Most frames have the route of the frame before, so each
 /// is compared with it first.
@@ -46,10 +46,10 @@ pub fn put_frames<D: Decide, O: Sink, R: Sink, W: Watch>(
     ensures whole { IfOk result (λ whole. (added : Added)
         × ArePut (D.decides policy.now) totals octets.now whole added
         × BothAppend (O.taken out.old, O.taken out.new) (R.taken reports.old, R.taken reports.new) added
-        × Noted (D.gives policy.now) W.notes watch.old added.reports watch.new) }
+        × Noted (D.gives policy.now) W.notes watch.old added watch.new) }
     ensures failure { IfErr result (λ b. (added : Added)
         × IsBroken (D.decides policy.now) totals octets.now b added
-        (λ reported. Noted (D.gives policy.now) W.notes watch.old reported watch.new)
+        (λ told. Noted (D.gives policy.now) W.notes watch.old told watch.new)
         × BothAppend (O.taken out.old, O.taken out.new) (R.taken reports.old, R.taken reports.new) added) }
     ensures failed { IfErr result (λ b. SinkFailed b (O.has_failed out.new) (R.has_failed reports.new)) }
     ensures lines { AsksLines (R.asked reports.old) (R.asked reports.new) }
@@ -73,6 +73,7 @@ pub fn put_frames<D: Decide, O: Sink, R: Sink, W: Watch>(
         match judge(alloc, policy, number, &frame, &mut last) {
             Ruling::Goes => {
                 waiting.put(reports)?;
+                watch.goes(frame.octets.len());
                 end += frame.octets.len();
                 totals = totals.after_going();
             }

@@ -4,8 +4,8 @@ ghost use Rattle.std.specs.Prelude.{◌≡◌, ◌++◌, ◌≤◌, true, List, 
 ghost use Rattle.std.specs.Io.KnownBytes.{Appends};
 ghost use Rattle.guard_frames.specs.Calls.{EndsLine, AsksLines};
 ghost use Rattle.guard_frames.specs.Prefix.{IsProperPrefix};
-ghost use Rattle.guard_frames.specs.Judged.{IsJudged, IsReportOf, ReportEnds, RulingEnds, report_line};
-ghost use Rattle.guard_frames.specs.Judged.{ReportGives, RulingGives};
+ghost use Rattle.guard_frames.specs.inside.Judged.{IsJudged, IsReportOf, ReportEnds, RulingEnds, report_line};
+ghost use Rattle.guard_frames.specs.inside.Judged.{ReportGives, RulingGives};
 ghost use Rattle.guard_frames.specs.Bodies.{body_view, HasNames};
 
 use crate::body::Body;
@@ -41,7 +41,7 @@ pub enum Report {
 
 impl Report {
     ghost use Rattle.std.specs.Prelude.{◌≡◌};
-    ghost use Rattle.guard_frames.specs.Judged.{why_of};
+    ghost use Rattle.guard_frames.specs.inside.Judged.{why_of};
 
     /// Why the frame stays.
     pub fn why(&self) -> Why

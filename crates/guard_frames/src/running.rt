@@ -6,9 +6,8 @@ ghost use Rattle.guard_frames.specs.Added.{Moves};
 ghost use Rattle.guard_frames.specs.Calls.{AsksLines};
 ghost use Rattle.guard_frames.specs.Totals.{WentUpBy};
 ghost use Rattle.guard_frames.specs.LinkView.{link_view, new_link};
-ghost use Rattle.guard_frames.specs.Reasons.{Noted};
 ghost use Rattle.guard_frames.specs.Runs.{ReadToLimit};
-ghost use Rattle.guard_frames.specs.Leaving.{Leaves, Unless};
+ghost use Rattle.guard_frames.specs.Leaving.{Leaves, IsWatched, Watched, WatchedInPart};
 ghost use Rattle.guard_frames.specs.inside.Closing.{run_fault};
 ghost use Rattle.guard_frames.specs.declared.running.RunFault.TheVariants.{WriteFailed, ReadFailed};
 
@@ -81,9 +80,10 @@ fn read_piece<S: Source>(source: &mut S, buffer: &mut Vec<u8>) -> Result<usize, 
 }
 
 /// Reads all that the source gives, and decides it as the stream of this link: the frames that go are put out, in order
-/// and octet by octet as they came, a line is reported for each one that stays, and the watch is told why. At the return
-/// the link tells how many there were, and what a fault left of the one after them. Conditions: the link is new, and the
-/// buffer is one of `new_buffer`.
+/// and octet by octet as they came, and a line is reported for each one that stays. The watch is told of each frame, how
+/// many octets came in each piece, and before each piece that it may have to be waited for. At the return the link tells
+/// how many frames there were, and what a fault left of the one after them. Conditions: the link is new, and the buffer
+/// is one of `new_buffer`.
 ///
 /// # Errors
 /// Why the run ended before the stream's end: F1 FrameTooLong, F2 WriteFailed, F4 TornFrame or F5 ReadFailed, with the
@@ -104,14 +104,17 @@ pub fn decide_link<S: Source, D: Decide, O: Sink, R: Sink, W: Watch>(
         (R.taken reports.old, R.taken reports.new)
         (λ read added. Leaves (D.decides policy.now) read (IsAtEnd (S.tells source.new))
         (R.has_failed reports.new ≡ true) result (link_view link.new) added
-        × Unless (R.has_failed reports.new ≡ true) result
-        (Noted (D.gives policy.now) W.notes watch.old added.reports watch.new)) }
+        × IsWatched result
+        (Watched (D.decides policy.now) (D.gives policy.now) W.notes watch.old read added watch.new)
+        (WatchedInPart (R.has_failed reports.new ≡ true) (D.decides policy.now) (D.gives policy.now) W.notes watch.old
+        read added watch.new)) }
     ensures failed { IsErrOf result WriteFailed → (O.has_failed out.new ≡ true) ⊎ (R.has_failed reports.new ≡ true) }
     ensures unread { IsErrOf result ReadFailed → (S.has_failed source.new ≡ true)
         ⊎ ReadToLimit (S.takes source.old) (S.takes source.new) (S.tells source.old) (S.tells source.new) }
     ensures lines { AsksLines (R.asked reports.old) (R.asked reports.new) }
 {
     for _ in 0..MOST_READS {
+        watch.pauses(link.totals);
         let Ok(count) = read_piece(source, buffer) else {
             return Err(RunFault::ReadFailed);
         };
@@ -119,6 +122,7 @@ pub fn decide_link<S: Source, D: Decide, O: Sink, R: Sink, W: Watch>(
             link.finish()?;
             return Ok(());
         }
+        watch.reads(count);
         link.take(alloc, policy, &buffer[..count], out, reports, watch)?;
     }
     Err(RunFault::ReadFailed)

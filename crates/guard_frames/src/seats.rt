@@ -28,7 +28,7 @@ pub(crate) struct Seat<S> {
     pub(crate) ends: Ends<S>,
 }
 
-/// Feeds a piece to a link, puts what comes of it to the link's sinks, and tells the watch why frames stay.
+/// Feeds a piece to a link, puts what comes of it to the link's sinks, and tells the watch of its frames.
 fn feed_seat<D: Decide, S: Sink, W: Watch>(
     alloc: Global,
     policy: &D,
@@ -37,7 +37,7 @@ fn feed_seat<D: Decide, S: Sink, W: Watch>(
     watch: &mut W,
 ) -> Result<(), LinkFault>
     ensures { IsFed (D.decides policy.now) S.taken S.has_failed
-        (λ reported. Noted (D.gives policy.now) W.notes watch.old reported watch.new)
+        (λ told. Noted (D.gives policy.now) W.notes watch.old told watch.new)
         seat.old octets.now result seat.new }
 {
     seat.link.feed(
@@ -60,7 +60,7 @@ pub(crate) fn feed_at<D: Decide, S: Sink, W: Watch>(
     watch: &mut W,
 ) -> Result<(), StepFault>
     ensures { IsFedAt (D.decides policy.now) S.taken S.has_failed
-        (λ reported. Noted (D.gives policy.now) W.notes watch.old reported watch.new)
+        (λ told. Noted (D.gives policy.now) W.notes watch.old told watch.new)
         seats.old.items at octets.now result seats.new.items }
 {
     if at >= seats.len() {

@@ -1,10 +1,12 @@
-//! Why frames stay, and who is told of it.
+//! Why frames stay, and who is told what becomes of each.
 
 ghost use Rattle.std.specs.Prelude.{◌≡◌, Some};
 ghost use Rattle.guard_policy.specs.Verdicts.{verdict_view, pass};
-ghost use Rattle.guard_frames.specs.Reasons.{reason_of};
+ghost use Rattle.guard_frames.specs.Reasons.{reason_of, Told};
+ghost use Rattle.guard_frames.specs.Reasons.Told.{pauses, reads, goes, stays};
 ghost use Rattle.guard_frames.specs.declared.why.Why.{Why};
 
+use crate::totals::Totals;
 use guard_policy::Verdict;
 
 /// The reason of a verdict that isn't to pass.
@@ -13,7 +15,8 @@ pub enum Reason {
     UnknownMessage,
     Undecodable,
     OutsideType,
-    DeniedBy,
+    /// By the rule of this number.
+    DeniedBy(usize),
     NotAllowed,
     NoRule,
 }
@@ -39,20 +42,32 @@ pub(crate) fn reason_of(verdict: &Verdict) -> Reason
         Verdict::UnknownMessage => Reason::UnknownMessage,
         Verdict::Undecodable(_) => Reason::Undecodable,
         Verdict::OutsideType(_) => Reason::OutsideType,
-        Verdict::DeniedBy(_) => Reason::DeniedBy,
+        Verdict::DeniedBy(rule) => Reason::DeniedBy(*rule),
         Verdict::NotAllowed(_) => Reason::NotAllowed,
         Verdict::NoRule => Reason::NoRule,
     }
 }
 
-/// Is told of each frame that stays why it does.
+/// Is told of each frame what becomes of it.
 pub trait Watch {
-    /// What this reason changes.
-    ghost notes: { Self → Why → Self → Type 0 };
+    /// What each thing that is told changes.
+    ghost notes: { Self → Told → Self → Type 0 };
+
+    /// What comes next may have to be waited for. All frames so far, of which these are the totals, are out or reported.
+    fn pauses(&mut self, totals: Totals)
+        ensures { notes self.old (pauses totals) self.new };
+
+    /// So many octets came.
+    fn reads(&mut self, octets: usize)
+        ensures { notes self.old (reads octets) self.new };
+
+    /// The next frame goes, with so many octets. It may not be out yet.
+    fn goes(&mut self, octets: usize)
+        ensures { notes self.old (goes octets) self.new };
 
     /// The next frame stays, for this reason.
     fn stays(&mut self, why: Why)
-        ensures { notes self.old why self.new };
+        ensures { notes self.old (stays why) self.new };
 }
 
 /// Nobody is told.
@@ -60,7 +75,13 @@ pub trait Watch {
 pub struct Unwatched;
 
 impl Watch for Unwatched {
-    ghost notes = { λ old why new. Unit {0} };
+    ghost notes = { λ old told new. Unit {0} };
+
+    fn pauses(&mut self, _totals: Totals) {}
+
+    fn reads(&mut self, _octets: usize) {}
+
+    fn goes(&mut self, _octets: usize) {}
 
     fn stays(&mut self, _why: Why) {}
 }

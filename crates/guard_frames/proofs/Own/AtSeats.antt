@@ -32,13 +32,13 @@ fed_of d l octets told l₁ o o₁ r r₁ opened shut = elim (which l.closed) [
       (t.0, inr (is, t.1), t.2)
 ]
 
--- and so of what was reported
+-- and so of what was added
 pub fed_watched : (d : Decision) (l : AbstractLink) (octets : List ℕ) (told : Result (Unit {0}) LinkFault) (l₁ : AbstractLink) (o o₁ r r₁ : Option (List ℕ))
-    (So : List ℕ → Type 0) →
+    (So : Added → Type 0) →
     (l.closed ≡ false → (added : Added) × Takes d l.totals (l.held ++ octets) l₁ told added × BothAppend (o, o₁) (r, r₁) added
-    × ((told ≡ Err WriteFailed → ⊥) → So added.reports)) →
-    (l.closed ≡ true → (told ≡ Err Closed) × (l₁ ≡ l) × (o₁ ≡ o) × (r₁ ≡ r) × So []) →
-    (added : Added) × Fed d l octets told l₁ added × BothAppend (o, o₁) (r, r₁) added × ((told ≡ Err WriteFailed → ⊥) → So added.reports)
+    × ((told ≡ Err WriteFailed → ⊥) → So added)) →
+    (l.closed ≡ true → (told ≡ Err Closed) × (l₁ ≡ l) × (o₁ ≡ o) × (r₁ ≡ r) × So nothing) →
+    (added : Added) × Fed d l octets told l₁ added × BothAppend (o, o₁) (r, r₁) added × ((told ≡ Err WriteFailed → ⊥) → So added)
 fed_watched d l octets told l₁ o o₁ r r₁ So opened shut = elim (which l.closed) [
   | inl is ↦
       let s = shut is in

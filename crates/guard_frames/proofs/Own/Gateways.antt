@@ -61,9 +61,9 @@ told_closed (Err WriteFailed) e = absurd cc
 told_closed (Err Closed) e = refl
 told_closed (Err TornFrame) e = absurd cc
 
-pub piece_steps : {S : Type 0} (taken : S → Option (List ℕ)) (has_failed : S → Bool) (So : List ℕ → Type 0) (p : AbstractPolicy) (old new : List (Seat S)) (i : ℕ) (octets : List ℕ) (answer : Result (Unit {0}) StepFault) →
+pub piece_steps : {S : Type 0} (taken : S → Option (List ℕ)) (has_failed : S → Bool) (So : Added → Type 0) (p : AbstractPolicy) (old new : List (Seat S)) (i : ℕ) (octets : List ℕ) (answer : Result (Unit {0}) StepFault) →
     IsFedAt (decision_of p) taken has_failed So old i octets answer new →
-    (x : StepsSeats taken has_failed p old (piece i octets) answer p new) × ((answer ≡ Err (Link WriteFailed) → ⊥) → So x.0.reports)
+    (x : StepsSeats taken has_failed p old (piece i octets) answer p new) × ((answer ≡ Err (Link WriteFailed) → ⊥) → So x.0)
 piece_steps {S} taken has_failed So p old new i octets answer (inl (h, so)) = (
   (
     nothing,
@@ -141,9 +141,9 @@ unfolding end_steps
 end_adds taken has_failed p old new i answer (inl h) = refl
 end_adds taken has_failed p old new i answer (inr h) = refl
 
-pub step_of : {S : Type 0} (taken : S → Option (List ℕ)) (has_failed : S → Bool) (So : List ℕ → Type 0) (old : Gateway S) (event : Event) (answer : Result (Unit {0}) StepFault)
+pub step_of : {S : Type 0} (taken : S → Option (List ℕ)) (has_failed : S → Bool) (So : Added → Type 0) (old : Gateway S) (event : Event) (answer : Result (Unit {0}) StepFault)
     (new : Gateway S) → (x : StepsSeats taken has_failed (policy_view old.policy) old.seats.items (event_view event) answer (policy_view new.policy) new.seats.items) →
-    ((answer ≡ Err (Link WriteFailed) → ⊥) → So x.0.reports) → IsStepOf taken has_failed So old event answer new
+    ((answer ≡ Err (Link WriteFailed) → ⊥) → So x.0) → IsStepOf taken has_failed So old event answer new
 step_of taken has_failed So old event answer new h so = record { added = h.0; step = h.1; took = h.2; noted = so }
 
 -- ---- lending

@@ -1,7 +1,7 @@
 -- What a piece does to an open link, before what goes wrong closes it.
 use Rattle.std.specs.Prelude.{◌≡◌, ℕ, Bool, true, List, Result, Ok, Err}
 use Rattle.guard_frames.specs.declared.totals.Totals.{Totals}
-use Rattle.guard_frames.specs.Added.{Added}
+use Rattle.guard_frames.specs.Added.{Added, sent_more}
 use Rattle.guard_frames.specs.declared.link.LinkFault.{LinkFault}
 use Rattle.guard_frames.specs.declared.link.LinkFault.TheVariants as link
 use Rattle.guard_frames.specs.declared.link.Closing.{Closing}
@@ -52,10 +52,11 @@ HasFailed OutFailed out reports = out ≡ true
 HasFailed ReportsFailed out reports = reports ≡ true
 HasFailed (TornFrame count) out reports = Unit {0}
 
--- This is so, unless the sink of the reports has failed.
-abbrev pub UnlessReports : Result (Unit {0}) Closing → Type 0 → Type 0
-UnlessReports (Ok done) So = So
-UnlessReports (Err (FrameTooLong size)) So = So
-UnlessReports (Err OutFailed) So = So
-UnlessReports (Err ReportsFailed) So = Unit {0}
-UnlessReports (Err (TornFrame count)) So = So
+-- This is so of what was added; or of that and of frames that go and aren't out, where their sink has failed; or of
+-- something, where that of the reports has.
+abbrev pub NotedBy : Result (Unit {0}) Closing → (Added → Type 0) → Added → Type 0
+NotedBy (Ok done) So added = So added
+NotedBy (Err (FrameTooLong size)) So added = So added
+NotedBy (Err OutFailed) So added = (lost : List ℕ) × So (sent_more added lost)
+NotedBy (Err ReportsFailed) So added = (told : Added) × So told
+NotedBy (Err (TornFrame count)) So added = So added

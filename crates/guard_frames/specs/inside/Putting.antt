@@ -10,7 +10,7 @@ use Rattle.guard_frames.specs.Frames.{ConsistsOf}
 use Rattle.guard_frames.specs.Guarding.{BreaksOff}
 use Rattle.guard_frames.specs.Totals.{next_number, counted}
 use Rattle.guard_frames.specs.Outcomes.{Decision, all_going}
-use Rattle.guard_frames.specs.Added.{Added}
+use Rattle.guard_frames.specs.Added.{Added, sent_more}
 use Rattle.guard_frames.specs.Feeding.{Decides}
 use Rattle.guard_frames.specs.Cutting.{IsRest}
 
@@ -26,11 +26,13 @@ IsCountOf n octets t =
     (frames : List (List ℕ)) × (rest : List ℕ) × ConsistsOf octets frames rest × (t ≡ counted n (all_going frames))
 
 -- A sink failed at the next frame. Where it isn't that of the reports, the totals are those of the frames before, and
--- this is so of what was reported.
-abbrev pub IsBroken : Decision → Totals → List ℕ → Broken → Added → (List ℕ → Type 0) → Type 0
+-- this is so of what was added and of frames that go and aren't out. Else it is so of something.
+abbrev pub IsBroken : Decision → Totals → List ℕ → Broken → Added → (Added → Type 0) → Type 0
 IsBroken d n octets (Out t) added So =
-    (x : BreaksOff (λ _. d) (next_number n) octets added) × (t ≡ counted n x.first) × So added.reports
-IsBroken d n octets Reports added So = BreaksOff (λ _. d) (next_number n) octets added
+    (x : BreaksOff (λ _. d) (next_number n) octets added) × (t ≡ counted n x.first)
+    × (lost : List ℕ) × So (sent_more added lost)
+IsBroken d n octets Reports added So =
+    BreaksOff (λ _. d) (next_number n) octets added × (told : Added) × So told
 
 -- the sink that it tells of has failed
 abbrev pub SinkFailed : Broken → Bool → Bool → Type 0

@@ -1,9 +1,9 @@
 -- What an event does to links with their sinks.
-use Rattle.std.specs.Prelude.{◌≡◌, ◌⊎◌, ℕ, Bool, true, List, [], Option, Some, None, Result, Err, slice_get, slice_set}
+use Rattle.std.specs.Prelude.{◌≡◌, ◌⊎◌, ℕ, Bool, true, List, Option, Some, None, Result, Err, slice_get, slice_set}
 use Rattle.guard_frames.specs.LinkView.{link_view}
 use Rattle.guard_frames.specs.LinkSteps.{Fed, Ended}
 use Rattle.guard_frames.specs.Outcomes.{Decision}
-use Rattle.guard_frames.specs.Added.{Added, BothAppend}
+use Rattle.guard_frames.specs.Added.{Added, nothing, BothAppend}
 use Rattle.guard_frames.specs.Gateways.{step_answer}
 use Rattle.guard_frames.specs.declared.link.LinkFault.{LinkFault}
 use Rattle.guard_frames.specs.declared.link.LinkFault.TheVariants.{WriteFailed, Closed}
@@ -12,15 +12,15 @@ use Rattle.guard_frames.specs.declared.gateway.StepFault.TheVariants.{NoSuchLink
 use Rattle.guard_frames.specs.declared.seats.Seat.{Seat}
 
 -- A piece did this to a link, and its sinks took what it added. Those of a closed one are as they were. This is so of
--- what was reported, unless a sink has failed.
+-- what was added, unless a sink has failed.
 pub record IsFed {S : Type 0} (d : Decision) (taken : S → Option (List ℕ)) (has_failed : S → Bool)
-    (So : List ℕ → Type 0) (old : Seat S) (octets : List ℕ) (answer : Result (Unit {0}) LinkFault) (new : Seat S) : Type 0 where
+    (So : Added → Type 0) (old : Seat S) (octets : List ℕ) (answer : Result (Unit {0}) LinkFault) (new : Seat S) : Type 0 where
   pub added : Added
   pub does : Fed d (link_view old.link) octets answer (link_view new.link) added
   pub took : BothAppend (taken old.ends.out, taken new.ends.out) (taken old.ends.reports, taken new.ends.reports) added
   pub failed : answer ≡ Err WriteFailed → (has_failed new.ends.out ≡ true) ⊎ (has_failed new.ends.reports ≡ true)
   pub shut : answer ≡ Err Closed → new.ends ≡ old.ends
-  pub noted : (answer ≡ Err WriteFailed → ⊥) → So added.reports
+  pub noted : (answer ≡ Err WriteFailed → ⊥) → So added
 
 -- There is no seat of this number.
 pub record IsNoSeat {S : Type 0} (old : List (Seat S)) (at : ℕ) (answer : Result (Unit {0}) StepFault)
@@ -40,10 +40,10 @@ pub record IsAtSeat {S : Type 0} (old : List (Seat S)) (at : ℕ) (answer : Resu
   pub answered : answer ≡ step_answer link_answer
   pub others : new ≡ slice_set old at new_seat
 
-abbrev pub IsFedAt : {S : Type 0} → Decision → (S → Option (List ℕ)) → (S → Bool) → (List ℕ → Type 0) → List (Seat S) → ℕ →
+abbrev pub IsFedAt : {S : Type 0} → Decision → (S → Option (List ℕ)) → (S → Bool) → (Added → Type 0) → List (Seat S) → ℕ →
     List ℕ → Result (Unit {0}) StepFault → List (Seat S) → Type 0
 IsFedAt d taken has_failed So old at octets answer new =
-    (IsNoSeat old at answer new × So [])
+    (IsNoSeat old at answer new × So nothing)
     ⊎ IsAtSeat old at answer new (λ s told s₁. IsFed d taken has_failed So s octets told s₁)
 
 -- An end leaves the sinks as they were.

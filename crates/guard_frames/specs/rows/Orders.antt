@@ -18,10 +18,12 @@ use Rattle.guard_eval.specs.rows.Rows.{plain, tagged, column, range_at}
 use Rattle.guard_policy.specs.declared.policy.Effect.TheVariants.{Allow}
 use Rattle.guard_policy.specs.Policies.{AbstractPolicy}
 use Rattle.guard_policy.specs.Verdicts.{AbstractVerdict, not_allowed}
+use Rattle.guard_frames.specs.Added.{nothing}
 use Rattle.guard_frames.specs.Bodies.{AbstractBody}
 use Rattle.guard_frames.specs.Headline.{MayGo, IsLineOf}
 use Rattle.guard_frames.specs.OfPolicy.{gives_of}
-use Rattle.guard_frames.specs.Reasons.{AreNoted}
+use Rattle.guard_frames.specs.Reasons.{Noted}
+use Rattle.guard_frames.specs.Reasons.Told.{stays}
 use Rattle.guard_frames.specs.declared.why.Reason.TheVariants.{NotAllowed}
 use Rattle.guard_frames.specs.declared.why.Why.TheVariants.{BadHeader, Decided}
 
@@ -46,6 +48,8 @@ policy = record {
     from = codes "north";
     to = codes "south";
     message = codes "order";
+    home = codes "Orders";
+    type_name = codes "Small";
     ty = order_type small;
   } ∷ [];
   modules = codes "Orders" ∷ [];
@@ -111,8 +115,17 @@ fifty_gives = (
   refl,
 )
 
--- two lines, of each of which it is noted that there is one more
-two_noted : AreNoted (gives_of policy) (λ n why m. m ≡ suc n) 0 (BadHeader ∷ Decided NotAllowed ∷ [])
-    (codes "1 bad-header\n" ++ line) 2
+-- two lines, and a watch that counts was told of both
+two_noted : Noted (gives_of policy) (λ n told m. m ≡ suc n) 0 (record { out = []; reports = codes "1 bad-header\n" ++ line }) 2
 unfolding digits
-two_noted = (codes "1 bad-header\n", line, refl, (1, refl), 1, refl, (line, [], refl, fifty_gives, 2, refl, (refl, refl)))
+two_noted = (
+  stays (Decided NotAllowed) ∷ stays BadHeader ∷ [],
+  (
+    record { out = []; reports = codes "1 bad-header\n" },
+    line,
+    refl,
+    fifty_gives,
+    (nothing, codes "1 bad-header\n", refl, (1, refl), (refl, refl)),
+  ),
+  (1, (0, refl, refl), refl),
+)

@@ -3,7 +3,7 @@ use Rattle.guard_frames.specs.Bodies.{body_view}
 use Rattle.guard_frames.specs.Outcomes.{FrameGoes, going, staying}
 use Rattle.guard_frames.specs.Guarding.{Adds}
 use Rattle.guard_frames.specs.Answering.{pass_line}
-use Rattle.guard_frames.specs.Judged.{report_line}
+use Rattle.guard_frames.specs.inside.Judged.{report_line}
 use Rattle.guard_frames.proofs.LineOfFrame.{body_read, passes_by, stays_by}
 use Rattle.guard_frames.proofs.NameSizes.{name_short}
 use Rattle.guard_frames.proofs.Reporting.{names_are}

@@ -1,5 +1,5 @@
 use Rattle.std.proofs.Common.{◌≡◌, ◌∙◌, ◌<◌, ◌++◌, ℕ, List, ap, sym, subst, drop, length, rules, arith}
-use Rattle.guard_frames.specs.Added.{joined}
+use Rattle.guard_frames.specs.Added.{Added, joined}
 use Rattle.std.proofs.lemmas.List.{take_rest}
 use Rattle.guard_frames.specs.Frames.{stated_length}
 use Rattle.guard_frames.specs.Reasons.{Noted}
@@ -7,8 +7,8 @@ use Rattle.guard_frames.specs.inside.Closing.{Puts}
 use Rattle.guard_frames.proofs.Appending.{both_joined}
 use Rattle.guard_frames.proofs.Asking.{asks_trans}
 use Rattle.guard_frames.proofs.Holding.{not_too_long, still_unfinished, too_long_now, broken_longer, broken_puts, puts_left}
-use Rattle.guard_frames.proofs.Leavings.{broken_noted, unless_then, broken_failed}
-use Rattle.guard_frames.proofs.Noting.{noted_on}
+use Rattle.guard_frames.proofs.Leavings.{broken_noted, broken_failed}
+use Rattle.guard_frames.proofs.Noting.{noted_by_on}
 use Rattle.guard_frames.proofs.Reading.{is_empty_list}
 use Rattle.guard_frames.proofs.feeding.put_piece.Goals as goal
 
@@ -27,8 +27,8 @@ pub returns-in-Err-clause-puts : goal.returns-in-Err-clause-puts
 returns-in-Err-clause-puts g c =
     let d = g.D.Decide.decides c.args.policy.now in
     let x = rw c.as_slice.ensures.value at c.in-Err.ensures.failure in
-    let so : List ℕ → Type 0 =
-    λ text. Noted (g.D.Decide.gives c.args.policy.now) g.W.Watch.notes c.args.watch.now text c.put_frames.new.watch in
+    let so : Added → Type 0 =
+    λ added. Noted (g.D.Decide.gives c.args.policy.now) g.W.Watch.notes c.args.watch.now added c.put_frames.new.watch in
     let y = broken_longer d c.args.totals.now c.args.held.now.items c.args.piece.now c.complete-used.new.held.items c.complete-used.result
     c.in-Err.broken x.0 so c.complete-used.ensures.held x.1 in (
       x.0,
@@ -72,8 +72,8 @@ returns-clause-puts g c =
           c.complete-used.new.held.items c.put_rest-2.new.held.items c.complete-used.result c.put_rest-2.result x.0 y.0
           c.complete-used.ensures.held c.complete-used.ensures.no_more x.1 some y.1,
       both_joined _ _ _ _ _ _ x.0 y.0 x.2 y.2,
-      unless_then c.put_rest-2.result _ _ (λ more. noted_on _ (g.D.Decide.gives c.args.policy.now) g.W.Watch.notes c.args.watch.now c.put_frames.new.watch c.put_rest-2.new.watch
-          x.0.reports y.0.reports x.3 more) y.3,
+      noted_by_on _ (g.D.Decide.gives c.args.policy.now) g.W.Watch.notes c.put_rest-2.result c.args.watch.now c.put_frames.new.watch c.put_rest-2.new.watch
+          x.0 y.0 x.3 y.3,
     )
 
 pub returns-clause-lines : goal.returns-clause-lines

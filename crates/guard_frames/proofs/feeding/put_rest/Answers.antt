@@ -1,6 +1,7 @@
 use Rattle.std.proofs.Common.{◌≡◌, List, ℕ, ap, subst, sym, ◌∙◌, drop}
 use Rattle.std.proofs.lemmas.List.{take_rest}
 use Rattle.guard_frames.specs.Frames.{stated_length, IsUnfinished, IsTooLong}
+use Rattle.guard_frames.specs.Added.{Added}
 use Rattle.guard_frames.specs.Feeding.{Decides}
 use Rattle.guard_frames.specs.Cutting.{IsRest}
 use Rattle.guard_frames.specs.Reasons.{Noted}
@@ -11,8 +12,8 @@ use Rattle.guard_frames.proofs.feeding.put_rest.Goals as goal
 pub returns-in-Err-clause-puts : goal.returns-in-Err-clause-puts
 returns-in-Err-clause-puts g c =
     let d = g.D.Decide.decides c.args.policy.now in
-    let so : List ℕ → Type 0 =
-    λ text. Noted (g.D.Decide.gives c.args.policy.now) g.W.Watch.notes c.args.watch.now text c.put_frames.new.watch in
+    let so : Added → Type 0 =
+    λ added. Noted (g.D.Decide.gives c.args.policy.now) g.W.Watch.notes c.args.watch.now added c.put_frames.new.watch in
     let x = c.in-Err.ensures.failure in (
       x.0,
       broken_puts d c.args.totals.now c.broken_at.new.totals c.args.piece.now c.args.held.now.items c.in-Err.broken c.broken_at.result x.0 so x.1 c.broken_at.ensures,

@@ -1,14 +1,14 @@
-use Rattle.std.proofs.Common.{◌++◌, ℕ, List, ◌-◌, sym, subst, take, drop}
+use Rattle.std.proofs.Common.{ℕ, List, ◌+◌, ◌-◌, sym, refl, subst, take, drop, length}
 use Rattle.std.proofs.lemmas.Result.{err_from_is_err_and}
 use Rattle.guard_frames.specs.Totals.{next_number}
-use Rattle.guard_frames.specs.Added.{nothing}
+use Rattle.guard_frames.specs.Added.{Added, nothing}
 use Rattle.guard_frames.specs.Reasons.{Noted}
 use Rattle.guard_frames.proofs.Asking.{asks_none, asks_trans}
 use Rattle.guard_frames.proofs.Appending.{sent_more, reported_more, both_none, both_sent, both_reported}
-use Rattle.guard_frames.proofs.Noting.{noted_none, noted_report}
+use Rattle.guard_frames.proofs.Noting.{noted_none, noted_going, noted_staying}
 use Rattle.guard_frames.proofs.Reporting.{adds_line}
 use Rattle.guard_frames.proofs.Steps.{first_at, at_last}
-use Rattle.guard_frames.proofs.Waits.{no_lines, at_start, frames_put, broken_out, text_alone, goes_next, line_breaks, stays_next}
+use Rattle.guard_frames.proofs.Waits.{no_lines, at_start, frames_put, so_far_told, broken_out, told_going, told_staying, goes_next, line_breaks, stays_next}
 use Rattle.guard_frames.proofs.putting.put_frames.Goals as goal
 
 pub loop-frame-init : goal.loop-frame-init
@@ -18,8 +18,8 @@ loop-frame-init g c = (
   both_none _ _,
   asks_none _,
   no_lines c.none-waiting.result.lines.items c.none-waiting.ensures,
-  subst (λ (x : List ℕ). Noted (g.D.Decide.gives c.args.policy.now) g.W.Watch.notes c.args.watch.now x c.args.watch.now)
-      (sym c.none-waiting.ensures) (noted_none _ (g.D.Decide.gives c.args.policy.now) g.W.Watch.notes c.args.watch.now),
+  subst (λ (x : List ℕ). Noted (g.D.Decide.gives c.args.policy.now) g.W.Watch.notes c.args.watch.now
+      (so_far_told nothing c.args.octets.now x 0 0) c.args.watch.now) (sym c.none-waiting.ensures) (noted_none _ (g.D.Decide.gives c.args.policy.now) g.W.Watch.notes c.args.watch.now),
 )
 
 -- ---- no whole frame is left
@@ -34,7 +34,7 @@ returns-in_err-put_going-in-Rest-clause-failure g c =
       sent_more h.0 p.0,
       broken_out d c.args.totals c.loop-frame.totals c.loop-frame.before _ c.args.octets.now c.loop-frame.waiting.lines.items p.0
           c.loop-frame.sent c.loop-frame.end h.0
-          (λ (x : List ℕ). Noted (g.D.Decide.gives c.args.policy.now) g.W.Watch.notes c.args.watch.now x c.loop-frame.watch)
+          (λ (x : Added). Noted (g.D.Decide.gives c.args.policy.now) g.W.Watch.notes c.args.watch.now x c.loop-frame.watch)
           h.1 p.1 p.3 h.5,
       both_sent _ _ _ _ _ h.0 p.0 h.2 p.2,
     )
@@ -52,7 +52,11 @@ returns-in_err-put-in-Rest-clause-failure g c =
     let e = err_from_is_err_and c.from_residual-in_err-put-in-Rest.result c.from_residual-in_err-put-in-Rest.ensures.1 in
     rw (e.1, e.2) (
       reported_more (sent_more h.0 waiting) p.0,
-      frames_put d c.args.totals c.loop-frame.totals c.loop-frame.before s c.loop-frame.waiting.lines.items c.loop-frame.sent c.loop-frame.end h.0 h.1 p.0 p.1,
+      (
+        frames_put d c.args.totals c.loop-frame.totals c.loop-frame.before s c.loop-frame.waiting.lines.items c.loop-frame.sent c.loop-frame.end h.0 h.1 p.0 p.1,
+        so_far_told h.0 s c.loop-frame.waiting.lines.items c.loop-frame.sent c.loop-frame.end,
+        h.5,
+      ),
       both_reported _ _ _ _ _ (sent_more h.0 waiting) p.0 (both_sent _ _ _ _ _ h.0 waiting h.2 c.in_ok-put_going-in-Rest.ensures.all) p.2,
     )
 
@@ -79,8 +83,11 @@ returns-in_err-put-in-Goes-clause-failure g c =
     let h = c.loop-frame.invariant in
     let p = c.in_err-put-in-Goes.ensures.part in
     let e = err_from_is_err_and c.from_residual-in_err-put-in-Goes.result c.from_residual-in_err-put-in-Goes.ensures.1 in
-    rw (e.1, e.2)
-    (reported_more h.0 p.0, h.1.breaks p.0 p.1, both_reported _ _ _ _ _ h.0 p.0 h.2 p.2)
+    rw (e.1, e.2) (
+      reported_more h.0 p.0,
+      (h.1.breaks p.0 p.1, so_far_told h.0 c.args.octets.now c.loop-frame.waiting.lines.items c.loop-frame.sent c.loop-frame.end, h.5),
+      both_reported _ _ _ _ _ h.0 p.0 h.2 p.2,
+    )
 
 pub loop-frame-preserved-in-Goes : goal.loop-frame-preserved-in-Goes
 loop-frame-preserved-in-Goes g c =
@@ -95,9 +102,11 @@ loop-frame-preserved-in-Goes g c =
       both_reported _ _ _ _ _ h.0 c.loop-frame.waiting.lines.items h.2 c.in_ok-put-in-Goes.ensures.all,
       asks_trans _ _ _ h.3 c.in_ok-put-in-Goes.ensures.lines,
       no_lines c.put-in-Goes.new.self.lines.items c.in_ok-put-in-Goes.ensures.none,
-      subst (λ (x : List ℕ). Noted (g.D.Decide.gives c.args.policy.now) g.W.Watch.notes c.args.watch.now x c.loop-frame.watch)
-          (text_alone (h.0.reports ++ c.loop-frame.waiting.lines.items) c.put-in-Goes.new.self.lines.items c.in_ok-put-in-Goes.ensures.none)
-          h.5,
+      subst (λ (x : Added). Noted (g.D.Decide.gives c.args.policy.now) g.W.Watch.notes c.args.watch.now x c.goes.new.self)
+          (told_going s f.octets.now c.loop-frame.waiting.lines.items c.put-in-Goes.new.self.lines.items c.loop-frame.sent c.loop-frame.end h.0
+          h.1.so_far.ordered at c.in_ok-put-in-Goes.ensures.none)
+          (noted_going _ (g.D.Decide.gives c.args.policy.now) g.W.Watch.notes c.args.watch.now c.loop-frame.watch c.goes.new.self (length f.octets.now)
+          (so_far_told h.0 s c.loop-frame.waiting.lines.items c.loop-frame.sent c.loop-frame.end) f.octets.now h.5 at.frame refl c.goes.ensures),
     )
 
 -- ---- a frame stays
@@ -112,7 +121,7 @@ returns-in_err-put_going-in-Stopped-clause-failure g c =
       sent_more h.0 p.0,
       broken_out d c.args.totals c.loop-frame.totals c.loop-frame.before _ c.args.octets.now c.loop-frame.waiting.lines.items p.0
           c.loop-frame.sent c.loop-frame.end h.0
-          (λ (x : List ℕ). Noted (g.D.Decide.gives c.args.policy.now) g.W.Watch.notes c.args.watch.now x c.loop-frame.watch)
+          (λ (x : Added). Noted (g.D.Decide.gives c.args.policy.now) g.W.Watch.notes c.args.watch.now x c.loop-frame.watch)
           h.1 p.1 p.3 h.5,
       both_sent _ _ _ _ _ h.0 p.0 h.2 p.2,
     )
@@ -134,7 +143,13 @@ returns-in_err-add-in-Stopped-clause-failure g c =
     let e = err_from_is_err_and c.from_residual-in_err-add-in-Stopped.result c.from_residual-in_err-add-in-Stopped.ensures.1 in
     rw (e.1, e.2) (
       reported_more (sent_more h.0 waiting) p.0,
-      line_breaks d c.args.totals c.loop-frame.totals c.loop-frame.before s f.octets.now c.loop-frame.waiting.lines.items c.line_of.result.now p.0 c.loop-frame.sent c.loop-frame.end h.0 h.1 at adds p.1,
+      (
+        line_breaks d c.args.totals c.loop-frame.totals c.loop-frame.before s f.octets.now c.loop-frame.waiting.lines.items c.line_of.result.now p.0 c.loop-frame.sent c.loop-frame.end h.0 h.1 at adds p.1,
+        reported_more (so_far_told h.0 s c.loop-frame.waiting.lines.items c.loop-frame.sent c.loop-frame.end) c.line_of.result.now,
+        noted_staying _ (g.D.Decide.gives c.args.policy.now) g.W.Watch.notes c.args.watch.now c.loop-frame.watch c.stays.new.self
+            c.next_number-number.result c.in-Stopped.report (so_far_told h.0 s c.loop-frame.waiting.lines.items c.loop-frame.sent c.loop-frame.end)
+            c.line_of.result.now h.5 c.line_of.ensures.line c.in-Stopped.ensures.gives (rw c.why.ensures at c.stays.ensures),
+      ),
       both_reported _ _ _ _ _ (sent_more h.0 waiting) p.0 (both_sent _ _ _ _ _ h.0 waiting h.2 c.in_ok-put_going-in-Stopped.ensures.all) p.2,
     )
 
@@ -155,9 +170,12 @@ loop-frame-preserved-in_ok-add-in-Stopped g c =
       both_reported _ _ _ _ _ (sent_more h.0 waiting) q.0 (both_sent _ _ _ _ _ h.0 waiting h.2 c.in_ok-put_going-in-Stopped.ensures.all) q.2,
       asks_trans _ _ _ h.3 c.in_ok-add-in-Stopped.ensures.lines,
       c.in_ok-add-in-Stopped.ensures.waiting,
-      noted_report _ (g.D.Decide.gives c.args.policy.now) g.W.Watch.notes c.args.watch.now c.loop-frame.watch c.stays.new.self
-          c.next_number-number.result c.in-Stopped.report h.0.reports c.loop-frame.waiting.lines.items c.line_of.result.now q.0
-          c.add.new.self.lines.items c.line_of.ensures.line c.in-Stopped.ensures.gives h.5 (rw c.why.ensures at c.stays.ensures) q.1,
+      subst (λ (x : Added). Noted (g.D.Decide.gives c.args.policy.now) g.W.Watch.notes c.args.watch.now x c.stays.new.self)
+          (told_staying s c.loop-frame.waiting.lines.items c.line_of.result.now q.0 c.add.new.self.lines.items c.loop-frame.sent c.loop-frame.end
+          (c.loop-frame.end + length f.octets.now) h.0 q.1)
+          (noted_staying _ (g.D.Decide.gives c.args.policy.now) g.W.Watch.notes c.args.watch.now c.loop-frame.watch c.stays.new.self
+          c.next_number-number.result c.in-Stopped.report (so_far_told h.0 s c.loop-frame.waiting.lines.items c.loop-frame.sent c.loop-frame.end)
+          c.line_of.result.now h.5 c.line_of.ensures.line c.in-Stopped.ensures.gives (rw c.why.ensures at c.stays.ensures)),
     )
 
 pub loop-frame-preserved : goal.loop-frame-preserved
@@ -177,9 +195,12 @@ loop-frame-preserved g c =
       both_reported _ _ _ _ _ (sent_more h.0 waiting) q.0 (both_sent _ _ _ _ _ h.0 waiting h.2 c.in_ok-put_going-in-Stopped.ensures.all) q.2,
       asks_trans _ _ _ h.3 c.in_ok-add-in-Stopped.ensures.lines,
       c.in_ok-add-in-Stopped.ensures.waiting,
-      noted_report _ (g.D.Decide.gives c.args.policy.now) g.W.Watch.notes c.args.watch.now c.loop-frame.watch c.stays.new.self
-          c.next_number-number.result c.in-Stopped.report h.0.reports c.loop-frame.waiting.lines.items c.line_of.result.now q.0
-          c.add.new.self.lines.items c.line_of.ensures.line c.in-Stopped.ensures.gives h.5 (rw c.why.ensures at c.stays.ensures) q.1,
+      subst (λ (x : Added). Noted (g.D.Decide.gives c.args.policy.now) g.W.Watch.notes c.args.watch.now x c.stays.new.self)
+          (told_staying s c.loop-frame.waiting.lines.items c.line_of.result.now q.0 c.add.new.self.lines.items c.loop-frame.sent c.loop-frame.end
+          (c.loop-frame.end + length f.octets.now) h.0 q.1)
+          (noted_staying _ (g.D.Decide.gives c.args.policy.now) g.W.Watch.notes c.args.watch.now c.loop-frame.watch c.stays.new.self
+          c.next_number-number.result c.in-Stopped.report (so_far_told h.0 s c.loop-frame.waiting.lines.items c.loop-frame.sent c.loop-frame.end)
+          c.line_of.result.now h.5 c.line_of.ensures.line c.in-Stopped.ensures.gives (rw c.why.ensures at c.stays.ensures)),
     )
 
 -- ---- each call ends a line

@@ -13,8 +13,8 @@ use Rattle.guard_frames.proofs.Composing.{puts_on}
 use Rattle.guard_frames.proofs.Counting.{counts}
 use Rattle.guard_frames.proofs.Reading.{Consumes_none, Consumes_trans, Consumes_zero, no_pieces, one_more_piece}
 use Rattle.guard_frames.proofs.Holding.{empty_unfinished, begins_empty, found_soon}
-use Rattle.guard_frames.proofs.Leavings.{runs_all, leaves_closed, unless_closed, unless_then, write_failed}
-use Rattle.guard_frames.proofs.Noting.{noted_none, noted_on}
+use Rattle.guard_frames.proofs.Leavings.{runs_all, leaves_closed, watched_closed, write_failed}
+use Rattle.guard_frames.proofs.Noting.{watched_none, watched_pause, watched_piece, watched_on}
 use Rattle.guard_frames.proofs.running.decide_link.Goals as goal
 
 pub loop-init : goal.loop-init
@@ -33,7 +33,7 @@ loop-init g c =
         rw (held, ap (λ (l : AbstractLink). l.totals) c.requires.first) start,
         rw held empty_unfinished,
         no_pieces,
-        noted_none _ (g.D.Decide.gives c.args.policy.now) g.W.Watch.notes c.args.watch.now,
+        watched_none _ (g.D.Decide.gives c.args.policy.now) g.W.Watch.notes (g.D.Decide.decides c.args.policy.now) c.args.watch.now,
       );
       lines = asks_none _;
     }
@@ -55,7 +55,8 @@ returns-then-count-eq0-clause-runs g c =
           },
           c.in-Ok.ensures.end zero,
         ),
-        h.7,
+        watched_pause _ (g.D.Decide.gives c.args.policy.now) g.W.Watch.notes (g.D.Decide.decides c.args.policy.now) c.args.watch.now c.loop.watch c.pauses.new.self
+            c.loop.link.totals h.0 h.1 h.7 (c.loop.link.held.items, h.4) c.pauses.ensures,
       );
     }
 
@@ -78,7 +79,8 @@ returns-in_err-finish-clause-runs g c =
           rw c.finish.ensures.totals (counts h.4.outcomes c.loop.link.totals h.4.totals),
           c.finish.ensures.left,
         ),
-        h.7,
+        watched_pause _ (g.D.Decide.gives c.args.policy.now) g.W.Watch.notes (g.D.Decide.decides c.args.policy.now) c.args.watch.now c.loop.watch c.pauses.new.self
+            c.loop.link.totals h.0 h.1 h.7 (c.loop.link.held.items, h.4) c.pauses.ensures,
       );
     })
 
@@ -91,7 +93,9 @@ returns-in_err-take-clause-runs g c =
     let puts = puts_on _ no_frames c.loop.link.totals c.take.new.self.totals h.0 c.loop.link.held.items p c.take.new.self.held.items (Err c.in_err-take.field-0.0) h.1 fed.0 h.4 fed.1 in
     let given = rw (← c.deref.ensures.value) at c.in-Ok.ensures.given in
     let size : length c.deref.result.now ≡ 65536 = ap length c.deref.ensures.value ∙ c.in-Ok.ensures.room ∙ c.loop.invariant.room in
-    let most : length p ≤ 65536 = omega (arith, length-take c.in-Ok.count c.deref.result.now, size) in
+    let long = length-take c.in-Ok.count c.deref.result.now in
+    let most : length p ≤ 65536 = omega (arith, long, size) in
+    let counted : c.in-Ok.count ≡ length p = omega (arith, long, size, c.in-Ok.ensures.within, c.loop.invariant.room, c.in-Ok.ensures.room) in
     rw (e.1, e.2)
     (record {
       read = h.0 ++ p;
@@ -102,9 +106,10 @@ returns-in_err-take-clause-runs g c =
         leaves_closed _ (link_view c.take.new.self) (h.0 ++ p) c.take.new.self.held.items c.in_err-take.field-0.0 (joined h.1 fed.0) _ _ _
             (λ rest frames split long. let soon = found_soon h.0 c.loop.link.held.items p rest (frames_of h.4.outcomes) frames h.4.split h.5 split long in omega (arith, soon, most))
             puts c.in_err-take.ensures.left c.in_err-take.ensures.failed,
-        unless_closed c.in_err-take.field-0.0 _ _ _ c.in_err-take.ensures.failed
-            (unless_then (Err c.in_err-take.field-0.0) _ _ (λ more. noted_on _ (g.D.Decide.gives c.args.policy.now) g.W.Watch.notes c.args.watch.now c.loop.watch c.take.new.watch
-            h.1.reports fed.0.reports h.7 more) fed.3),
+        watched_closed (g.D.Decide.gives c.args.policy.now) g.W.Watch.notes (g.D.Decide.decides c.args.policy.now) c.args.watch.now c.reads.new.self c.take.new.watch
+            c.in_err-take.field-0.0 (h.0 ++ p) h.1 fed.0 _ _ c.in_err-take.ensures.failed
+            (watched_piece _ (g.D.Decide.gives c.args.policy.now) g.W.Watch.notes (g.D.Decide.decides c.args.policy.now) c.args.watch.now c.loop.watch c.pauses.new.self
+            c.reads.new.self c.loop.link.totals c.in-Ok.count h.0 p h.1 h.7 (c.loop.link.held.items, h.4) c.pauses.ensures counted c.reads.ensures) fed.3,
       );
     })
 
@@ -124,6 +129,7 @@ loop-preserved g c =
     let long = length-take c.in-Ok.count c.deref.result.now in
     let some : 0 < length p = omega (arith, long, size, c.in-Ok.ensures.within) in
     let most : length p ≤ 65536 = omega (arith, long, size) in
+    let counted : c.in-Ok.count ≡ length p = omega (arith, long, size, c.in-Ok.ensures.within, c.loop.invariant.room, c.in-Ok.ensures.room) in
     record {
       room = c.in-Ok.ensures.room ∙ c.loop.invariant.room;
       open_still = c.in_ok-take.ensures.open;
@@ -136,7 +142,10 @@ loop-preserved g c =
         x.0,
         x.1,
         one_more_piece c.loop.counter h.0 p h.6 some most,
-        noted_on _ (g.D.Decide.gives c.args.policy.now) g.W.Watch.notes c.args.watch.now c.loop.watch c.take.new.watch h.1.reports fed.0.reports h.7 fed.3,
+        watched_on _ (g.D.Decide.gives c.args.policy.now) g.W.Watch.notes (g.D.Decide.decides c.args.policy.now) c.args.watch.now c.reads.new.self c.take.new.watch
+            (h.0 ++ p) h.1 fed.0
+            (watched_piece _ (g.D.Decide.gives c.args.policy.now) g.W.Watch.notes (g.D.Decide.decides c.args.policy.now) c.args.watch.now c.loop.watch c.pauses.new.self
+            c.reads.new.self c.loop.link.totals c.in-Ok.count h.0 p h.1 h.7 (c.loop.link.held.items, h.4) c.pauses.ensures counted c.reads.ensures) fed.3,
       );
       lines = asks_trans _ _ _ c.loop.invariant.lines c.in_ok-take.ensures.lines;
     }
@@ -184,7 +193,8 @@ returns-in_default-clause-runs g c =
           counts h.4.outcomes c.loop.link.totals h.4.totals,
           refl,
         ),
-        h.7,
+        watched_pause _ (g.D.Decide.gives c.args.policy.now) g.W.Watch.notes (g.D.Decide.decides c.args.policy.now) c.args.watch.now c.loop.watch c.pauses.new.self
+            c.loop.link.totals h.0 h.1 h.7 (c.loop.link.held.items, h.4) c.pauses.ensures,
       );
     }
 

@@ -5,7 +5,7 @@ use Rattle.guard_frames.specs.Totals.{no_frames, WentUpBy}
 use Rattle.guard_frames.specs.Added.{Added, BothAppend}
 use Rattle.guard_frames.specs.Calls.{AsksLines}
 use Rattle.guard_frames.specs.Feeding.{Decides}
-use Rattle.guard_frames.specs.Reasons.{Noted}
+use Rattle.guard_frames.specs.Leaving.{Watched}
 use Rattle.guard_frames.specs.Runs.{CameInPieces}
 use Rattle.guard_frames.proofs.running.decide_link.Given as goal
 
@@ -19,6 +19,6 @@ invariant-loop g l = record {
       (g.R.Sink.taken l.initial.reports, g.R.Sink.taken l.reports) added
       × Decides (g.D.Decide.decides l.policy) no_frames read l.link.held.items l.link.totals added × IsUnfinished l.link.held.items
       × CameInPieces l.counter read
-      × Noted (g.D.Decide.gives l.policy) g.W.Watch.notes l.initial.watch added.reports l.watch;
+      × Watched (g.D.Decide.decides l.policy) (g.D.Decide.gives l.policy) g.W.Watch.notes l.initial.watch read added l.watch;
   lines : AsksLines (g.R.Sink.asked l.initial.reports) (g.R.Sink.asked l.reports);
 }

@@ -1,4 +1,5 @@
-use Rattle.std.proofs.Common.{ℕ, List, ap}
+use Rattle.std.proofs.Common.{ap}
+use Rattle.guard_frames.specs.Added.{Added}
 use Rattle.guard_frames.specs.LinkView.{link_view}
 use Rattle.guard_frames.specs.Reasons.{Noted}
 use Rattle.guard_frames.proofs.Noting.{noted_same}
@@ -11,8 +12,8 @@ returns g c =
     let old = c.args.seat.now in
     let w = c.feed in
     let h = w.ensures in
-    let so : List ℕ → Type 0 =
-    λ text. Noted (g.D.Decide.gives c.args.policy.now) g.W.Watch.notes c.args.watch.now text w.new.watch in
+    let so : Added → Type 0 =
+    λ added. Noted (g.D.Decide.gives c.args.policy.now) g.W.Watch.notes c.args.watch.now added w.new.watch in
     let f = fed_watched (g.D.Decide.decides c.args.policy.now) (link_view old.link) c.args.octets.now w.result (link_view w.new.self)
     (taken old.ends.out) (taken w.new.out) (taken old.ends.reports) (taken w.new.reports) so h.open
     (λ is. let e = h.shut is in (e.0, ap link_view e.1, ap taken e.2, ap taken e.3, noted_same _ (g.D.Decide.gives c.args.policy.now) g.W.Watch.notes c.args.watch.now w.new.watch e.4)) in

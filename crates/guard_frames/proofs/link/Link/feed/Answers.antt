@@ -11,7 +11,7 @@ returns-in_err-take-clause-open g c is =
       x.0,
       takes_closed _ _ _ (link_view c.take.new.self) c.in_err-take.field-0.0 x.0 x.1 c.in_err-take.ensures.closes c.in_err-take.ensures.left,
       x.2,
-      unlost c.in_err-take.field-0.0 _ x.3,
+      unlost c.in_err-take.field-0.0 _ x.0 x.3,
     )
 
 pub returns-in_err-take-clause-failed : goal.returns-in_err-take-clause-failed

@@ -3,6 +3,24 @@ use Rattle.std.proofs.Common.{◌≡◌, ◌∙◌, ◌++◌, ℕ, List, [], ap,
 use Rattle.guard_streams.specs.AtFault.{begun_line}
 use Rattle.guard_streams.specs.Turns.{renewed_line}
 
+-- two texts behind another
+pub two : (t x₁ x₂ a b : List ℕ) → x₁ ≡ t ++ a → x₂ ≡ x₁ ++ b → x₂ ≡ t ++ (a ++ b)
+two t x₁ x₂ a b e₁ e₂ = rw (e₂, e₁) (simp append_assoc)
+
+pub four : (t x₁ x₂ x₃ x₄ a b c d : List ℕ) → x₁ ≡ t ++ a → x₂ ≡ x₁ ++ b → x₃ ≡ x₂ ++ c → x₄ ≡ x₃ ++ d
+    → x₄ ≡ t ++ (a ++ b ++ c ++ d)
+four t x₁ x₂ x₃ x₄ a b c d e₁ e₂ e₃ e₄ = rw (e₄, e₃, e₂, e₁) (simp append_assoc)
+
+pub five : (t x₁ x₂ x₃ x₄ x₅ a b c d e : List ℕ) → x₁ ≡ t ++ a → x₂ ≡ x₁ ++ b → x₃ ≡ x₂ ++ c → x₄ ≡ x₃ ++ d
+    → x₅ ≡ x₄ ++ e → x₅ ≡ t ++ (a ++ b ++ c ++ d ++ e)
+five t x₁ x₂ x₃ x₄ x₅ a b c d e e₁ e₂ e₃ e₄ e₅ = rw (e₅, e₄, e₃, e₂, e₁) (simp append_assoc)
+
+pub nine : (t x₁ x₂ x₃ x₄ x₅ x₆ x₇ x₈ x₉ a b c d e f g h i : List ℕ) → x₁ ≡ t ++ a → x₂ ≡ x₁ ++ b → x₃ ≡ x₂ ++ c
+    → x₄ ≡ x₃ ++ d → x₅ ≡ x₄ ++ e → x₆ ≡ x₅ ++ f → x₇ ≡ x₆ ++ g → x₈ ≡ x₇ ++ h → x₉ ≡ x₈ ++ i
+    → x₉ ≡ t ++ (a ++ b ++ c ++ d ++ e ++ f ++ g ++ h ++ i)
+nine t x₁ x₂ x₃ x₄ x₅ x₆ x₇ x₈ x₉ a b c d e f g h i e₁ e₂ e₃ e₄ e₅ e₆ e₇ e₈ e₉ =
+    rw (e₉, e₈, e₇, e₆, e₅, e₄, e₃, e₂, e₁) (simp append_assoc)
+
 pub seven : (t x₁ x₂ x₃ x₄ x₅ x₆ x₇ a b c d e f g : List ℕ) → x₁ ≡ t ++ a → x₂ ≡ x₁ ++ b → x₃ ≡ x₂ ++ c
     → x₄ ≡ x₃ ++ d → x₅ ≡ x₄ ++ e → x₆ ≡ x₅ ++ f → x₇ ≡ x₆ ++ g
     → x₇ ≡ t ++ (a ++ b ++ c ++ d ++ e ++ f ++ g)

@@ -38,6 +38,10 @@ use Rattle.guard_streams.specs.Muxing.{WritesPart, BreaksErr}
 use Rattle.guard_streams.specs.Passing.{InRecords, marked, fault_line}
 use Rattle.guard_streams.specs.declared.counts.Counts.{Counts}
 use Rattle.guard_streams.specs.Counted.{AreCounted}
+use Rattle.guard_streams.specs.Counters.{AbstractCounted}
+use Rattle.guard_streams.specs.LinksCounted.{IsCounted, ended_counted, maybe_counted}
+use Rattle.guard_streams.specs.inside.Following.{AreFollowed, piece_counted}
+use Rattle.guard_streams.proofs.Followed.{is_counted}
 use Rattle.guard_streams.specs.Tallying.{IsSeen}
 use Rattle.guard_streams.specs.inside.Seeing.{counts_in, seen_after}
 use Rattle.guard_streams.specs.Turns.{AbstractMux, Written, PassesOn, link_status}
@@ -83,12 +87,6 @@ pub fed_there : (old new : AbstractGateway) (i : ℕ) (octets : List ℕ) (told 
 fed_there old new i octets told added few many (inl h) e = is_there old.links i few many h.none
 fed_there old new i octets told added few many (inr h) e = not_answered h.link_answer (sym h.answered ∙ e)
 
-pub ended_there : (old new : AbstractGateway) (i : ℕ) (told : Result (Unit {0}) StepFault) (added : Added) → i ≤ 15
-    → length old.links ≡ 16
-    → Step old (event.end i) told added new → told ≡ Err NoSuchLink → ⊥
-ended_there old new i told added few many (inl h) e = is_there old.links i few many h.none
-ended_there old new i told added few many (inr h) e = not_answered h.0.link_answer (sym h.0.answered ∙ e)
-
 -- ---- a piece is fed
 
 pub same_length : (g : Gateway Kept) → length (gateway_ends g) ≡ length (gateway_view g).links
@@ -100,15 +98,15 @@ same_answer (Ok done) (Err f) e = absurd cc
 same_answer (Err f) (Ok done) e = absurd cc
 same_answer (Err f) (Err k) e = cc
 
--- What holds of what was reported, unless a sink of the link has failed, holds of what the piece added.
+-- What holds of what was added, unless a sink of the link has failed, holds of what the piece added.
 pub fed_of : (old new : Gateway Kept) (link : ℕ) (octets : List ℕ) (told : Result (Unit {0}) StepFault)
     (answer : Result (Unit {0}) LinkFault) (added : Added)
     → All AreEmpty (gateway_ends old) → length (gateway_ends old) ≡ 16 → link ≤ 15 → told ≡ step_answer answer
     → Step (gateway_view old) (event.piece link octets) told added (gateway_view new)
     → Took (λ (s : Kept). Some (kept_octets s)) kept_failed (gateway_ends old) (event.piece link octets) told added
     (gateway_ends new)
-    → (So : List ℕ → Type 0) → ((told ≡ Err (of_link link_fault.WriteFailed) → ⊥) → So added.reports)
-    → (x : IsFed link old octets answer new) × ((answer ≡ Err link_fault.WriteFailed → ⊥) → So x.added.reports)
+    → (So : Added → Type 0) → ((told ≡ Err (of_link link_fault.WriteFailed) → ⊥) → So added)
+    → (x : IsFed link old octets answer new) × ((answer ≡ Err link_fault.WriteFailed → ⊥) → So x.added)
 fed_of old new link octets told answer added empty many few is step (inl t) So so =
     let was = all_at AreEmpty (gateway_ends old) link t.old_ends empty t.there in (
       record {
@@ -191,7 +189,9 @@ module _ (path : List ℕ) (told : Told) (old : Links) (link : ℕ) (octets : Li
     (fed : IsFed link old.gateway octets answer g) (note : List ℕ)
     (noted : IsFaultNote old.seen (gateway_view old.gateway) link (event.piece link octets) answer note)
     (counts : Counts) (counted : (answer ≡ Err link_fault.WriteFailed → ⊥)
-    → AreCounted (gateway_view old.gateway).policy (counts_in old.seen) fed.added.reports counts) where
+    → AreCounted (gateway_view old.gateway).policy (counts_in old.seen) fed.added.reports counts)
+    (tallied : Option AbstractCounted) (followed : (answer ≡ Err link_fault.WriteFailed → ⊥)
+    → AreFollowed (gateway_view old.gateway).policy (maybe_counted old.followed.counted) fed.added tallied) where
   abbrev pub answered : List ℕ
   answered = fault_line link answer ++ note
 
@@ -226,13 +226,24 @@ module _ (path : List ℕ) (told : Told) (old : Links) (link : ℕ) (octets : Li
       → IsSeen (gateway_view old.gateway).policy old.seen answer fed.added now.links (seen_by now)
   is_seen now = seen_is (gateway_view old.gateway).policy old.seen answer fed.added now.links counts counted
 
+  -- and what is counted
+  abbrev pub counted_by : AbstractGateway → Option AbstractCounted
+  counted_by now = piece_counted tallied answer (length octets) now.links
+
+  count_is : (now : AbstractGateway) → (answer ≡ Err link_fault.WriteFailed → ⊥)
+      → IsCounted (gateway_view old.gateway).policy (maybe_counted old.followed.counted) answer octets fed.added now.links
+      (counted_by now)
+  count_is now well = is_counted (gateway_view old.gateway).policy (maybe_counted old.followed.counted) tallied answer octets
+      fed.added now.links (followed well)
+
   pub piece_taken : (new : Links) (out : Octets) (e e₁ e₂ : Option (List ℕ)) → IsReady old.gateway
       → (p : ArePassed link fed.ends g new.gateway out (e, e₁))
       → Appends e₁ e₂ answered → new.status ≡ max old.status (link_status fed.added.reports answer)
       → new.seen ≡ seen_by (gateway_view new.gateway)
+      → maybe_counted new.followed.counted ≡ counted_by (gateway_view new.gateway)
       → IsTaken path told old (piece link octets) told new out (e, e₂)
   unfolding passes
-  piece_taken new out e e₁ e₂ ready p said status seen =
+  piece_taken new out e e₁ e₂ ready p said status seen counts_is =
       let after : gateway_ends new.gateway ≡ slice_set (slice_set (gateway_ends old.gateway) link fed.ends) link
       p.emptied =
       p.others ∙ ap (λ (es : List (Ends Kept)). slice_set es link p.emptied) fed.others in
@@ -243,6 +254,9 @@ module _ (path : List ℕ) (told : Told) (old : Links) (link : ℕ) (octets : Li
           refl,
           subst (λ (x : Option Seen). IsSeen (gateway_view old.gateway).policy old.seen answer fed.added
               (gateway_view new.gateway).links x) (sym seen) (is_seen (gateway_view new.gateway)),
+          λ well. subst (λ (x : Option AbstractCounted). IsCounted (gateway_view old.gateway).policy
+              (maybe_counted old.followed.counted) answer octets fed.added (gateway_view new.gateway).links x)
+              (sym counts_is) (count_is (gateway_view new.gateway) well),
         );
         sent = p.sent;
         told = Appends_trans e e₁ e₂ (marked link fed.added.reports) answered
@@ -263,8 +277,8 @@ module _ (path : List ℕ) (told : Told) (old : Links) (link : ℕ) (octets : Li
   piece_cut_passing ReadFailed o o₁ e e₁ f k h = h
   piece_cut_passing WriteFailed o o₁ e e₁ f k h = record {
     w = written_of h.written;
-    new = record { told = told; gateway = gateway_view g; seen = seen_by (gateway_view g) };
-    happens = (passes h.written g h.records refl, refl, is_seen (gateway_view g));
+    new = record { told = told; gateway = gateway_view g; seen = seen_by (gateway_view g); counted = counted_by (gateway_view g) };
+    happens = (passes h.written g h.records refl, refl, is_seen (gateway_view g), count_is (gateway_view g));
     out_part = h.part;
     err_part = [];
     breaks = (h.failed, h.prefix, refl);
@@ -273,8 +287,8 @@ module _ (path : List ℕ) (told : Told) (old : Links) (link : ℕ) (octets : Li
   }
   piece_cut_passing ErrorFailed o o₁ e e₁ f k h = record {
     w = written_of h.written;
-    new = record { told = told; gateway = gateway_view g; seen = seen_by (gateway_view g) };
-    happens = (passes h.written g h.records refl, refl, is_seen (gateway_view g));
+    new = record { told = told; gateway = gateway_view g; seen = seen_by (gateway_view g); counted = counted_by (gateway_view g) };
+    happens = (passes h.written g h.records refl, refl, is_seen (gateway_view g), count_is (gateway_view g));
     out_part = h.written;
     err_part = h.part;
     breaks = (
@@ -297,8 +311,8 @@ module _ (path : List ℕ) (told : Told) (old : Links) (link : ℕ) (octets : Li
       let cut : WritesPart path (mux_of told old) (piece link octets) [] (device o o₁ f) (device e e₂ k) BreaksErr =
       record {
         w = written_of p.written;
-        new = record { told = told; gateway = gateway_view new; seen = seen_by (gateway_view new) };
-        happens = (passes p.written new p.records p.view, refl, is_seen (gateway_view new));
+        new = record { told = told; gateway = gateway_view new; seen = seen_by (gateway_view new); counted = counted_by (gateway_view new) };
+        happens = (passes p.written new p.records p.view, refl, is_seen (gateway_view new), count_is (gateway_view new));
         out_part = p.written;
         err_part = marked link fed.added.reports ++ h.2.0;
         breaks = (h.1, refl, Prefix_second h.2.0 (marked link fed.added.reports) answered h.2.1);
@@ -360,10 +374,12 @@ module _ (old : Links) (link : ℕ) (answer : Result (Unit {0}) LinkFault) (g : 
   pub end_taken : (path : List ℕ) (told : Told) (new : Links) (o e e₁ : Option (List ℕ)) → new.gateway ≡ g
       → IsReady g → Appends e e₁ (fault_line link answer ++ note)
       → new.status ≡ max old.status (link_status [] answer) → new.seen ≡ old.seen
+      → maybe_counted new.followed.counted ≡ ended_counted (maybe_counted old.followed.counted) answer
       → IsTaken path told old (end link) told new (o, o) (e, e₁)
-  end_taken path told new o e e₁ same ready said status seen = record {
+  unfolding end_passes
+  end_taken path told new o e e₁ same ready said status seen counted = record {
     w = ended_written;
-    happens = (end_passes new.gateway same, refl, seen);
+    happens = (end_passes new.gateway same, refl, seen, counted);
     sent = Appends_none o;
     told = said;
     status = status;
@@ -373,10 +389,11 @@ module _ (old : Links) (link : ℕ) (answer : Result (Unit {0}) LinkFault) (g : 
   pub end_cut : (path : List ℕ) (told : Told) (o e e₁ : Option (List ℕ)) (f k : Bool) → k ≡ true → (part : List ℕ)
       → IsProperPrefix part (fault_line link answer ++ note)
       → Appends e e₁ part → WritesPart path (mux_of told old) (end link) [] (device o o f) (device e e₁ k) BreaksErr
+  unfolding end_passes
   end_cut path told o e e₁ f k failed part prefix said = record {
     w = ended_written;
-    new = record { told = told; gateway = gateway_view g; seen = old.seen };
-    happens = (end_passes g refl, refl, refl);
+    new = record { told = told; gateway = gateway_view g; seen = old.seen; counted = ended_counted (maybe_counted old.followed.counted) answer };
+    happens = (end_passes g refl, refl, refl, refl);
     out_part = [];
     err_part = part;
     breaks = (failed, refl, prefix);
@@ -400,7 +417,7 @@ module _ (old : Links) (link : ℕ) (answer : Result (Unit {0}) LinkFault) (g : 
   ]
 
   pub had_ended : is_closed answer ≡ true → (e : Option (List ℕ)) → IsReady g
-      → HadEnded link old (record { gateway = g; status = old.status; seen = old.seen }) (e, e)
+      → HadEnded link old (record { gateway = g; status = old.status; seen = old.seen; followed = old.followed }) (e, e)
   had_ended is e ready = elim step [
     | inl h ↦ absurd (not_answered answer h.answered)
     | inr h ↦
@@ -415,6 +432,7 @@ module _ (old : Links) (link : ℕ) (answer : Result (Unit {0}) LinkFault) (g : 
           told = refl;
           status = refl;
           seen = refl;
+          counted = refl;
           ready = ready;
         }
   ]

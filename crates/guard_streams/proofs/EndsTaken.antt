@@ -64,7 +64,7 @@ closed_more path told old now new e e₁ e₂ link h so_far = record {
   before = so_far.before;
   closed = so_far.closed;
   in_turn = subst (λ (m : AbstractMux). InTurn path (mux_of told old) so_far.before so_far.closed m)
-      (sym (λ i. record { told = told; gateway = h.same i; seen = h.seen i })) so_far.in_turn;
+      (sym (λ i. record { told = told; gateway = h.same i; seen = h.seen i; counted = h.counted i })) so_far.in_turn;
   left = so_far.left ∙ ap (λ (rs : List Record). so_far.before ++ rs) (left_closed now link h.before
       ∙ ap (λ x. ends_left (suc link) (drop (suc link) x.links)) (sym h.same))
       ∙ ap (λ (n : ℕ). so_far.before ++ ends_left n (drop n (gateway_view new.gateway).links)) (sym (add-one link));

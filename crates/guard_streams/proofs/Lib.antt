@@ -3,6 +3,12 @@ pub mod Chains
 pub mod SaidLaws
 pub mod PassingLaws
 pub mod FramesAnswered
+pub mod Told
+pub mod Followed
+pub mod Tallied
+pub mod Showing
+pub mod Rules
+pub mod Opening
 pub mod TallyLaws
 pub mod Watched
 pub mod Turning
@@ -11,3 +17,4 @@ pub mod Renewing
 pub mod Noting
 pub mod EndsTaken
 pub mod Taking
+pub mod Between

@@ -147,8 +147,3 @@ passed_note seen counts g new passed link octets answer added step same =
     ap (λ (x : AbstractGateway). noted_link seen x link) (sym same) ∙ same_link seen answer passed.links counts passed link in
     subst (λ (x : Option AbstractLink). IsFaultNote seen g link (event.piece link octets) answer (fault_note x link answer)) is
     (piece_note seen g new link octets answer added step)
-
--- nothing is noted of an answer that isn't a fault
-pub no_note : (l : Option AbstractLink) (link : ℕ) → fault_note l link (Ok tt) ≡ []
-no_note None link = refl
-no_note (Some l) link = refl

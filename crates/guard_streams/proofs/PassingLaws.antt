@@ -1,13 +1,12 @@
 -- What goes out of a link and is said of it, part by part.
-use Rattle.std.proofs.Common.{◌≡◌, ◌∙◌, ◌<◌, ◌≤◌, ◌⊎◌, inl, inr, ℕ, zero, suc, Bool, true, false, List, [], ◌∷◌, ◌++◌, ap, refl, sym, subst, length, take, drop, map, nat_eq, nat_lt, arith, append_assoc, length-drop, codes, decimal}
+use Rattle.std.proofs.Common.{◌≡◌, ◌∙◌, ◌<◌, ◌≤◌, ◌⊎◌, inl, inr, ℕ, zero, suc, Bool, true, false, List, [], ◌∷◌, ◌++◌, ap, refl, sym, subst, length, take, drop, map, nat_eq, nat_lt, arith, append_assoc, length-drop}
 use Rattle.std.specs.List.{concat}
 use Rattle.std.proofs.lemmas.List.{append-nil, take-append-drop, length-take-le}
 use Rattle.guard_frames.specs.Prefix.{IsProperPrefix}
 use Rattle.guard_frames.proofs.Appending.{Prefix_first, Prefix_second}
 use Rattle.guard_files.specs.Records.{record_octets}
 use Rattle.guard_files.specs.Records.Record.{piece}
-use Rattle.guard_frames.specs.Calls.{EndsLine}
-use Rattle.guard_streams.specs.Passing.{AreFull, InRecords, lines_of, link_mark, marked, marked_line}
+use Rattle.guard_streams.specs.Passing.{AreFull, InRecords, lines_of, marked, marked_line}
 
 -- ---- lines
 
@@ -15,14 +14,6 @@ use Rattle.guard_streams.specs.Passing.{AreFull, InRecords, lines_of, link_mark,
 pub marked_first : (link : ℕ) (text line others : List ℕ) → lines_of text ≡ line ∷ lines_of others
     → marked link text ≡ marked_line link line ++ marked link others
 marked_first link text line others e = ap (λ ls. concat (map (marked_line link) ls)) e
-
--- a marked line, part by part
-pub marked_whole : (link : ℕ) (line n w₀ w₁ w₂ w₃ w₄ w₅ : List ℕ) → w₀ ≡ [] → w₁ ≡ w₀ ++ codes "link " → n ≡ decimal link → w₂ ≡ w₁ ++ n
-    → w₃ ≡ w₂ ++ codes " " → w₄ ≡ w₃ ++ line → w₅ ≡ w₄ ++ codes "\n" → w₅ ≡ marked_line link line
-marked_whole link line n w₀ w₁ w₂ w₃ w₄ w₅ e₀ e₁ e e₂ e₃ e₄ e₅ = rw (e₅, e₄, e₃, e₂, e, e₁, e₀) (simp append_assoc)
-
-pub marked_ends : (link : ℕ) (line : List ℕ) → EndsLine (marked_line link line)
-marked_ends link line = record { front = link_mark link ++ line; ends = sym (append_assoc (link_mark link) line (codes "\n")) }
 
 -- ---- lines that are out, and those that come
 

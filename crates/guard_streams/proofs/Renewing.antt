@@ -22,6 +22,7 @@ use Rattle.guard_files.specs.Writing.{IsFaultLine}
 use Rattle.guard_files.specs.Records.Record.{reload}
 use Rattle.guard_streams.specs.declared.links.Links.{Links}
 use Rattle.guard_streams.specs.declared.seen.Seen.{Seen}
+use Rattle.guard_streams.specs.LinksCounted.{maybe_counted, renewed_counted}
 use Rattle.guard_streams.specs.Saying.{IsUnreadNote}
 use Rattle.guard_streams.specs.Muxing.{WritesPart, BreaksErr}
 use Rattle.guard_streams.specs.Turns.{Written, renewed_note, renewed_seen}
@@ -40,7 +41,12 @@ pub renewed_cut : (path : List ℕ) (told later : Told) (old : Links) (g : Gatew
     → WritesPart path (mux_of told old) reload [] (device o o b) (device e e₁ k) BreaksErr
 renewed_cut path told later old g p digest answer added part o e e₁ b k read later_is step failed prefix said = record {
   w = renewed_written old p digest;
-  new = record { told = later; gateway = gateway_view g; seen = renewed_seen old.seen digest };
+  new = record {
+    told = later;
+    gateway = gateway_view g;
+    seen = renewed_seen old.seen digest;
+    counted = renewed_counted (maybe_counted old.followed.counted) p digest;
+  };
   happens = (
     inl (record {
       policy = p;
@@ -49,6 +55,7 @@ renewed_cut path told later old g p digest answer added part o e e₁ b k read l
       step = record { answered = refl; same = step.same; adds = refl };
       seen = refl;
       noted = refl;
+      counted = refl;
     }),
     later_is,
   );
@@ -65,9 +72,10 @@ pub renewed : (path : List ℕ) (told later : Told) (old new : Links) (p : Abstr
     → Step (gateway_view old.gateway) (event.reload p) answer added (gateway_view new.gateway)
     → gateway_ends new.gateway ≡ gateway_ends old.gateway → new.status ≡ old.status
     → new.seen ≡ renewed_seen old.seen digest
+    → maybe_counted new.followed.counted ≡ renewed_counted (maybe_counted old.followed.counted) p digest
     → Appends e e₁ (renewed_note old.seen (length p.messages) (length p.rules) digest)
     → IsTaken path told old reload later new (o, o) (e, e₁)
-renewed path told later old new p digest answer added o e e₁ ready read later_is step ends status seen said = record {
+renewed path told later old new p digest answer added o e e₁ ready read later_is step ends status seen counted said = record {
   w = renewed_written old p digest;
   happens = (
     inl (record {
@@ -77,6 +85,7 @@ renewed path told later old new p digest answer added o e e₁ ready read later_
       step = record { answered = refl; same = step.same; adds = refl };
       seen = seen;
       noted = refl;
+      counted = counted;
     }),
     later_is,
   );
@@ -97,8 +106,9 @@ pub kept_old : (path : List ℕ) (told later : Told) (old new : Links) (f : Faul
     → IsReady old.gateway → IsNoPolicyAt told path f → IsLater told later → IsFaultLine f line status
     → IsUnreadNote old.seen f note → Appends e e₁ line → Appends e₁ e₂ note
     → new.gateway ≡ old.gateway → new.status ≡ max old.status status → new.seen ≡ old.seen
+    → maybe_counted new.followed.counted ≡ maybe_counted old.followed.counted
     → IsTaken path told old reload later new (o, o) (e, e₂)
-kept_old path told later old new f line note status o e e₁ e₂ ready none later_is is noted said more same greatest seen = record {
+kept_old path told later old new f line note status o e e₁ e₂ ready none later_is is noted said more same greatest seen counted = record {
   w = kept_written (line ++ note) status;
   happens = (
     inr (record {
@@ -112,6 +122,7 @@ kept_old path told later old new f line note status o e e₁ e₂ ready none lat
       note = note;
       noted = noted;
       err = refl;
+      counted = counted;
     }),
     later_is,
   );
@@ -128,7 +139,12 @@ pub kept_cut : (path : List ℕ) (told later : Told) (old : Links) (f : Fault) (
     → WritesPart path (mux_of told old) reload [] (device o o b) (device e e₁ k) BreaksErr
 kept_cut path told later old f line note part status o e e₁ b k none later_is is noted failed prefix said = record {
   w = kept_written (line ++ note) status;
-  new = record { told = later; gateway = gateway_view old.gateway; seen = old.seen };
+  new = record {
+    told = later;
+    gateway = gateway_view old.gateway;
+    seen = old.seen;
+    counted = maybe_counted old.followed.counted;
+  };
   happens = (
     inr (record {
       fault = f;
@@ -141,6 +157,7 @@ kept_cut path told later old f line note part status o e e₁ b k none later_is 
       note = note;
       noted = noted;
       err = refl;
+      counted = refl;
     }),
     later_is,
   );

@@ -1,12 +1,11 @@
 -- What comes of a stream under texts, said of the path at which they are.
-use Rattle.std.proofs.Common.{◌≡◌, ◌⊎◌, ℕ, Bool, true, false, List, Option, Result, Ok, Err, inl, inr, refl, subst}
+use Rattle.std.proofs.Common.{◌≡◌, ℕ, Bool, false, List, Option, Result, Ok, Err, inl, inr, refl, subst}
 use Rattle.guard_frames.specs.declared.totals.Totals.{Totals}
 use Rattle.guard_frames.specs.declared.texts.TextsFault.{TextsFault}
 use Rattle.guard_frames.specs.declared.texts.TextsFault.TheVariants as texts
 use Rattle.std.specs.Io.KnownBytes.{IsAtEnd}
 use Rattle.guard_frames.specs.Added.{Moves}
 use Rattle.guard_frames.specs.RunsTexts.{RunsTexts, IsNoRun}
-use Rattle.guard_frames.specs.Runs.{ReadToLimit}
 use Rattle.guard_frames.specs.declared.running.RunFault.TheVariants.{FrameTooLong, WriteFailed, TornFrame, ReadFailed, OutOfMemory}
 use Rattle.guard_files.specs.declared.fault.Fault.{Fault}
 use Rattle.guard_files.specs.declared.fault.Fault.TheVariants.{BadHex, CannotRead, TooLarge, Schema, Policy, Run, NoMemory}
@@ -73,30 +72,6 @@ module _ (told : Told) (path : List ℕ) (input : Input) (out reports : Device) 
   unguarded (Schema f) h i o r = (h, i, o, r)
   unguarded (Policy f) h i o r = (h, i, o, r)
   unguarded NoMemory h i o r = (h, i, o, r)
-
-  -- and no device is to blame
-  pub no_device : (f : Fault) → IsNoPolicyAt told path f → IsDeviceFault f input out reports
-  no_device (Run f) (inl h) = absurd h
-  no_device (Run f) (inr (inl (text, modules, are, h))) = absurd h
-  no_device (Run f) (inr (inr e)) = absurd cc
-  no_device BadHex h = tt
-  no_device (CannotRead file obstacle) h = tt
-  no_device (TooLarge file) h = tt
-  no_device (Schema f) h = tt
-  no_device (Policy f) h = tt
-  no_device NoMemory h = tt
-
--- a fault of a device comes only where one failed
-pub device_fault : (input : Input) (out reports : Device) (f : TextsFault) → (f ≡ texts.Run WriteFailed → (out.failed ≡ true) ⊎ (reports.failed ≡ true))
-    → (f ≡ texts.Run ReadFailed → (input.failed ≡ true) ⊎ ReadToLimit input.asked_before input.asked_after input.before input.after) → IsDeviceFault (of_texts f) input out reports
-device_fault input out reports (texts.Run WriteFailed) wrote read = wrote refl
-device_fault input out reports (texts.Run ReadFailed) wrote read = read refl
-device_fault input out reports (texts.Run FrameTooLong) wrote read = tt
-device_fault input out reports (texts.Run TornFrame) wrote read = tt
-device_fault input out reports (texts.Run OutOfMemory) wrote read = tt
-device_fault input out reports (texts.Schema f) wrote read = tt
-device_fault input out reports (texts.Policy f) wrote read = tt
-device_fault input out reports texts.OutOfMemory wrote read = tt
 
 -- ---- standard error goes on after the reports
 

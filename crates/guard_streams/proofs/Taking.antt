@@ -18,8 +18,10 @@ use Rattle.guard_files.proofs.RecordReading.{joined_last}
 use Rattle.guard_streams.specs.declared.links.Links.{Links}
 use Rattle.guard_streams.specs.declared.seen.Seen.{Seen}
 use Rattle.guard_streams.specs.Muxing.{Takes, Finishes, StopsAt, Stops, BreaksAtRecord, WritesPart, BreaksOut, BreaksErr, TellsStopWith, seen_before}
+use Rattle.guard_streams.specs.Counters.{AbstractCounted}
+use Rattle.guard_streams.specs.LinksCounted.{maybe_counted}
 use Rattle.guard_streams.specs.Turns.{AbstractMux, Written, InTurn, all_out, all_err, status_of}
-use Rattle.guard_streams.specs.inside.Doing.{IsReady, mux_of, IsTaken, IsCut, AreEnded, IsEndCut, IsSeenBefore}
+use Rattle.guard_streams.specs.inside.Doing.{IsReady, mux_of, IsTaken, IsCut, AreEnded, IsEndCut, IsSeenBefore, IsCountedBefore}
 use Rattle.guard_streams.proofs.Turning.{one_more, all_out-append, all_err-append, sent_more, told_more, status_of-append, status_of-more, after}
 
 -- These records were read and taken, and all that is written of them is out.
@@ -130,32 +132,33 @@ module _ (path : List ℕ) (first : AbstractMux) (a b : Option (List ℕ)) (o o�
         (after path (mux_of told links) r so_far.written [] o o₁ o₂ e e₁ e₂ f k Breaks moved so_far.sent so_far.said h);
   }
 
-  -- why they stop, and what is seen then
+  -- why they stop, and what is seen and counted then
   abbrev StopsSeen : Stop → Option (List ℕ) → Option (List ℕ) → Option (List ℕ) → ℕ → ℕ → Bool → Bool → Bool
-      → Option Seen → Type 0
-  StopsSeen s c o₂ e₂ m n failed f k seen =
+      → Option Seen → Option AbstractCounted → Type 0
+  StopsSeen s c o₂ e₂ m n failed f k seen counted =
       (h : Stops s path first (input_of a c m n failed) (device o o₂ f) (device e e₂ k))
       × IsSeenBefore s path first (input_of a c m n failed) (device o o₂ f) (device e e₂ k) h seen
+      × IsCountedBefore s path first (input_of a c m n failed) (device o o₂ f) (device e e₂ k) h counted
 
   -- an output fails in what is written of a record
   pub cut_at : (s : Stop) (c o₂ e₂ : Option (List ℕ)) (m n : ℕ) (failed f k : Bool) (r : Record) → IsAllowed r
       → Consumes b c (record_octets r)
       → IsCut s path (mux_of told links) r (device o₁ o₂ f) (device e₁ e₂ k)
-      → (seen : Option Seen) → (s ≡ WriteFailed → seen ≡ links.seen)
-      → StopsSeen s c o₂ e₂ m n failed f k seen
-  cut_at BadRecord c o₂ e₂ m n failed f k r ok read h seen kept = absurd h
-  cut_at ReadFailed c o₂ e₂ m n failed f k r ok read h seen kept = absurd h
-  cut_at WriteFailed c o₂ e₂ m n failed f k r ok read h seen kept =
-      (breaks_at c o₂ e₂ m n failed f k r BreaksOut (λ w s t b. b) ok read h, sym (kept refl))
-  cut_at ErrorFailed c o₂ e₂ m n failed f k r ok read h seen kept =
-      (inl (breaks_at c o₂ e₂ m n failed f k r BreaksErr (λ w s t b. b) ok read h), tt)
+      → (seen : Option Seen) (counted : Option AbstractCounted) → (s ≡ WriteFailed → seen ≡ links.seen)
+      → StopsSeen s c o₂ e₂ m n failed f k seen counted
+  cut_at BadRecord c o₂ e₂ m n failed f k r ok read h seen counted kept = absurd h
+  cut_at ReadFailed c o₂ e₂ m n failed f k r ok read h seen counted kept = absurd h
+  cut_at WriteFailed c o₂ e₂ m n failed f k r ok read h seen counted kept =
+      (breaks_at c o₂ e₂ m n failed f k r BreaksOut (λ w s t b. b) ok read h, sym (kept refl), tt)
+  cut_at ErrorFailed c o₂ e₂ m n failed f k r ok read h seen counted kept =
+      (inl (breaks_at c o₂ e₂ m n failed f k r BreaksErr (λ w s t b. b) ok read h), tt, tt)
 
   -- or of the end of a link
   pub cut_at_end : (s : Stop) (c e₂ : Option (List ℕ)) (m n : ℕ) (failed f k : Bool) → s ≡ ErrorFailed
       → Consumes b c [] → IsAtEnd c
       → IsEndCut path told links (device o₁ o₁ f) (device e₁ e₂ k)
-      → (seen : Option Seen) → StopsSeen s c o₁ e₂ m n failed f k seen
-  cut_at_end s c e₂ m n failed f k is read at_end h seen =
+      → (seen : Option Seen) (counted : Option AbstractCounted) → StopsSeen s c o₁ e₂ m n failed f k seen counted
+  cut_at_end s c e₂ m n failed f k is read at_end h seen counted =
       let cut : Stops ErrorFailed path first (input_of a c m n failed) (device o o₁ f) (device e e₂ k) = inr (record {
         all = takes c m n failed [] read;
         at_end = at_end;
@@ -169,16 +172,17 @@ module _ (path : List ℕ) (first : AbstractMux) (a b : Option (List ℕ)) (o o�
         part = after path h.last h.next so_far.written h.closed o o₁ o₁ e e₁ e₂ f k BreaksErr
             (λ w s t b. b) so_far.sent so_far.said h.part;
       }) in
-      subst (λ (x : Stop). StopsSeen x c o₁ e₂ m n failed f k seen) (sym is) (cut, tt)
+      subst (λ (x : Stop). StopsSeen x c o₁ e₂ m n failed f k seen counted) (sym is) (cut, tt, tt)
 
   -- no more can be read
   pub none_read : (s : Stop) (c : Option (List ℕ)) (m n reads : ℕ) (failed f k : Bool) (rest : List ℕ)
       → Consumes b c rest → IsNone s rest (IsAtEnd c) failed reads
       → (reads ≡ 0 → WentUpBy m (2 ^ 40) n) → StopsSeen s c o₁ e₁ m n failed f k links.seen
+      (maybe_counted links.followed.counted)
   none_read BadRecord c m n reads failed f k rest read why asked =
-      (stops_at c m n failed f k rest _ read why, refl)
+      (stops_at c m n failed f k rest _ read why, refl, refl)
   none_read ReadFailed c m n reads failed f k rest read why asked =
-      (stops_at c m n failed f k rest _ read (why.0, elim why.1 [ inl x ↦ inl x | inr x ↦ inr (asked x) ]), refl)
+      (stops_at c m n failed f k rest _ read (why.0, elim why.1 [ inl x ↦ inl x | inr x ↦ inr (asked x) ]), refl, refl)
   none_read WriteFailed c m n reads failed f k rest read why asked = absurd why
   none_read ErrorFailed c m n reads failed f k rest read why asked = absurd why
 
@@ -233,6 +237,17 @@ seen_told BadRecord path first input out e e₁ was is same h seen x = x
 seen_told ReadFailed path first input out e e₁ was is same h seen x = x
 seen_told WriteFailed path first input out e e₁ was is same h seen x = x
 seen_told ErrorFailed path first input out e e₁ was is same h seen x = tt
+
+-- nor of what is counted
+pub counted_told : (s : Stop) (path : List ℕ) (first : AbstractMux) (input : Input) (out : Device)
+    (e e₁ : Option (List ℕ)) (was is : Bool) (same : s ≡ ErrorFailed → is ≡ was)
+    (h : Stops s path first input out (device e e₁ was)) (counted : Option AbstractCounted)
+    → IsCountedBefore s path first input out (device e e₁ was) h counted
+    → IsCountedBefore s path first input out (device e e₁ is) (stops_told s path first input out e e₁ was is same h) counted
+counted_told BadRecord path first input out e e₁ was is same h counted x = x
+counted_told ReadFailed path first input out e e₁ was is same h counted x = x
+counted_told WriteFailed path first input out e e₁ was is same h counted x = tt
+counted_told ErrorFailed path first input out e e₁ was is same h counted x = tt
 
 -- what is said of it
 pub tells_seen_before : (s : Stop) (path : List ℕ) (first : AbstractMux) (input : Input) (out err : Device)

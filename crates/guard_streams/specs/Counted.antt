@@ -1,12 +1,13 @@
 -- How often each reason is reported.
-use Rattle.std.specs.Prelude.{◌≡◌, List, ℕ}
+use Rattle.std.specs.Prelude.{◌≡◌, ℕ, List, [], ◌∷◌, ◌++◌}
 use Rattle.guard_policy.specs.Policies.{AbstractPolicy}
 use Rattle.guard_frames.specs.declared.why.Reason.{Reason}
 use Rattle.guard_frames.specs.declared.why.Reason.TheVariants.{UnknownMessage, Undecodable, OutsideType, DeniedBy, NotAllowed, NoRule}
 use Rattle.guard_frames.specs.declared.why.Why.{Why}
 use Rattle.guard_frames.specs.declared.why.Why.TheVariants.{BadHeader, NoMemory, Decided}
 use Rattle.guard_frames.specs.OfPolicy.{gives_of}
-use Rattle.guard_frames.specs.Reasons.{Noted}
+use Rattle.guard_frames.specs.Reasons.{Says, Told}
+use Rattle.guard_frames.specs.Reasons.Told.{pauses, reads, goes, stays}
 use Rattle.guard_frames.specs.Totals.{later}
 use Rattle.guard_streams.specs.declared.counts.Counts.{Counts}
 
@@ -27,7 +28,7 @@ abbrev pub count_reason : Counts → Reason → Counts
 count_reason c UnknownMessage = record c { unknown_message = later c.unknown_message 1 }
 count_reason c Undecodable = record c { undecodable = later c.undecodable 1 }
 count_reason c OutsideType = record c { outside_type = later c.outside_type 1 }
-count_reason c DeniedBy = record c { denied_by = later c.denied_by 1 }
+count_reason c (DeniedBy rule) = record c { denied_by = later c.denied_by 1 }
 count_reason c NotAllowed = record c { not_allowed = later c.not_allowed 1 }
 count_reason c NoRule = record c { no_rule = later c.no_rule 1 }
 
@@ -37,6 +38,24 @@ count_one c BadHeader = record c { bad_header = later c.bad_header 1 }
 count_one c NoMemory = record c { no_memory = later c.no_memory 1 }
 count_one c (Decided reason) = count_reason c reason
 
+-- what a watch that counts is told changes
+abbrev pub count_told : Counts → Told → Counts
+count_told c (pauses t) = c
+count_told c (reads n) = c
+count_told c (goes n) = c
+count_told c (stays why) = count_one c why
+
+-- and one for each of these, the last first
+abbrev pub count_all : Counts → List Why → Counts
+count_all c [] = c
+count_all c (why ∷ before) = count_one (count_all c before) why
+
+-- The text is lines of a report under this policy, which say this, the last first.
+abbrev pub AreSaid : AbstractPolicy → List Why → List ℕ → Type 0
+AreSaid p [] text = text ≡ []
+AreSaid p (why ∷ before) text =
+    (first : List ℕ) × (line : List ℕ) × (text ≡ first ++ line) × Says (gives_of p) why line × AreSaid p before first
+
 -- The text is lines of a report under this policy, and of each one its reason was counted.
 abbrev pub AreCounted : AbstractPolicy → Counts → List ℕ → Counts → Type 0
-AreCounted p old text new = Noted (gives_of p) (λ c why d. d ≡ count_one c why) old text new
+AreCounted p old text new = (whys : List Why) × AreSaid p whys text × (new ≡ count_all old whys)

@@ -15,5 +15,12 @@ pub mod OwnRecords
 pub mod Saying
 pub mod Verbose
 pub mod Watching
+-- ---- a stream that is guarded with counters
+pub mod Faults
+pub mod Counters
+pub mod LinksCounted
+pub mod Shown
+pub mod Counting
+pub mod CountingLinks
 -- ---- what only private contracts and proofs cite
 pub mod inside

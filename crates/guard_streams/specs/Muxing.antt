@@ -16,6 +16,7 @@ use Rattle.guard_files.specs.Files.{Told, IsLater}
 use Rattle.guard_files.specs.Reading.{IsPolicyAt, IsNoPolicyAt}
 use Rattle.guard_files.specs.Records.{Record, record_octets, IsAllowed, IsBadRecord, IsLost}
 use Rattle.guard_files.specs.Writing.{Tells, TellsLine, TellsOctets, TellsNoMemory}
+use Rattle.guard_streams.specs.Counters.{AbstractCounted}
 use Rattle.guard_streams.specs.declared.seen.Seen.{Seen}
 use Rattle.guard_streams.specs.Turns.{AbstractMux, Written, Happens, InTurn, all_out, all_err, status_of, ends_left}
 use Rattle.guard_streams.specs.Saying.{IsSaid, TellsUnread}
@@ -124,16 +125,20 @@ GuardsRecords path first input out err status =
     × TellsStop s (record err { before = reported }) status)
 
 -- sixteen links that are open, under this policy; notes are asked for where something is seen
-abbrev pub new_mux : AbstractPolicy → Told → Option Seen → AbstractMux
-new_mux p told seen =
-    record { told = told; gateway = record { policy = p; links = replicate 16 new_link }; seen = seen }
+abbrev pub new_mux : AbstractPolicy → Told → Option Seen → Option AbstractCounted → AbstractMux
+new_mux p told seen counted = record {
+  told = told;
+  gateway = record { policy = p; links = replicate 16 new_link };
+  seen = seen;
+  counted = counted;
+}
 
 -- What comes of a stream of records under the policy at the path. Where there is none, nothing is read or written.
 abbrev pub GuardsLinks : Told → List ℕ → Input → Device → Device → ℕ → Type 0
 GuardsLinks told path input out err status =
     ((f : Fault) × IsNoPolicyAt told path f × IsUnread input × IsUntouched out × Tells f err status)
     ⊎ ((p : AbstractPolicy) × (later : Told) × IsPolicyAt told path p × IsLater told later
-    × GuardsRecords path (new_mux p later None) input out err status)
+    × GuardsRecords path (new_mux p later None None) input out err status)
 
 -- ---- with notes
 
@@ -180,5 +185,5 @@ abbrev pub WatchesLinks : Told → List ℕ → Input → Device → Device → 
 WatchesLinks told path input out err status =
     ((f : Fault) × IsNoPolicyAt told path f × IsUnread input × IsUntouched out × TellsUnread f err status)
     ⊎ ((p : AbstractPolicy) × (digest : List ℕ) × (later : Told) × IsNumberedAt told path p digest × IsLater told later
-    × BehindNote digest input out err status
-    (λ behind. WatchesRecords path (new_mux p later (Some (nothing_seen digest))) input out behind status))
+    × BehindNote digest (IsUnread input × IsUntouched out) err status
+    (λ behind. WatchesRecords path (new_mux p later (Some (nothing_seen digest)) None) input out behind status))

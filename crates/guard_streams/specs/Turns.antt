@@ -3,6 +3,7 @@ use Rattle.std.specs.Prelude.{◌≡◌, ◌⊎◌, ℕ, suc, max, List, [], ◌
 use Rattle.std.specs.List.{concat}
 use Rattle.guard_policy.specs.Policies.{AbstractPolicy}
 use Rattle.guard_frames.specs.declared.link.LinkFault.{LinkFault}
+use Rattle.guard_frames.specs.declared.link.LinkFault.TheVariants.{WriteFailed}
 use Rattle.guard_frames.specs.Added.{Added, nothing}
 use Rattle.guard_frames.specs.Gateways.{AbstractGateway, AbstractEvent, AbstractEvent as event, step_answer}
 use Rattle.guard_frames.specs.GatewaySteps.{Step}
@@ -19,14 +20,17 @@ use Rattle.guard_streams.specs.AtFault.{IsFaultNote}
 use Rattle.guard_streams.specs.Passing.{InRecords, marked, fault_line}
 use Rattle.guard_streams.specs.Saying.{IsUnreadNote}
 use Rattle.guard_streams.specs.Tallying.{IsSeen}
+use Rattle.guard_streams.specs.Counters.{AbstractCounted}
 use Rattle.guard_streams.specs.InForce.{digest_note}
+use Rattle.guard_streams.specs.LinksCounted.{IsCounted, ended_counted, renewed_counted}
 
--- what lies between two records: what reads of files to come find, the links under the policy in force, and what is
--- seen of their frames, where notes are asked for
+-- what lies between two records: what reads of files to come find, the links under the policy in force, what is seen of
+-- their frames, where notes are asked for, and what is counted of them, where that is
 pub record AbstractMux : Type 0 where
   pub told : Told
   pub gateway : AbstractGateway
   pub seen : Option Seen
+  pub counted : Option AbstractCounted
 
 -- what is written of a record to standard output and to standard error, and the status that comes of it
 pub record Written : Type 0 where
@@ -82,6 +86,7 @@ pub record Renews (path : List ℕ) (old : AbstractMux) (w : Written) (new : Abs
     err = renewed_note old.seen (length policy.messages) (length policy.rules) digest;
     status = 0;
   }
+  pub counted : new.counted ≡ renewed_counted old.counted policy digest
 
 -- There is no policy at the path, which is reported with what the system says of it, and the old one stays in force,
 -- which is noted with its number.
@@ -96,14 +101,19 @@ pub record KeepsOld (path : List ℕ) (old : AbstractMux) (w : Written) (new : A
   pub note : List ℕ
   pub noted : IsUnreadNote old.seen fault note
   pub err : w.err ≡ line ++ note
+  pub counted : new.counted ≡ old.counted
 
--- what a record does, where the policy is that at the path, and what is written of it
+-- What a record does, where the policy is that at the path, and what is written of it. What is counted is known unless
+-- the sinks of a link have no memory.
 abbrev pub Happens : List ℕ → AbstractMux → Record → Written → AbstractMux → Type 0
 Happens path old (piece link octets) w new =
     (p : PassesOn link old.seen old.gateway (event.piece link octets) w new.gateway) × (new.told ≡ old.told)
     × IsSeen old.gateway.policy old.seen p.answer p.added new.gateway.links new.seen
+    × ((p.answer ≡ Err WriteFailed → ⊥) →
+    IsCounted old.gateway.policy old.counted p.answer octets p.added new.gateway.links new.counted)
 Happens path old (end link) w new =
-    PassesOn link old.seen old.gateway (event.end link) w new.gateway × (new.told ≡ old.told) × (new.seen ≡ old.seen)
+    (p : PassesOn link old.seen old.gateway (event.end link) w new.gateway) × (new.told ≡ old.told)
+    × (new.seen ≡ old.seen) × (new.counted ≡ ended_counted old.counted p.answer)
 Happens path old reload w new =
     (Renews path old w new ⊎ KeepsOld path old w new) × IsLater old.told new.told
 

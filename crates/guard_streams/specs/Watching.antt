@@ -6,7 +6,7 @@ use Rattle.guard_policy.specs.Policies.{AbstractPolicy}
 use Rattle.guard_frames.specs.declared.running.RunFault.{RunFault}
 use Rattle.guard_frames.specs.declared.running.RunFault.TheVariants.{WriteFailed, ReadFailed}
 use Rattle.guard_frames.specs.Added.{Octets, Moves}
-use Rattle.guard_frames.specs.Leaving.{Leaves, Unless}
+use Rattle.guard_frames.specs.Leaving.{Leaves, IsWatched}
 use Rattle.guard_frames.specs.LinkView.{AbstractLink}
 use Rattle.guard_frames.specs.OfPolicy.{decision_of}
 use Rattle.guard_frames.specs.Prefix.{IsProperPrefix}
@@ -35,7 +35,8 @@ abbrev pub Watches : Result (Unit {0}) RunFault → AbstractPolicy → Input →
     Counts → Type 0
 Watches result p input out reports Silent link counts = Moves (input.before, input.after) out reports
     (λ read added. Leaves (decision_of p) read (IsAtEnd input.after) Silent result link added
-    × Unless Silent result (AreCounted p no_counts added.reports counts))
+    × IsWatched result (AreCounted p no_counts added.reports counts)
+    (Silent ⊎ AreCounted p no_counts added.reports counts))
 
 -- the answer says that an output failed only where one has
 abbrev pub IsFailureOf : Result (Unit {0}) RunFault → Device → Device → Type 0
@@ -76,11 +77,11 @@ pub record WatchesUnder (p : AbstractPolicy) (digest : List ℕ) (input : Input)
     pub unread : IsUnreadOf result input
     pub told : TellsSeen result (seen_of digest link counts) (record err { before = reported }) status
 
--- The note of the number is said first, and it is so behind it. Or standard error failed in it, and nothing is read.
-abbrev pub BehindNote : List ℕ → Input → Device → Device → ℕ → (Device → Type 0) → Type 0
-BehindNote digest input out err status So =
+-- The note of the number is said first, and it is so behind it. Or standard error failed in it, and nothing is done.
+abbrev pub BehindNote : List ℕ → Type 0 → Device → ℕ → (Device → Type 0) → Type 0
+BehindNote digest Nothing err status So =
     ((begun : Option (List ℕ)) × Appends err.before begun (digest_note digest) × So (record err { before = begun }))
-    ⊎ (IsUnread input × IsUntouched out × (err.failed ≡ true) × (status ≡ 3)
+    ⊎ (Nothing × (err.failed ≡ true) × (status ≡ 3)
     × ((part : List ℕ) × IsProperPrefix part (digest_note digest) × Appends err.before err.after part))
 
 -- What comes of a stream under the policy at the path. Where there is none, nothing is read or written.
@@ -88,4 +89,5 @@ abbrev pub WatchesStream : Told → List ℕ → Input → Device → Device →
 WatchesStream told path input out err status =
     ((f : Fault) × IsNoPolicyAt told path f × IsUnread input × IsUntouched out × TellsUnread f err status)
     ⊎ ((p : AbstractPolicy) × (digest : List ℕ) × IsNumberedAt told path p digest
-    × BehindNote digest input out err status (λ behind. WatchesUnder p digest input out behind status))
+    × BehindNote digest (IsUnread input × IsUntouched out) err status
+    (λ behind. WatchesUnder p digest input out behind status))

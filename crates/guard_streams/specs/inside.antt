@@ -2,3 +2,5 @@
 pub mod Doing
 pub mod Noting
 pub mod Seeing
+pub mod Counting
+pub mod Following

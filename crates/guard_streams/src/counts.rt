@@ -2,7 +2,7 @@
 ghost use Rattle.std.specs.Prelude.{◌≡◌};
 ghost use Rattle.guard_streams.specs.Counted.{no_counts};
 
-use guard_frames::{Reason, Watch, Why};
+use guard_frames::{Reason, Totals, Watch, Why};
 
 /// How many lines of a report give each reason. Each number stays at the greatest of 64 bits.
 #[derive(Clone, Copy, Debug, PartialEq, Eq)]
@@ -37,9 +37,15 @@ impl Counts {
 
 impl Watch for Counts {
     ghost use Rattle.std.specs.Prelude.{◌≡◌};
-    ghost use Rattle.guard_streams.specs.Counted.{count_one};
+    ghost use Rattle.guard_streams.specs.Counted.{count_told};
 
-    ghost notes = { λ old why new. new ≡ count_one old why };
+    ghost notes = { λ old told new. new ≡ count_told old told };
+
+    fn pauses(&mut self, _totals: Totals) {}
+
+    fn reads(&mut self, _octets: usize) {}
+
+    fn goes(&mut self, _octets: usize) {}
 
     fn stays(&mut self, why: Why) {
         match why {
@@ -62,7 +68,7 @@ impl Counts {
             Reason::UnknownMessage => self.unknown_message = self.unknown_message.saturating_add(1),
             Reason::Undecodable => self.undecodable = self.undecodable.saturating_add(1),
             Reason::OutsideType => self.outside_type = self.outside_type.saturating_add(1),
-            Reason::DeniedBy => self.denied_by = self.denied_by.saturating_add(1),
+            Reason::DeniedBy(_) => self.denied_by = self.denied_by.saturating_add(1),
             Reason::NotAllowed => self.not_allowed = self.not_allowed.saturating_add(1),
             Reason::NoRule => self.no_rule = self.no_rule.saturating_add(1),
         }

@@ -46,7 +46,7 @@ pub fn add_kept(text: &mut Vec<u8>, digest: &[u8; 32]) -> Result<(), OutOfMemory
 }
 
 /// The number in hexadecimal digits.
-fn digits_of(digest: &[u8; 32]) -> [u8; 64]
+pub fn digits_of(digest: &[u8; 32]) -> [u8; 64]
     ensures { result ≡ encode_lower digest.now }
 {
     let mut digits = [0u8; 64];

@@ -10,6 +10,10 @@
 //! | What comes of a stream with notes? | `verbose.rt` | `specs/Watching.antt` |
 //! | What is said of which policy is in force? | `in_force.rt` | `specs/InForce.antt` |
 //! | What is noted? | `seen.rt`, `counts.rt` | `specs/Verbose.antt`, `specs/Counted.antt` |
+//! | What is counted of a stream, and shown while it runs? | `counting.rt`, `counters.rt` | `specs/Counting.antt` |
+//! | What is counted of many links? | `counting_links.rt`, `following.rt` | `specs/CountingLinks.antt`, `specs/LinksCounted.antt` |
+//! | Where is it shown, and when? | `board.rt` (`Board`) | `specs/Shown.antt` |
+//! | Which text shows it? | `counters_text.rt`, `counted.rt` | `specs/Counters.antt`, `specs/Faults.antt` |
 //! | What is said of a device that failed? | `saying.rt` | `specs/Saying.antt` |
 //! | What comes of many links with notes? | `watching_links.rt` | `specs/Muxing.antt` (`WatchesLinks`) |
 //! | What is seen of the frames of links? | `links.rt` (`see`), `sinks.rt` | `specs/Tallying.antt` |
@@ -18,19 +22,34 @@
 
 mod answering;
 mod asking;
+mod board;
+mod counted;
+mod counters;
+mod counters_text;
+mod counting;
+mod counting_links;
 mod counts;
+mod faults;
+mod following;
 mod guarding;
 mod in_force;
 mod links;
 mod muxing;
 mod passing;
+mod rule_counts;
 mod saying;
 mod seen;
 mod sinks;
+mod tally;
 mod verbose;
+mod waits;
 mod watching_links;
 
 pub use asking::ask;
+pub use board::Board;
+pub use counters::Counters;
+pub use counting::run_counting;
+pub use counting_links::mux_counting;
 pub use guarding::run;
 pub use muxing::mux;
 pub use saying::{Failing, Says};

@@ -5,13 +5,17 @@ ghost use Rattle.guard_streams.specs.Saying.{IsSaidOfFault};
 ghost use Rattle.guard_streams.specs.inside.Doing.{is_closed};
 ghost use Rattle.guard_streams.specs.inside.Seeing.{known_counts};
 
+use crate::counted::Counted;
+use crate::counting::load_counted;
 use crate::counts::Counts;
+use crate::following::Following;
 use crate::in_force::add_kept;
 use crate::passing::{put_fault, put_renewed};
+use crate::rule_counts::InForce;
 use crate::saying::{Says, said_of_fault};
 use crate::seen::Seen;
 use crate::sinks::{all_totals, end_link, feed_link, new_sinks, pass_on};
-use guard_files::{FAILED, Fault, Files, LINKS, Stop, load_numbered, report};
+use guard_files::{FAILED, Fault, Files, LINKS, Stop, report};
 use guard_frames::{Event, Gateway, Kept, Link, LinkFault, Sink, Unwatched, put_all};
 use guard_model::OutOfMemory;
 use guard_policy::Policy;
@@ -26,6 +30,8 @@ pub struct Links {
     status: u8,
     /// What is seen of their frames, where notes are asked for.
     seen: Option<Seen>,
+    /// What is counted of them.
+    followed: Following,
 }
 
 impl Links {
@@ -37,22 +43,32 @@ impl Links {
     ghost use Rattle.guard_frames.specs.LinkView.{link_view};
     ghost use Rattle.guard_frames.specs.Prefix.{IsProperPrefix};
     ghost use Rattle.guard_files.specs.declared.stop.Stop.TheVariants.{WriteFailed, ErrorFailed};
+    ghost use Rattle.guard_policy.specs.Policies.{AbstractPolicy};
     ghost use Rattle.guard_policy.specs.PolicyView.{policy_view};
     ghost use Rattle.guard_files.specs.Devices.{device, device_of};
     ghost use Rattle.guard_files.specs.Files.{Told};
     ghost use Rattle.guard_files.specs.Records.Record.{piece, end, reload};
+    ghost use Rattle.guard_streams.specs.Counters.{force_of, force_view};
+    ghost use Rattle.guard_streams.specs.LinksCounted.{ended_counted, maybe_counted, renewed_counted};
     ghost use Rattle.guard_streams.specs.Muxing.{new_mux, WritesPart, BreaksErr};
     ghost use Rattle.guard_streams.specs.Saying.{IsUnreadNote};
     ghost use Rattle.guard_streams.specs.Turns.{link_status, renewed_note, renewed_seen};
+    ghost use Rattle.guard_streams.specs.inside.Following.{piece_counted};
     ghost use Rattle.guard_streams.specs.inside.Noting.{noted_link, answer_lines};
     ghost use Rattle.guard_streams.specs.inside.Seeing.{counts_in, seen_after};
     ghost use Rattle.guard_streams.specs.inside.Doing.{IsReady, mux_of, IsTaken, IsCut};
     ghost use Rattle.guard_streams.specs.inside.Doing.{Is, HadEnded, AreEnded, IsEndCut};
 
-    /// Sixteen open links under this policy. Notes are asked for where something is seen.
-    pub fn new(alloc: Global, policy: Policy, seen: Option<Seen>) -> Result<Links, OutOfMemory>
+    /// Sixteen open links under this policy. Notes are asked for where something is seen, and more is counted where
+    /// something is.
+    pub fn new(
+        alloc: Global,
+        policy: Policy,
+        seen: Option<Seen>,
+        counted: Option<Counted>,
+    ) -> Result<Links, OutOfMemory>
         ensures open { IfOk result (λ links. (told : Told)
-            → mux_of told links ≡ new_mux (policy_view policy) told seen) }
+            → mux_of told links ≡ new_mux (policy_view policy) told seen (maybe_counted counted)) }
         ensures ready { IfOk result (λ links. IsReady links.gateway) }
         ensures status { IfOk result (λ links. links.status ≡ 0) }
     {
@@ -62,6 +78,10 @@ impl Links {
                 gateway,
                 status: 0,
                 seen,
+                followed: Following {
+                    counts: Counts::none(),
+                    counted,
+                },
             }),
             Err(_) => Err(OutOfMemory),
         }
@@ -79,6 +99,13 @@ impl Links {
         ensures { result ≡ self.now.seen }
     {
         self.seen
+    }
+
+    /// What is counted so far, where something is.
+    pub fn counted(&self) -> &Option<Counted>
+        ensures { result.now ≡ self.now.followed.counted }
+    {
+        &self.followed.counted
     }
 
     /// A piece of a link's stream. What it lets out is written, then what is reported, and then the link's fault.
@@ -101,10 +128,11 @@ impl Links {
             (device_of E.taken E.has_failed err.old err.new)) }
         ensures unseen { result ≡ Err WriteFailed → self.new.seen ≡ self.old.seen }
     {
-        let mut counts = self.counts();
-        let answer = feed_link(alloc, &mut self.gateway, link, octets, &mut counts);
+        self.followed.counts = self.counts();
+        let answer = feed_link(alloc, &mut self.gateway, link, octets, &mut self.followed);
         let is_reported = pass_on(&mut self.gateway, link, out, err)?;
-        self.see(answer, counts);
+        self.see(answer, self.followed.counts);
+        self.count(answer, octets.len());
         self.status = self.status.max(u8::from(is_reported));
         self.tell_answer(link, answer, err)
     }
@@ -126,6 +154,7 @@ impl Links {
             ≡ seen_after self.old.seen answer (gateway_view self.old.gateway).links counts }
         ensures gateway { self.new.gateway ≡ self.old.gateway }
         ensures status { self.new.status ≡ self.old.status }
+        ensures followed { self.new.followed ≡ self.old.followed }
     {
         if let Some(old) = self.seen {
             let digest = old.digest;
@@ -135,6 +164,22 @@ impl Links {
                 counts: known_counts(answer, old.counts, counts),
                 left: old.left,
             });
+        }
+    }
+
+    /// Counts a piece of so many octets that was answered so, where something is counted.
+    fn count(&mut self, answer: Result<(), LinkFault>, octets: usize)
+        requires { length (gateway_view self.old.gateway).links ≡ 16 }
+        ensures counted { maybe_counted self.new.followed.counted
+            ≡ piece_counted (maybe_counted self.old.followed.counted) answer octets
+            (gateway_view self.old.gateway).links }
+        ensures gateway { self.new.gateway ≡ self.old.gateway }
+        ensures status { self.new.status ≡ self.old.status }
+        ensures seen { self.new.seen ≡ self.old.seen }
+    {
+        if let Some(counted) = &mut self.followed.counted {
+            let totals = all_totals(&self.gateway);
+            counted.piece(totals, octets, answer);
         }
     }
 
@@ -150,7 +195,21 @@ impl Links {
         ensures seen { self.new.seen ≡ self.old.seen }
     {
         let answer = end_link(alloc, &mut self.gateway, link);
+        self.count_end(answer);
         self.tell_answer(link, answer, err)
+    }
+
+    /// Counts the fault of a link that ended so, where something is counted.
+    fn count_end(&mut self, answer: Result<(), LinkFault>)
+        ensures counted { maybe_counted self.new.followed.counted
+            ≡ ended_counted (maybe_counted self.old.followed.counted) answer }
+        ensures gateway { self.new.gateway ≡ self.old.gateway }
+        ensures status { self.new.status ≡ self.old.status }
+        ensures seen { self.new.seen ≡ self.old.seen }
+    {
+        if let Some(counted) = &mut self.followed.counted {
+            counted.tally.faults.answered(answer);
+        }
     }
 
     /// The end of each link's stream that hasn't ended, in order.
@@ -190,6 +249,7 @@ impl Links {
         if is_closed(answer) {
             return Ok(());
         }
+        self.count_end(answer);
         self.tell_answer(link, answer, err)
     }
 
@@ -213,13 +273,15 @@ impl Links {
             (device out out failed) (device_of E.taken E.has_failed err.old err.new)) }
         ensures unseen { result ≡ Err WriteFailed → self.new.seen ≡ self.old.seen }
     {
-        match load_numbered(alloc, path, files) {
+        match load_counted(alloc, path, files) {
             Ok(loaded) => {
-                let (policy, digest) = loaded;
+                let (policy, force) = loaded;
+                let digest = force.digest;
                 let (messages, rules) = (policy.messages(), policy.rules());
                 let _ = self
                     .gateway
                     .step(alloc, Event::Reload(policy), &mut Unwatched);
+                self.count_policy(force);
                 self.note_policy(messages, rules, &digest, err)
             }
             Err(fault) => match report(alloc, &fault, err) {
@@ -229,6 +291,20 @@ impl Links {
                 }
                 Err(_) => Err(Stop::ErrorFailed),
             },
+        }
+    }
+
+    /// Counts a new policy, of whose rules none has denied anything, where something is counted.
+    fn count_policy(&mut self, force: InForce)
+        ensures counted { (p : AbstractPolicy) (digest : List ℕ) → force_view force ≡ force_of p digest →
+            maybe_counted self.new.followed.counted
+            ≡ renewed_counted (maybe_counted self.old.followed.counted) p digest }
+        ensures gateway { self.new.gateway ≡ self.old.gateway }
+        ensures status { self.new.status ≡ self.old.status }
+        ensures seen { self.new.seen ≡ self.old.seen }
+    {
+        if let Some(counted) = &mut self.followed.counted {
+            counted.renewed(force);
         }
     }
 
@@ -248,6 +324,7 @@ impl Links {
         ensures seen { self.new.seen ≡ renewed_seen self.old.seen digest.now }
         ensures gateway { self.new.gateway ≡ self.old.gateway }
         ensures status { self.new.status ≡ self.old.status }
+        ensures followed { self.new.followed ≡ self.old.followed }
     {
         let Some(seen) = &mut self.seen else {
             return Ok(());
@@ -302,6 +379,7 @@ impl Links {
         ensures status { self.new.status ≡ max self.old.status (link_status [] answer) }
         ensures gateway { self.new.gateway ≡ self.old.gateway }
         ensures seen { self.new.seen ≡ self.old.seen }
+        ensures followed { self.new.followed ≡ self.old.followed }
     {
         let Err(fault) = answer else {
             return Ok(());

@@ -5,10 +5,13 @@ ghost use Rattle.guard_files.specs.Headers.{IsGood, record_of};
 ghost use Rattle.guard_files.specs.declared.stop.Stop.TheVariants as stop;
 ghost use Rattle.guard_files.specs.declared.stop.Stop.TheVariants.{WriteFailed};
 ghost use Rattle.guard_streams.specs.Muxing.{GuardsLinks, Finishes, Stops, TellsStop};
-ghost use Rattle.guard_streams.specs.inside.Doing.{IsReady, mux_of, IsTaken, IsCut, IsSeenBefore};
+ghost use Rattle.guard_streams.specs.CountingLinks.{ShowsBetween};
+ghost use Rattle.guard_streams.specs.LinksCounted.{maybe_counted};
+ghost use Rattle.guard_streams.specs.inside.Doing.{IsReady, mux_of, IsTaken, IsCut, IsSeenBefore, IsCountedBefore};
 
 use crate::links::Links;
 use crate::saying::{Says, Silent};
+use crate::waits::{Unshown, Waits};
 use guard_files::{
     FAILED, Files, Header, Stop, load, new_room, next_record, tell, tell_bad_record,
     tell_failed_read, tell_failed_write, tell_no_memory,
@@ -35,7 +38,7 @@ pub fn mux<F: Files, S: Source, O: Sink, E: Sink>(
         Ok(policy) => policy,
         Err(fault) => return tell(alloc, &fault, err),
     };
-    let Ok(mut links) = Links::new(alloc, policy, None) else {
+    let Ok(mut links) = Links::new(alloc, policy, None, None) else {
         return tell_no_memory(err);
     };
     let Ok(mut room) = new_room(alloc) else {
@@ -51,6 +54,8 @@ pub fn mux<F: Files, S: Source, O: Sink, E: Sink>(
         out,
         err,
         &Silent,
+        "",
+        &mut Unshown,
     );
     match guarded {
         Ok(()) => links.status(),
@@ -59,7 +64,7 @@ pub fn mux<F: Files, S: Source, O: Sink, E: Sink>(
 }
 
 /// Tells why the links weren't guarded to their ends.
-fn tell_stop<E: Sink>(reason: Stop, err: &mut E) -> u8
+pub fn tell_stop<E: Sink>(reason: Stop, err: &mut E) -> u8
     ensures told { TellsStop reason (device_of E.taken E.has_failed err.old err.new) result }
     ensures silent { reason ≡ stop.ErrorFailed → err.new ≡ err.old }
 {
@@ -71,8 +76,9 @@ fn tell_stop<E: Sink>(reason: Stop, err: &mut E) -> u8
     }
 }
 
-/// Takes each record of the stream, and then the end of each link that wasn't ended.
-pub fn guard<F: Files, S: Source, O: Sink, E: Sink, T: Says>(
+/// Takes each record of the stream, and then the end of each link that wasn't ended. Before each record what is counted
+/// may be shown at the place.
+pub fn guard<F: Files, S: Source, O: Sink, E: Sink, T: Says, K: Waits>(
     alloc: Global,
     path: &str,
     files: &mut F,
@@ -82,6 +88,8 @@ pub fn guard<F: Files, S: Source, O: Sink, E: Sink, T: Says>(
     out: &mut O,
     err: &mut E,
     system: &T,
+    place: &str,
+    shows: &mut K,
 ) -> Result<(), Stop>
     requires room { length room.old ≡ 1048576 }
     requires ready { IsReady links.old.gateway }
@@ -90,7 +98,7 @@ pub fn guard<F: Files, S: Source, O: Sink, E: Sink, T: Says>(
         (source_of S.tells S.takes S.has_failed input.old input.new)
         (device_of O.taken O.has_failed out.old out.new)
         (device_of E.taken E.has_failed err.old err.new) links.new.status)
-        × (f.after.seen ≡ links.new.seen)) }
+        × (f.after.seen ≡ links.new.seen) × (f.after.counted ≡ maybe_counted links.new.followed.counted)) }
     ensures stops { IfErr result (λ s. (h : Stops s path.now (mux_of (F.told files.old) links.old)
         (source_of S.tells S.takes S.has_failed input.old input.new)
         (device_of O.taken O.has_failed out.old out.new)
@@ -98,10 +106,17 @@ pub fn guard<F: Files, S: Source, O: Sink, E: Sink, T: Says>(
         × IsSeenBefore s path.now (mux_of (F.told files.old) links.old)
         (source_of S.tells S.takes S.has_failed input.old input.new)
         (device_of O.taken O.has_failed out.old out.new)
-        (device_of E.taken E.has_failed err.old err.new) h links.new.seen) }
+        (device_of E.taken E.has_failed err.old err.new) h links.new.seen
+        × IsCountedBefore s path.now (mux_of (F.told files.old) links.old)
+        (source_of S.tells S.takes S.has_failed input.old input.new)
+        (device_of O.taken O.has_failed out.old out.new)
+        (device_of E.taken E.has_failed err.old err.new) h (maybe_counted links.new.followed.counted)) }
+    ensures shows { ShowsBetween path.now (mux_of (F.told files.old) links.old) (S.tells input.old) (S.tells input.new)
+        place.now (K.shown shows.old) (K.shown shows.new) }
 {
     let mut reads = MOST_READS;
     for _ in 0..MOST_READS {
+        shows.waits(place, links.counted());
         let Some(header) = next_record(input, room, &mut reads)? else {
             return links.end_all(alloc, err);
         };

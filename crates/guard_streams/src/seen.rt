@@ -160,7 +160,8 @@ fn add_frame(text: &mut Vec<u8>, number: u64, word: &[u8], count: usize) -> Resu
     add(text, b"\n")
 }
 
-fn add_number(text: &mut Vec<u8>, number: u64) -> Result<(), OutOfMemory>
+/// Appends the number in decimal. It fails only where memory runs out.
+pub fn add_number(text: &mut Vec<u8>, number: u64) -> Result<(), OutOfMemory>
     ensures { OnOk result (text.new.items ≡ text.old.items ++ decimal number) }
 {
     let mut buffer = Buffer::new();

@@ -17,10 +17,10 @@ ghost use Rattle.guard_frames.specs.KeptView.{kept_octets};
 ghost use Rattle.guard_files.specs.Devices.{device_of};
 ghost use Rattle.guard_streams.specs.Passing.{InRecords, marked};
 ghost use Rattle.guard_streams.specs.inside.Doing.{AreEmpty, IsReady, IsFed, ArePassed, AreCut};
-ghost use Rattle.guard_streams.specs.Counted.{AreCounted};
+ghost use Rattle.guard_streams.specs.inside.Following.{AreNoted};
 ghost use Rattle.guard_streams.specs.Tallying.{both, with_links};
 
-use crate::counts::Counts;
+use crate::following::Following;
 use crate::passing::{put_lines, put_pieces};
 use guard_files::{LINKS, Stop};
 use guard_frames::{Ends, Event, Gateway, Kept, LinkFault, Sink, StepFault, Totals, Unwatched};
@@ -42,20 +42,20 @@ pub fn new_sinks(alloc: Global, count: u16) -> Result<Vec<Ends<Kept>>, OutOfMemo
     Ok(ends)
 }
 
-/// Feeds a piece to a link, whose sinks are empty, and answers as the link does. The reasons of the lines are counted.
+/// Feeds a piece to a link, whose sinks are empty, and answers as the link does. Its frames are followed.
 pub fn feed_link(
     alloc: Global,
     gateway: &mut Gateway<Kept>,
     link: u16,
     octets: &[u8],
-    counts: &mut Counts,
+    followed: &mut Following,
 ) -> Result<(), LinkFault>
     requires link { link ≤ 15 }
     requires ready { IsReady gateway.old }
     ensures { (fed : IsFed link gateway.old octets.now result gateway.new) × ((result ≡ Err WriteFailed → ⊥) →
-        AreCounted (gateway_view gateway.old).policy counts.old fed.added.reports counts.new) }
+        AreNoted (gateway_view gateway.old).policy followed.old fed.added followed.new) }
 {
-    answer_of(gateway.step(alloc, Event::Piece(link, octets), counts))
+    answer_of(gateway.step(alloc, Event::Piece(link, octets), followed))
 }
 
 /// Ends a link, and answers as it does.

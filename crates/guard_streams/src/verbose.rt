@@ -69,7 +69,7 @@ pub fn run_verbosely<F: Files, S: Source, O: Sink, E: Sink, T: Says>(
 }
 
 /// Says the last notes, and answers the status of the totals.
-fn tell_last<E: Sink>(alloc: Global, seen: &Seen, err: &mut E) -> u8
+pub fn tell_last<E: Sink>(alloc: Global, seen: &Seen, err: &mut E) -> u8
     ensures { TellsOctets (last_lines seen.now) (totals_status seen.now.totals)
         (device_of E.taken E.has_failed err.old err.new) result
         ⊎ TellsNoMemory (device_of E.taken E.has_failed err.old err.new) result }
@@ -81,7 +81,7 @@ fn tell_last<E: Sink>(alloc: Global, seen: &Seen, err: &mut E) -> u8
 }
 
 /// Says a fault with the notes behind its line.
-fn tell_fault<E: Sink, T: Says>(
+pub fn tell_fault<E: Sink, T: Says>(
     alloc: Global,
     fault: RunFault,
     seen: &Seen,

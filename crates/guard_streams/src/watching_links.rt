@@ -11,6 +11,7 @@ use crate::muxing::guard;
 use crate::saying::{Failing, Says, line_said};
 use crate::seen::{Seen, add_last};
 use crate::verbose::tell_unread;
+use crate::waits::Unshown;
 use guard_files::{FAILED, Files, Stop, add, load_numbered, new_room, tell_line, tell_no_memory};
 use guard_frames::{Sink, Source};
 use guard_model::OutOfMemory;
@@ -44,7 +45,7 @@ pub fn mux_verbosely<F: Files, S: Source, O: Sink, E: Sink, T: Says>(
         Ok(loaded) => loaded,
         Err(fault) => return tell_unread(alloc, &fault, err, system),
     };
-    let Ok(mut links) = Links::new(alloc, policy, Some(Seen::nothing(digest))) else {
+    let Ok(mut links) = Links::new(alloc, policy, Some(Seen::nothing(digest)), None) else {
         return tell_no_memory(err);
     };
     let Ok(mut room) = new_room(alloc) else {
@@ -63,6 +64,8 @@ pub fn mux_verbosely<F: Files, S: Source, O: Sink, E: Sink, T: Says>(
         out,
         err,
         system,
+        "",
+        &mut Unshown,
     );
     match guarded {
         Ok(()) => tell_notes(alloc, b"", links.seen(), links.status(), err),
@@ -71,7 +74,7 @@ pub fn mux_verbosely<F: Files, S: Source, O: Sink, E: Sink, T: Says>(
 }
 
 /// Tells why the links weren't guarded to their ends, and what was seen of them.
-fn tell_stop<E: Sink, T: Says>(
+pub fn tell_stop<E: Sink, T: Says>(
     alloc: Global,
     reason: Stop,
     seen: Option<Seen>,
@@ -133,7 +136,7 @@ fn lines_said<T: Says>(
 }
 
 /// Tells some lines, and then what was seen, with this status.
-fn tell_notes<E: Sink>(
+pub fn tell_notes<E: Sink>(
     alloc: Global,
     first: &[u8],
     seen: Option<Seen>,

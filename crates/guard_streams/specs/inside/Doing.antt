@@ -22,6 +22,8 @@ use Rattle.guard_files.specs.Files.{Told}
 use Rattle.guard_files.specs.Records.{Record}
 use Rattle.guard_streams.specs.declared.links.Links.{Links}
 use Rattle.guard_streams.specs.declared.seen.Seen.{Seen}
+use Rattle.guard_streams.specs.Counters.{AbstractCounted}
+use Rattle.guard_streams.specs.LinksCounted.{maybe_counted}
 use Rattle.guard_streams.specs.Muxing.{WritesPart, BreaksOut, BreaksErr, Stops}
 use Rattle.guard_streams.specs.Passing.{InRecords, marked}
 use Rattle.guard_streams.specs.Turns.{AbstractMux, Written, Happens, InTurn, all_out, all_err, status_of, ends_left}
@@ -88,9 +90,14 @@ AreCut ErrorFailed link ends out err = IsErrCut link ends out err
 
 -- ---- one record
 
--- the links, what reads of files to come find, and what is seen
+-- the links, what reads of files to come find, and what is seen and counted
 abbrev pub mux_of : Told → Links → AbstractMux
-mux_of told l = record { told = told; gateway = gateway_view l.gateway; seen = l.seen }
+mux_of told l = record {
+  told = told;
+  gateway = gateway_view l.gateway;
+  seen = l.seen;
+  counted = maybe_counted l.followed.counted;
+}
 
 -- The record was taken, and all that is written of it is out.
 pub record IsTaken (path : List ℕ) (told_old : Told) (old : Links) (r : Record) (told_new : Told) (new : Links)
@@ -118,6 +125,14 @@ IsSeenBefore ReadFailed path first input out err h seen = h.all.last.seen ≡ se
 IsSeenBefore WriteFailed path first input out err h seen = h.all.last.seen ≡ seen
 IsSeenBefore ErrorFailed path first input out err h seen = Unit {0}
 
+-- and what is counted of them
+abbrev pub IsCountedBefore : (s : Stop) (path : List ℕ) (first : AbstractMux) (input : Input) (out err : Device)
+    → Stops s path first input out err → Option AbstractCounted → Type 0
+IsCountedBefore BadRecord path first input out err h counted = h.all.last.counted ≡ counted
+IsCountedBefore ReadFailed path first input out err h counted = h.all.last.counted ≡ counted
+IsCountedBefore WriteFailed path first input out err h counted = Unit {0}
+IsCountedBefore ErrorFailed path first input out err h counted = Unit {0}
+
 -- the answer of a link that takes no more
 abbrev pub is_closed : Result (Unit {0}) LinkFault → Bool
 is_closed (Ok done) = false
@@ -139,6 +154,7 @@ pub record HadEnded (link : ℕ) (old new : Links) (err : Octets) : Type 0 where
   pub told : err.1 ≡ err.0
   pub status : new.status ≡ old.status
   pub seen : new.seen ≡ old.seen
+  pub counted : maybe_counted new.followed.counted ≡ maybe_counted old.followed.counted
   pub ready : IsReady new.gateway
 
 -- ---- the ends of the links that are open

@@ -4,6 +4,7 @@ use Rattle.guard_frames.proofs.Reading.{Consumes_none}
 use Rattle.guard_files.specs.Headers.{record_of}
 use Rattle.guard_files.proofs.RecordLaws.{asked_more, asked_all}
 use Rattle.guard_files.proofs.RecordReading.{short_none, allowed_of, found_is}
+use Rattle.guard_streams.proofs.Between.{none_shown, read_more, shown_more}
 use Rattle.guard_streams.proofs.Doings.{told_ok, told_err}
 use Rattle.guard_streams.proofs.Taking.{none_taken, one_taken, finishes, stops_at, cut_at, cut_at_end, none_read}
 use Rattle.guard_streams.proofs.muxing.guard.Goals as goal
@@ -14,6 +15,7 @@ loop-init g c = record {
       c.requires.ready;
   asked = omega arith;
   left = omega arith;
+  shown = none_shown _ _ _ _ _;
 }
 
 pub returns-in_err-header-clause-stops : goal.returns-in_err-header-clause-stops
@@ -34,6 +36,7 @@ returns-in_default-clause-done g c =
       finishes _ _ _ _ _ _ _ _ _ _ i.taken _ _ _ _ _ _ _ c.end_all.new.self n.0 n.1
           (h c.args.path.now (g.F.Files.told c.loop.files)),
       refl,
+      refl,
     ))
 
 pub returns-in_default-clause-stops : goal.returns-in_default-clause-stops
@@ -43,7 +46,7 @@ returns-in_default-clause-stops g c =
     told_err c.end_all.result c.end_all.ensures.cut (λ s cut.
     cut_at_end _ _ _ _ _ _ _ _ _ _ i.taken s _ _ _ _ _ _ _ cut.0 n.0 n.1
     (cut.1 c.args.path.now (g.F.Files.told c.loop.files) (g.O.Sink.taken c.loop.out)
-    (g.O.Sink.has_failed c.loop.out)) _)
+    (g.O.Sink.has_failed c.loop.out)) _ _)
 
 pub returns-in_err-take_record-clause-stops : goal.returns-in_err-take_record-clause-stops
 returns-in_err-take_record-clause-stops g c =
@@ -55,7 +58,7 @@ returns-in_err-take_record-clause-stops g c =
     rw (e.1, e.2) (cut_at _ _ _ _ _ _ _ _ _ _ i.taken c.in_err-take_record.field-0.0 _ _ _ _ _ _ _ _
     (record_of c.in-Some.header c.next_record.new.room)
     (allowed_of c.in-Some.header c.next_record.new.room n.0 (c.next_record.auto.room ∙ c.loop.auto.room
-    ∙ c.requires.room)) n.2 c.in_err-take_record.ensures.cut _
+    ∙ c.requires.room)) n.2 c.in_err-take_record.ensures.cut _ _
     (λ is. c.take_record.ensures.unseen (c.in_err-take_record.was ∙ ap Err is)))
 
 pub loop-preserved : goal.loop-preserved
@@ -70,6 +73,7 @@ loop-preserved g c =
       asked = asked_more _ _ _ (2 ^ 40) c.loop.reads c.next_record.new.reads
           (omega (arith, i.left)) c.in_ok-header.ensures.fewer i.asked c.in_ok-header.ensures.counted;
       left = omega (arith, i.left, n.1);
+      shown = read_more _ _ _ _ _ _ _ (shown_more _ _ _ _ _ _ _ i.shown _ _ _ _ _ _ _ i.taken (rw c.counted.ensures at c.waits.ensures)) _ _ n.2;
     }
 
 pub returns-clause-stops : goal.returns-clause-stops
@@ -79,4 +83,26 @@ returns-clause-stops g c =
       stops_at _ _ _ _ _ _ _ _ _ _ i.taken _ _ _ _ _ _ [] _ (Consumes_none _)
           (short_none [] (omega arith), inr (omega (arith, i.asked, none))),
       refl,
+      refl,
     )
+
+pub returns-in_err-header-clause-shows : goal.returns-in_err-header-clause-shows
+returns-in_err-header-clause-shows g c =
+    let i = c.loop.invariant in
+    read_more _ _ _ _ _ _ _ (shown_more _ _ _ _ _ _ _ i.shown _ _ _ _ _ _ _ i.taken (rw c.counted.ensures at c.waits.ensures)) _ _ c.in_err-header.ensures.none.1
+
+pub returns-in_default-clause-shows : goal.returns-in_default-clause-shows
+returns-in_default-clause-shows g c =
+    let i = c.loop.invariant in
+    let n = c.in_ok-header.ensures.end c.in_default.is in
+    read_more _ _ _ _ _ _ _ (shown_more _ _ _ _ _ _ _ i.shown _ _ _ _ _ _ _ i.taken (rw c.counted.ensures at c.waits.ensures)) _ _ n.0
+
+pub returns-in_err-take_record-clause-shows : goal.returns-in_err-take_record-clause-shows
+returns-in_err-take_record-clause-shows g c =
+    let i = c.loop.invariant in
+    let n = found_is c.loop.reads c.next_record.new.reads _ _ c.next_record.new.room c.in_ok-header.field-0
+    c.in-Some.header c.in-Some.is c.in_ok-header.ensures.record in
+    read_more _ _ _ _ _ _ _ (shown_more _ _ _ _ _ _ _ i.shown _ _ _ _ _ _ _ i.taken (rw c.counted.ensures at c.waits.ensures)) _ _ n.2
+
+pub returns-clause-shows : goal.returns-clause-shows
+returns-clause-shows g c = c.loop.invariant.shown

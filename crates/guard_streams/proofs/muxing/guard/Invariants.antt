@@ -1,5 +1,6 @@
 use Rattle.std.proofs.Common.{◌+◌, ◌-◌, ◌≤◌, ◌^◌}
 use Rattle.guard_frames.specs.Totals.{WentUpBy}
+use Rattle.guard_streams.specs.CountingLinks.{ShowsBetween}
 use Rattle.guard_streams.specs.inside.Doing.{mux_of}
 use Rattle.guard_streams.proofs.Taking.{TakenSoFar}
 use Rattle.guard_streams.proofs.muxing.guard.Given as goal
@@ -12,4 +13,7 @@ invariant-loop g l = record {
       (g.F.Files.told l.files) l.links;
   asked : WentUpBy (g.S.Source.takes l.initial.input) (2 ^ 40 - l.reads) (g.S.Source.takes l.input);
   left : l.reads + l.counter ≤ 2 ^ 40;
+  shown : ShowsBetween l.path (mux_of (g.F.Files.told l.initial.files) l.initial.links)
+      (g.S.Source.tells l.initial.input) (g.S.Source.tells l.input) l.place
+      (g.K.Waits.shown l.initial.shows) (g.K.Waits.shown l.shows);
 }

@@ -1,4 +1,4 @@
-use Rattle.std.proofs.Common.{[], ◌≡◌, ◌∙◌, true, false, inl, inr, refl, subst, sym}
+use Rattle.std.proofs.Common.{[], ◌≡◌, ◌⊎◌, ◌∙◌, true, false, inl, inr, refl, subst, sym}
 use Rattle.std.specs.Prelude.{Ok, Err}
 use Rattle.guard_policy.specs.PolicyView.{policy_view}
 use Rattle.guard_frames.specs.LinkView.{link_view}
@@ -8,6 +8,7 @@ use Rattle.guard_streams.specs.declared.counts.Counts.{Counts}
 use Rattle.guard_streams.specs.Counted.{AreCounted}
 use Rattle.guard_streams.specs.Watching.{TellsSeen}
 use Rattle.guard_streams.specs.declared.seen.Seen.{Seen}
+use Rattle.guard_streams.proofs.Told.{watched_counted, part_counted}
 use Rattle.guard_streams.proofs.Watched.{leaves_as, another_failed, not_failed, no_fault}
 use Rattle.guard_streams.proofs.verbose.run_verbosely.Goals as goal
 
@@ -46,7 +47,7 @@ returns-in-Ok-ran g c =
             holds = (
               x.holds.0,
               subst (λ (n : Counts). AreCounted (policy_view c.in-Ok.loaded.0) n x.added.reports w.new.watch) c.none-counts.ensures
-                  x.holds.1,
+                  (watched_counted (policy_view c.in-Ok.loaded.0) c.none-counts.result w.new.watch x.read x.added x.holds.1),
             );
           };
           failure = no_fault _;
@@ -82,8 +83,11 @@ returns-in-Err-ran g c =
             added = x.added;
             given = x.given;
             taken = x.taken;
-            holds = leaves_as _ _ _ _ _ _ _ (Err c.in-Err-ran.field-0) _ _ (λ was. (was, refl, refl))
-                (subst (λ (n : Counts). AreCounted (policy_view c.in-Ok.loaded.0) n x.added.reports w.new.watch) c.none-counts.ensures)
+            holds = leaves_as _ _ _ _ _ _ _ _ (Err c.in-Err-ran.field-0) _ _ (λ was. (was, refl, refl))
+                (λ h. subst (λ (n : Counts). AreCounted (policy_view c.in-Ok.loaded.0) n x.added.reports w.new.watch) c.none-counts.ensures
+                (watched_counted (policy_view c.in-Ok.loaded.0) c.none-counts.result w.new.watch x.read x.added h))
+                (λ h. subst (λ (n : Counts). (g.E.Sink.has_failed w.new.reports ≡ true) ⊎ AreCounted (policy_view c.in-Ok.loaded.0) n x.added.reports w.new.watch)
+                c.none-counts.ensures (part_counted _ (policy_view c.in-Ok.loaded.0) c.none-counts.result w.new.watch x.read x.added h))
                 x.holds;
           };
           failure = c.in-Err-ran.ensures.failed;
@@ -117,8 +121,11 @@ returns g c =
             added = x.added;
             given = x.given;
             taken = x.taken;
-            holds = leaves_as _ _ _ _ _ _ _ (Err c.in-Err-2.fault) _ _ (not_failed _ sound)
-                (subst (λ (n : Counts). AreCounted (policy_view c.in-Ok.loaded.0) n x.added.reports w.new.watch) c.none-counts.ensures)
+            holds = leaves_as _ _ _ _ _ _ _ _ (Err c.in-Err-2.fault) _ _ (not_failed _ sound)
+                (λ h. subst (λ (n : Counts). AreCounted (policy_view c.in-Ok.loaded.0) n x.added.reports w.new.watch) c.none-counts.ensures
+                (watched_counted (policy_view c.in-Ok.loaded.0) c.none-counts.result w.new.watch x.read x.added h))
+                (λ h. subst (λ (n : Counts). (g.E.Sink.has_failed w.new.reports ≡ true) ⊎ AreCounted (policy_view c.in-Ok.loaded.0) n x.added.reports w.new.watch)
+                c.none-counts.ensures (part_counted _ (policy_view c.in-Ok.loaded.0) c.none-counts.result w.new.watch x.read x.added h))
                 x.holds;
           };
           failure = λ is. another_failed _ _ (g.E.Sink.has_failed c.tell_fault.new.err) sound (c.in-Err-2.ensures.failed is);
@@ -132,4 +139,4 @@ returns g c =
 
 pub returns-in_default-put_digest : goal.returns-in_default-put_digest
 returns-in_default-put_digest g c =
-    inr (policy_view c.in-Ok.loaded.0, c.in-Ok.loaded.1, c.in-Ok.ensures.there, inr ((refl, refl), refl, c.in_default-put_digest.ensures.failed, refl, c.in_default-put_digest.ensures.part))
+    inr (policy_view c.in-Ok.loaded.0, c.in-Ok.loaded.1, c.in-Ok.ensures.there, inr (((refl, refl), refl), c.in_default-put_digest.ensures.failed, refl, c.in_default-put_digest.ensures.part))

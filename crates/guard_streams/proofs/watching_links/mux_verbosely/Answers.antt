@@ -1,13 +1,14 @@
 use Rattle.std.proofs.Common.{[], ◌∙◌, ◌≡◌, ap, inl, inr, refl, subst, sym}
-use Rattle.std.specs.Prelude.{Option, Some}
+use Rattle.std.specs.Prelude.{Option, Some, None}
 use Rattle.guard_policy.specs.PolicyView.{policy_view}
 use Rattle.guard_files.specs.Devices.{input_of, device}
 use Rattle.guard_files.specs.declared.fault.Fault.TheVariants.{NoMemory}
 use Rattle.guard_files.specs.declared.stop.Stop.TheVariants.{ErrorFailed}
+use Rattle.guard_streams.specs.LinksCounted.{maybe_counted}
 use Rattle.guard_streams.specs.Muxing.{Finishes, Stops, TellsNotes, new_mux, seen_lines}
 use Rattle.guard_streams.specs.Turns.{AbstractMux}
 use Rattle.guard_streams.specs.declared.seen.Seen.{Seen}
-use Rattle.guard_streams.specs.inside.Doing.{IsSeenBefore}
+use Rattle.guard_streams.specs.inside.Doing.{IsSeenBefore, IsCountedBefore}
 use Rattle.guard_streams.proofs.Taking.{stops_told, finishes_told, seen_told, tells_seen_before}
 use Rattle.guard_streams.proofs.watching_links.mux_verbosely.Goals as goal
 
@@ -35,7 +36,7 @@ returns-in-Ok-guarded g c =
     let is = g.E.Sink.has_failed c.tell_notes.new.err in
     let told = device reported (g.E.Sink.taken c.tell_notes.new.err) is in
     let done = subst (λ (m : AbstractMux). (f : Finishes path m input out (device before reported was) links.status)
-    × (f.after.seen ≡ links.seen)) (c.in-Ok-new.ensures.open later ∙ ap (λ (x : Seen). new_mux p later (Some x)) c.nothing.ensures)
+    × (f.after.seen ≡ links.seen) × (f.after.counted ≡ maybe_counted links.followed.counted)) (c.in-Ok-new.ensures.open later ∙ ap (λ (x : Seen). new_mux p later (Some x) None) c.nothing.ensures)
     c.in-Ok-guarded.ensures.done in
     inr (
       p,
@@ -75,8 +76,9 @@ returns g c =
     let told = device reported (g.E.Sink.taken c.tell_stop.new.err) is in
     let same : s ≡ ErrorFailed → is ≡ was = λ e. ap g.E.Sink.has_failed (c.tell_stop.ensures.silent e) in
     let stops = subst (λ (m : AbstractMux). (h : Stops s path m input out (device before reported was))
-    × IsSeenBefore s path m input out (device before reported was) h links.seen)
-    (c.in-Ok-new.ensures.open later ∙ ap (λ (x : Seen). new_mux p later (Some x)) c.nothing.ensures)
+    × IsSeenBefore s path m input out (device before reported was) h links.seen
+    × IsCountedBefore s path m input out (device before reported was) h (maybe_counted links.followed.counted))
+    (c.in-Ok-new.ensures.open later ∙ ap (λ (x : Seen). new_mux p later (Some x) None) c.nothing.ensures)
     c.in-Err-guarded.ensures.stops in
     let moved = stops_told s path _ input out before reported was is same stops.0 in
     let seen = seen_told s path _ input out before reported was is same stops.0 links.seen stops.1 in
@@ -101,4 +103,4 @@ returns g c =
 
 pub returns-in_default-put_digest : goal.returns-in_default-put_digest
 returns-in_default-put_digest g c =
-    inr (policy_view c.in-Ok.loaded.0, c.in-Ok.loaded.1, g.F.Files.told c.load_numbered.new.files, c.in-Ok.ensures.there, c.in-Ok.ensures.later, inr ((refl, refl), refl, c.in_default-put_digest.ensures.failed, refl, c.in_default-put_digest.ensures.part))
+    inr (policy_view c.in-Ok.loaded.0, c.in-Ok.loaded.1, g.F.Files.told c.load_numbered.new.files, c.in-Ok.ensures.there, c.in-Ok.ensures.later, inr (((refl, refl), refl), c.in_default-put_digest.ensures.failed, refl, c.in_default-put_digest.ensures.part))

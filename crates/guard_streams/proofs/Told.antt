@@ -1,0 +1,80 @@
+-- What follows from what a watch was told: of the lines that were reported what they say, and what a watch that counts has
+-- counted.
+use Rattle.std.proofs.Common.{◌≡◌, ◌⊎◌, inl, inr, ℕ, List, [], ◌∷◌, ◌++◌, ◌∙◌, ap, sym, refl, subst, append_assoc}
+use Rattle.std.proofs.lemmas.List.{append-nil}
+use Rattle.guard_policy.specs.Policies.{AbstractPolicy}
+use Rattle.guard_frames.specs.declared.totals.Totals.{Totals}
+use Rattle.guard_frames.specs.declared.why.Why.{Why}
+use Rattle.guard_frames.specs.Added.{Added}
+use Rattle.guard_frames.specs.Leaving.{Watched, WatchedInPart}
+use Rattle.guard_frames.specs.OfPolicy.{decision_of, gives_of}
+use Rattle.guard_frames.specs.Reasons.{Told, Tells, IsTold, Noted}
+use Rattle.guard_frames.specs.Reasons.Told.{pauses, reads, goes, stays}
+use Rattle.guard_streams.specs.declared.counts.Counts.{Counts}
+use Rattle.guard_streams.specs.Counted.{count_one, count_told, count_all, AreSaid, AreCounted}
+
+-- why the frames stay of which a watch was told
+unfoldable pub whys_of : List Told → List Why
+whys_of [] = []
+whys_of (pauses t ∷ before) = whys_of before
+whys_of (reads n ∷ before) = whys_of before
+whys_of (goes n ∷ before) = whys_of before
+whys_of (stays why ∷ before) = why ∷ whys_of before
+
+pub said : (At : List ℕ → Added → Totals → Type 0) (p : AbstractPolicy) (told : List Told) (read : List ℕ) (a : Added) →
+    Tells At (gives_of p) told read a → AreSaid p (whys_of told) a.reports
+unfolding whys_of
+said At p [] read a h = ap (λ (x : Added). x.reports) h.1
+said At p (pauses t ∷ before) read a h = said At p before read a h.1
+said At p (reads n ∷ before) read a (first, piece, e, size, paused, h) = said At p before first a h
+said At p (goes n ∷ before) read a (first, frame, e, is, size, h) =
+    subst (AreSaid p (whys_of before)) (sym (ap (λ (x : Added). x.reports) e)) (said At p before read first h)
+said At p (stays why ∷ before) read a (first, line, e, says, h) =
+    (first.reports, line, ap (λ (x : Added). x.reports) e, says, said At p before read first h)
+
+abbrev pub Counting : Counts → Told → Counts → Type 0
+Counting c told d = d ≡ count_told c told
+
+counted : (told : List Told) (old new : Counts) → IsTold Counting old told new → new ≡ count_all old (whys_of told)
+unfolding whys_of
+counted [] old new h = h
+counted (pauses t ∷ before) old new h = h.2 ∙ counted before old h.0 h.1
+counted (reads n ∷ before) old new h = h.2 ∙ counted before old h.0 h.1
+counted (goes n ∷ before) old new h = h.2 ∙ counted before old h.0 h.1
+counted (stays why ∷ before) old new h = h.2 ∙ ap (λ (c : Counts). count_one c why) (counted before old h.0 h.1)
+
+pub noted_counted : (p : AbstractPolicy) (old new : Counts) (a : Added) → Noted (gives_of p) Counting old a new → AreCounted p old a.reports new
+noted_counted p old new a h = (whys_of h.0, said _ p h.0 [] a h.1, counted h.0 old new h.2)
+
+pub watched_counted : (p : AbstractPolicy) (old new : Counts) (read : List ℕ) (a : Added) →
+    Watched (decision_of p) (gives_of p) Counting old read a new → AreCounted p old a.reports new
+watched_counted p old new read a h = (whys_of h.0, said _ p h.0 read a h.1, counted h.0 old new h.2)
+
+-- ---- lines after lines
+
+pub said_on : (p : AbstractPolicy) (xs ys : List Why) (s t : List ℕ) → AreSaid p xs s → AreSaid p ys t → AreSaid p (ys ++ xs) (s ++ t)
+said_on p xs [] s t h k = subst (AreSaid p xs) (sym (ap (λ x. s ++ x) k ∙ append-nil s)) h
+said_on p xs (y ∷ ys) s t h (first, line, e, says, k) =
+    (s ++ first, line, ap (λ x. s ++ x) e ∙ sym (append_assoc s first line), says, said_on p xs ys s first h k)
+
+pub count_all-append : (c : Counts) (xs ys : List Why) → count_all c (ys ++ xs) ≡ count_all (count_all c xs) ys
+count_all-append c xs [] = refl
+count_all-append c xs (y ∷ ys) = ap (λ (d : Counts). count_one d y) (count_all-append c xs ys)
+
+pub counted_on : (p : AbstractPolicy) (a b c : Counts) (s t : List ℕ) → AreCounted p a s b → AreCounted p b t c → AreCounted p a (s ++ t) c
+counted_on p a b c s t h k = (
+  k.0 ++ h.0,
+  said_on p h.0 k.0 s t h.1 k.1,
+  k.2 ∙ ap (λ (d : Counts). count_all d k.0) h.2 ∙ sym (count_all-append a h.0 k.0),
+)
+
+pub part_counted : (Broken : Type 0) (p : AbstractPolicy) (old new : Counts) (read : List ℕ) (a : Added) →
+    WatchedInPart Broken (decision_of p) (gives_of p) Counting old read a new → Broken ⊎ AreCounted p old a.reports new
+part_counted Broken p old new read a h = elim h.known [
+  | inl broken ↦ inl broken
+  | inr (lost, e) ↦
+      let more : AreCounted p h.last h.back.reports new =
+      subst (λ (x : Added). AreCounted p h.last x.reports new) e (noted_counted p h.last new h.told h.ahead) in
+      inr (subst (λ (x : List ℕ). AreCounted p old x new) (sym (ap (λ (x : Added). x.reports) h.split))
+      (counted_on p old h.last new h.front.reports h.back.reports (watched_counted p old h.last read h.front h.before) more))
+]

@@ -8,5 +8,6 @@ pub mod MessageLaws
 pub mod CapturedFrames
 pub mod Dues
 pub mod Headers
+pub mod JsonNumbers
 pub mod SoundParts
 pub mod Spots

@@ -6,6 +6,7 @@ use Rattle.std.specs.Io.KnownBytes.{Consumes, IsAtEnd}
 use Rattle.std.proofs.lemmas.List.{append-nil, take-append-drop}
 use Rattle.std.proofs.lemmas.List.Elements.{All-append}
 use Rattle.std.proofs.lemmas.List.Folds.{concat-append}
+use Rattle.guard_frames.specs.declared.running.RunFault.TheVariants.{FrameTooLong, TornFrame}
 use Rattle.guard_frames.specs.Frames.{IsFrame, IsTooLong, IsUnfinished}
 use Rattle.guard_frames.specs.Totals.{WentUpBy}
 use Rattle.guard_frames.proofs.Elements.{All_none, All_more}
@@ -19,13 +20,14 @@ use Rattle.guard_files.specs.Records.{Record, record_octets, IsAllowed}
 use Rattle.guard_files.specs.Records.Record.{piece, end, reload}
 use Rattle.guard_files.specs.Headers.{IsNone}
 use Rattle.guard_files.proofs.RecordReading.{joined_last}
-use Rattle.guard_messages.specs.declared.linked.Unlinked.{Unlinked}
-use Rattle.guard_messages.specs.declared.linked.Unlinked.TheVariants as unlinked
-use Rattle.guard_messages.specs.Finding.{IsUnfound}
+use Rattle.guard_files.specs.declared.fault.Fault.TheVariants.{Run, NoMemory}
+use Rattle.guard_messages.specs.declared.unfound.Unfound.{Unfound}
+use Rattle.guard_messages.specs.declared.unfound.Unfound.TheVariants as unfound
+use Rattle.guard_messages.specs.Finding.{IsUnfound, of_stop}
 use Rattle.guard_messages.specs.Linked.{LeavesOpen, ReadsLink, IsNthOfLink, link_octets}
 use Rattle.guard_messages.specs.Numbered.{IsNatural, IsNumber}
 use Rattle.guard_messages.specs.Questions.{linked}
-use Rattle.guard_messages.specs.inside.Passed.{AreFrames, Completes, Holds, IsUnlinked, Refuses, joins, of_stop, unfound_of}
+use Rattle.guard_messages.specs.inside.Passed.{AreFrames, Completes, Holds, IsUnlinked, Refuses, joins}
 
 -- ---- octets that are frames and a rest
 
@@ -119,14 +121,14 @@ piece_holds link other held octets later before left is (count, counted, passed,
   unfinished = unfinished;
 }
 
-pub piece_refuses : (u : Unlinked) (link other : ℕ) (held octets : List ℕ) (before : ℕ) → other ≡ link
-    → ((u ≡ unlinked.TooLong) × ((rest : List ℕ) × (count : ℕ) × (count ≤ before) × AreFrames (held ++ octets) count rest × IsTooLong rest))
-    ⊎ (u ≡ unlinked.NoMemory) → Refuses u link (piece other octets) held before
+pub piece_refuses : (u : Unfound) (link other : ℕ) (held octets : List ℕ) (before : ℕ) → other ≡ link
+    → ((u ≡ unfound.Faulty (Run FrameTooLong)) × ((rest : List ℕ) × (count : ℕ) × (count ≤ before) × AreFrames (held ++ octets) count rest × IsTooLong rest))
+    ⊎ (u ≡ unfound.Faulty NoMemory) → Refuses u link (piece other octets) held before
 piece_refuses u link other held octets before is (inl (why, (rest, count, few, passed, long))) =
-    subst (λ (x : Unlinked). Refuses x link (piece other octets) held before) (sym why)
+    subst (λ (x : Unfound). Refuses x link (piece other octets) held before) (sym why)
     (tt, (rest, count, few, subst (λ (s : List ℕ). AreFrames s count rest) (sym (joins_piece link other held octets is)) passed, long))
 piece_refuses u link other held octets before is (inr why) =
-    subst (λ (x : Unlinked). Refuses x link (piece other octets) held before) (sym why) tt
+    subst (λ (x : Unfound). Refuses x link (piece other octets) held before) (sym why) tt
 
 -- a record that adds nothing
 stays_held : (link : ℕ) (r : Record) (held : List ℕ) (before : ℕ) → LeavesOpen link r → joins link held r ≡ held → IsUnfinished held
@@ -153,12 +155,12 @@ pub reload_holds : (link : ℕ) (held : List ℕ) (before : ℕ) → IsUnfinishe
 reload_holds link held before unfinished =
     stays_held link reload held before tt (no_octets link held reload refl) unfinished
 
-pub end_refuses : (u : Unlinked) (link other : ℕ) (held : List ℕ) (before : ℕ) → other ≡ link
-    → ((u ≡ unlinked.Fewer) × (held ≡ [])) ⊎ ((u ≡ unlinked.Torn) × (0 < length held)) → Refuses u link (end other) held before
+pub end_refuses : (u : Unfound) (link other : ℕ) (held : List ℕ) (before : ℕ) → other ≡ link
+    → ((u ≡ unfound.NoSuchFrame) × (held ≡ [])) ⊎ ((u ≡ unfound.Faulty (Run TornFrame)) × (0 < length held)) → Refuses u link (end other) held before
 end_refuses u link other held before is (inl (why, none)) =
-    subst (λ (x : Unlinked). Refuses x link (end other) held before) (sym why) (ap end is, none)
+    subst (λ (x : Unfound). Refuses x link (end other) held before) (sym why) (ap end is, none)
 end_refuses u link other held before is (inr (why, some)) =
-    subst (λ (x : Unlinked). Refuses x link (end other) held before) (sym why) (ap end is, some)
+    subst (λ (x : Unfound). Refuses x link (end other) held before) (sym why) (ap end is, some)
 
 -- The records so far, and what is held of the link.
 pub record LinkedSoFar (link n : ℕ) (a b : Option (List ℕ)) (held : List ℕ) (before : ℕ) : Type 0 where
@@ -271,34 +273,33 @@ module _ (link n : ℕ) (a b : Option (List ℕ)) (held : List ℕ) (before : �
         is = h.is;
       }
 
-  pub refused : (u : Unlinked) (c : Option (List ℕ)) (y z : ℕ) (failed : Bool) (r : Record) → IsAllowed r
+  pub refused : (u : Unfound) (c : Option (List ℕ)) (y z : ℕ) (failed : Bool) (r : Record) → IsAllowed r
       → Consumes b c (record_octets r) → Refuses u link r held before → IsUnlinked link n (input_of a c y z failed) u
-  refused unlinked.Fewer c y z failed r ok read (is, none) =
+  refused unfound.NoSuchFrame c y z failed r ok read (is, none) =
       let all = reads_rest c y z failed (record_octets r) read in
       inl (subst (λ (s : List ℕ). ReadsLink link n (input_of a c y z failed) s (record_octets (end link))) none
       (subst (λ (x : Record). ReadsLink link n (input_of a c y z failed) held (record_octets x)) is all))
-  refused unlinked.Torn c y z failed r ok read (is, some) =
+  refused (unfound.Faulty (Run TornFrame)) c y z failed r ok read (is, some) =
       let all = reads_rest c y z failed (record_octets r) read in (
         held,
         inl (subst (λ (x : Record). ReadsLink link n (input_of a c y z failed) held (record_octets x)) is all),
         some,
         so_far.unfinished,
       )
-  refused unlinked.TooLong c y z failed r ok read (going, (rest, count, few, p, long)) =
+  refused (unfound.Faulty (Run FrameTooLong)) c y z failed r ok read (going, (rest, count, few, p, long)) =
       (rest, (reads_more c y z failed r count rest ok going read p few).0, long)
-  refused unlinked.BadRecord c y z failed r ok read h = absurd h
-  refused unlinked.Lost c y z failed r ok read h = absurd h
-  refused unlinked.NoMemory c y z failed r ok read h = tt
+  refused (unfound.Faulty NoMemory) c y z failed r ok read h = tt
+  refused _ c y z failed r ok read h = absurd h
 
   -- the records end
-  pub ended_before : (u : Unlinked) (c : Option (List ℕ)) (y z : ℕ) (failed : Bool) → Consumes b c [] → IsAtEnd c
-      → ((u ≡ unlinked.Fewer) × (held ≡ [])) ⊎ ((u ≡ unlinked.Torn) × (0 < length held))
+  pub ended_before : (u : Unfound) (c : Option (List ℕ)) (y z : ℕ) (failed : Bool) → Consumes b c [] → IsAtEnd c
+      → ((u ≡ unfound.NoSuchFrame) × (held ≡ [])) ⊎ ((u ≡ unfound.Faulty (Run TornFrame)) × (0 < length held))
       → IsUnlinked link n (input_of a c y z failed) u
   ended_before u c y z failed read at_end (inl (is, none)) =
-      subst (λ (x : Unlinked). IsUnlinked link n (input_of a c y z failed) x) (sym is)
+      subst (λ (x : Unfound). IsUnlinked link n (input_of a c y z failed) x) (sym is)
       (inr (subst (λ (s : List ℕ). ReadsLink link n (input_of a c y z failed) s []) none (reads_rest c y z failed [] read), at_end))
   ended_before u c y z failed read at_end (inr (is, some)) =
-      subst (λ (x : Unlinked). IsUnlinked link n (input_of a c y z failed) x) (sym is)
+      subst (λ (x : Unfound). IsUnlinked link n (input_of a c y z failed) x) (sym is)
       (held, inr (reads_rest c y z failed [] read, at_end), some, so_far.unfinished)
 
   -- no record can be read
@@ -313,11 +314,10 @@ module _ (link n : ℕ) (a b : Option (List ℕ)) (held : List ℕ) (before : �
 
 -- ---- what is answered for it
 
-pub unlinked_is : (u : Unlinked) (told : Told) (number word : List ℕ) (link n : ℕ) (input : Input) → IsNatural number link → IsNumber word n
-    → IsUnlinked link n input u → IsUnfound told (linked number word) input (unfound_of u)
-unlinked_is unlinked.Fewer told number word link n input first second h = inr (link, n, first, second, h)
-unlinked_is unlinked.Torn told number word link n input first second h = inl (link, n, first, second, h)
-unlinked_is unlinked.TooLong told number word link n input first second h = inl (link, n, first, second, h)
-unlinked_is unlinked.BadRecord told number word link n input first second h = (link, n, first, second, h)
-unlinked_is unlinked.Lost told number word link n input first second h = inl (link, n, first, second, h)
-unlinked_is unlinked.NoMemory told number word link n input first second h = inr refl
+pub unlinked_is : (u : Unfound) (told : Told) (number word : List ℕ) (link n : ℕ) (input : Input) → IsNatural number link → IsNumber word n
+    → IsUnlinked link n input u → IsUnfound told (linked number word) input u
+unlinked_is unfound.NoSuchFrame told number word link n input first second h = inr (link, n, first, second, h)
+unlinked_is (unfound.Faulty (Run f)) told number word link n input first second h = inl (link, n, first, second, h)
+unlinked_is unfound.BadRecord told number word link n input first second h = (link, n, first, second, h)
+unlinked_is (unfound.Faulty NoMemory) told number word link n input first second h = inr refl
+unlinked_is _ told number word link n input first second h = absurd h

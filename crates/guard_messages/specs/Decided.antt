@@ -1,24 +1,17 @@
--- What is answered to `decide`: the verdict on a message, what explains it, or why nothing is decided.
-use Rattle.std.specs.Prelude.{◌≡◌, ◌⊎◌, ℕ, List, ◌++◌, codes, Option, Some, None, Ok, Err, []}
-use Rattle.hex.specs.Hex.{decode_of}
-use Rattle.hex.specs.declared.error.FromHexError.{FromHexError}
-use Rattle.toml.specs.Data.{Members}
+-- What is answered to `decide`: the verdict on a message, and what explains it.
+use Rattle.std.specs.Prelude.{◌≡◌, ℕ, List, ◌++◌, codes, Option, Some, None, Ok}
 use Rattle.guard_syntax.specs.Trees.{WrittenModule}
 use Rattle.guard_schema.specs.Accepts.{ReadsModules}
 use Rattle.guard_policy.specs.Policies.{AbstractPolicy, AbstractRoute}
 use Rattle.guard_policy.specs.Verdicts.{AbstractVerdict, pass, unknown_message, undecodable, outside_type, denied_by, not_allowed, no_rule}
 use Rattle.guard_policy.specs.Decisions.{IsReason}
-use Rattle.guard_policy.specs.Documents.{IsDocument}
 use Rattle.guard_report.specs.Text.{verdict_octets}
 use Rattle.guard_notes.specs.Sources.{AbstractSources, sources}
 use Rattle.guard_frames.specs.Bodies.{AbstractBody}
 use Rattle.guard_frames.specs.Texts.{SayPolicy}
-use Rattle.guard_files.specs.declared.fault.Fault.{Fault}
-use Rattle.guard_files.specs.declared.fault.Fault.TheVariants.{BadHex, NoMemory}
-use Rattle.guard_files.specs.Explaining.{AreTextsOf, IsExplained, hex_note}
+use Rattle.guard_files.specs.Explaining.{AreTextsOf}
 use Rattle.guard_files.specs.Files.{Told}
-use Rattle.guard_files.specs.Bodies.{route_body}
-use Rattle.guard_files.specs.Reading.{IsPolicyAt, IsNoPolicyAt}
+use Rattle.guard_files.specs.Reading.{IsPolicyAt}
 use Rattle.guard_files.specs.Answers.{AbstractAnswer}
 use Rattle.guard_messages.specs.HeaderNotes.{spot_note}
 use Rattle.guard_messages.specs.Questions.{AbstractSpot}
@@ -41,12 +34,6 @@ IsVerdict p route octets a =
     (w : AbstractVerdict) × IsReason p route octets w × (a.out ≡ verdict_octets p route w ++ codes "\n")
     × (a.status ≡ verdict_status w)
 
--- of the octets that the digits write, under the policy at the path
-abbrev pub IsDecided : Told → List ℕ → AbstractRoute → List ℕ → AbstractAnswer → Type 0
-IsDecided told path route digits a =
-    (octets : List ℕ) × (p : AbstractPolicy) × (decode_of digits ≡ Ok octets) × IsPolicyAt told path p
-    × IsVerdict p route octets a
-
 abbrev pub body_route : AbstractBody → AbstractRoute
 body_route b = record { from = b.sender; to = b.receiver; message = b.name }
 
@@ -66,18 +53,11 @@ IsExplainedVerdict g p route octets a =
     (w : AbstractVerdict) × (note : List ℕ) × IsReason p route octets w × ExplainsVerdict g p route octets w note
     × (a.out ≡ verdict_octets p route w ++ codes "\n" ++ note) × (a.status ≡ verdict_status w)
 
--- under this policy, over what its text has at its keys and these trees of the modules
-abbrev pub IsExplainedBy : AbstractSources → List ℕ → List WrittenModule → AbstractPolicy → Option AbstractBody
-    → AbstractAnswer → Type 0
-IsExplainedBy s text ms p held a =
-    (top : Members) × IsDocument text top
-    × OfHeld (IsExplainedVerdict (record { sources = s; top = top; modules = ms }) p) held a
-
 -- under the policy that these texts say, over the trees that those of the modules are
 abbrev pub IsExplainedOver : AbstractSources → List ℕ → Option AbstractBody → AbstractAnswer → Type 0
 IsExplainedOver s text held a =
     (p : AbstractPolicy) × (ms : List WrittenModule) × SayPolicy s.modules text p × ReadsModules s.modules (Ok ms)
-    × IsExplainedBy s text ms p held a
+    × OfHeld (IsExplainedVerdict (record { sources = s; modules = ms }) p) held a
 
 -- under the policy at the path, over the texts that say it
 abbrev pub IsHeldExplained : Told → List ℕ → Option AbstractBody → AbstractAnswer → Type 0
@@ -90,23 +70,3 @@ abbrev pub IsFoundExplained : Told → List ℕ → AbstractSpot → Option Abst
 IsFoundExplained told path spot held octets a =
     (shown : AbstractAnswer) × IsHeldExplained told path held shown × (a.out ≡ shown.out ++ spot_note spot held octets)
     × (a.status ≡ shown.status)
-
--- of the octets that the digits write
-abbrev pub IsDecidedExplained : Told → List ℕ → AbstractRoute → List ℕ → AbstractAnswer → Type 0
-IsDecidedExplained told path route digits a =
-    (octets : List ℕ) × (decode_of digits ≡ Ok octets) × IsHeldExplained told path (Some (route_body route octets)) a
-
--- Digits that write no octets come before what is wrong with the policy.
-abbrev pub IsUndecided : Told → List ℕ → List ℕ → Fault → Type 0
-IsUndecided told path digits f =
-    ((f ≡ BadHex) × ((e : FromHexError) × (decode_of digits ≡ Err e)))
-    ⊎ ((octets : List ℕ) × (decode_of digits ≡ Ok octets) × IsNoPolicyAt told path f)
-    ⊎ (f ≡ NoMemory)
-
--- What is said with an explanation of a message that isn't decided: digits that write no octets come before what is
--- wrong with the policy.
-abbrev pub IsUndecidedExplained : Told → List ℕ → List ℕ → Fault → List ℕ → Type 0
-IsUndecidedExplained told path digits f note =
-    ((f ≡ BadHex) × ((e : FromHexError) × (decode_of digits ≡ Err e)) × (note ≡ hex_note))
-    ⊎ ((octets : List ℕ) × (decode_of digits ≡ Ok octets) × IsExplained told path f note)
-    ⊎ ((f ≡ NoMemory) × (note ≡ []))

@@ -1,5 +1,5 @@
 -- What comes of `decide` and `show`: which message is asked of, and what is answered to it.
-use Rattle.std.specs.Prelude.{ℕ, Bool, true, false, List, codes, Option, Some}
+use Rattle.std.specs.Prelude.{ℕ, Bool, true, false, List, codes, Option, Some, None}
 use Rattle.guard_policy.specs.Policies.{AbstractPolicy, AbstractRoute}
 use Rattle.guard_frames.specs.Bodies.{AbstractBody, body_in}
 use Rattle.guard_files.specs.Answers.{AbstractAnswer, Gives, GivesExplained}
@@ -9,13 +9,14 @@ use Rattle.guard_files.specs.Files.{Told}
 use Rattle.guard_files.specs.Bodies.{route_body}
 use Rattle.guard_files.specs.Reading.{IsPolicyAt, IsNoPolicyAt}
 use Rattle.guard_files.specs.Writing.{TellsText}
-use Rattle.guard_messages.specs.Decided.{IsDecided, IsDecidedExplained, IsUndecided, IsHeldDecided, IsFoundExplained, OfHeld, IsUndecidedExplained}
+use Rattle.guard_messages.specs.Decided.{IsHeldDecided, IsFoundExplained, OfHeld}
 use Rattle.guard_messages.specs.Finding.{AnswersFound, CapturesFrame}
-use Rattle.guard_messages.specs.Questions.{AbstractQuestion, AbstractSpot, AbstractPlace, kept, framed, linked, written, elsewhere, nowhere, asked_route, decide_place, show_place}
-use Rattle.guard_messages.specs.Shown.{IsShownAt, ShowsMessage}
+use Rattle.guard_messages.specs.Questions.{AbstractQuestion, AbstractSpot, written, kept, framed, linked, asked_route, decide_spot, show_spot}
+use Rattle.guard_messages.specs.Shown.{ShowsIn}
 
 -- the message that the octets at a spot are on this route, or that they hold as the body of a frame
 abbrev pub held_in : AbstractRoute → AbstractSpot → List ℕ → Option AbstractBody
+held_in route (written digits) octets = Some (route_body route octets)
 held_in route (kept path) octets = Some (route_body route octets)
 held_in route (framed number) octets = body_in octets
 held_in route (linked link number) octets = body_in octets
@@ -31,64 +32,52 @@ TellsUnasked input out err status = IsUnread input × IsUntouched out × TellsTe
 
 -- ---- decide
 
--- by whether a fault is to be explained
-abbrev pub GivesWritten : Bool → Told → List ℕ → AbstractRoute → List ℕ → Device → Device → ℕ → Type 0
-GivesWritten false told path route digits = Gives (IsDecided told path route digits) (IsUndecided told path digits)
-GivesWritten true told path route digits =
-    GivesExplained (IsDecidedExplained told path route digits) (IsUndecidedExplained told path digits)
-
--- which these octets hold
+-- of the message that these octets hold, by whether it is to be explained
 abbrev pub GivesHeld : Bool → Told → List ℕ → AbstractSpot → Option AbstractBody → List ℕ → Device → Device → ℕ
     → Type 0
 GivesHeld false told path spot held octets = Gives (IsHeldDecided told path held) (IsNoPolicyAt told path)
 GivesHeld true told path spot held octets =
     GivesExplained (IsFoundExplained told path spot held octets) (IsExplained told path)
 
-abbrev pub DecidesAt : AbstractPlace → Told → AbstractQuestion → Input → Device → Device → ℕ → Type 0
-DecidesAt (written digits) told q input out err status =
-    IsUnread input × GivesWritten q.explain told q.policy (asked_route q) digits out err status
-DecidesAt (elsewhere spot) told q input out err status =
-    AnswersFound (λ later octets. GivesHeld q.explain later q.policy spot (held_in (asked_route q) spot octets) octets)
+abbrev pub DecidesAt : Option AbstractSpot → Told → AbstractQuestion → Input → Device → Device → ℕ → Type 0
+DecidesAt (Some spot) told q input out err status =
+    AnswersFound q.explain
+    (λ later octets. GivesHeld q.explain later q.policy spot (held_in (asked_route q) spot octets) octets)
     told spot input out err status
-DecidesAt nowhere told q input out err status = TellsUnasked input out err status
+DecidesAt None told q input out err status = TellsUnasked input out err status
 
 abbrev pub Decides : Told → AbstractQuestion → Input → Device → Device → ℕ → Type 0
-Decides told q input out err status = DecidesAt (decide_place q) told q input out err status
+Decides told q input out err status = DecidesAt (decide_spot q) told q input out err status
 
 -- ---- show
 
 -- under the policy at the path
-abbrev pub IsHeldShown : Bool → Told → List ℕ → Option AbstractBody → AbstractAnswer → Type 0
-IsHeldShown explain told path held a =
-    (p : AbstractPolicy) × IsPolicyAt told path p
-    × OfHeld (λ route octets. ShowsMessage explain p route.message octets) held a
+abbrev pub IsHeldShown : AbstractQuestion → Told → Option AbstractBody → AbstractAnswer → Type 0
+IsHeldShown q told held a =
+    (p : AbstractPolicy) × IsPolicyAt told q.policy p × OfHeld (ShowsIn q.json q.explain p) held a
 
-abbrev pub ShowsAt : AbstractPlace → Told → AbstractQuestion → Input → Device → Device → ℕ → Type 0
-ShowsAt (written digits) told q input out err status =
-    IsUnread input
-    × Gives (IsShownAt q.explain told q.policy (asked_route q).message digits) (IsUndecided told q.policy digits)
-    out err status
-ShowsAt (elsewhere spot) told q input out err status =
-    AnswersFound
-    (λ later octets. Gives (IsHeldShown q.explain later q.policy (held_in (asked_route q) spot octets))
+abbrev pub ShowsAt : Option AbstractSpot → Told → AbstractQuestion → Input → Device → Device → ℕ → Type 0
+ShowsAt (Some spot) told q input out err status =
+    AnswersFound false
+    (λ later octets. Gives (IsHeldShown q later (held_in (asked_route q) spot octets))
     (IsNoPolicyAt later q.policy))
     told spot input out err status
-ShowsAt nowhere told q input out err status = TellsUnasked input out err status
+ShowsAt None told q input out err status = TellsUnasked input out err status
 
 -- ---- the frame itself, which no policy and no file is asked for
 
-abbrev pub CapturesAt : AbstractPlace → Told → Input → Device → Device → ℕ → Type 0
-CapturesAt (written digits) told input out err status = TellsUnasked input out err status
-CapturesAt (elsewhere (kept path)) told input out err status = TellsUnasked input out err status
-CapturesAt (elsewhere (framed word)) told input out err status = CapturesFrame told (framed word) input out err status
-CapturesAt (elsewhere (linked number word)) told input out err status =
+abbrev pub CapturesAt : Option AbstractSpot → Told → Input → Device → Device → ℕ → Type 0
+CapturesAt (Some (framed word)) told input out err status = CapturesFrame told (framed word) input out err status
+CapturesAt (Some (linked number word)) told input out err status =
     CapturesFrame told (linked number word) input out err status
-CapturesAt nowhere told input out err status = TellsUnasked input out err status
+CapturesAt (Some (written digits)) told input out err status = TellsUnasked input out err status
+CapturesAt (Some (kept path)) told input out err status = TellsUnasked input out err status
+CapturesAt None told input out err status = TellsUnasked input out err status
 
 -- by whether the frame itself is asked for
 abbrev pub ShowsBy : Bool → Told → AbstractQuestion → Input → Device → Device → ℕ → Type 0
-ShowsBy true told q = CapturesAt (show_place q) told
-ShowsBy false told q = ShowsAt (show_place q) told q
+ShowsBy true told q = CapturesAt (show_spot q) told
+ShowsBy false told q = ShowsAt (show_spot q) told q
 
 abbrev pub ShowsAsked : Told → AbstractQuestion → Input → Device → Device → ℕ → Type 0
 ShowsAsked told q input out err status = ShowsBy q.capture told q input out err status

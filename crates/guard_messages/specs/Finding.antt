@@ -1,18 +1,24 @@
--- The octets of a message that is in a file or comes in, and why they can't be had.
-use Rattle.std.specs.Prelude.{◌≡◌, ◌<◌, ◌≤◌, ◌⊎◌, ℕ, Bool, true, false, List, [], codes, bytes_eq, drop, length, string_bytes}
+-- The octets of a message that is written, is in a file or comes in, and why they can't be had.
+use Rattle.std.specs.Prelude.{◌≡◌, ◌<◌, ◌≤◌, ◌⊎◌, ℕ, Bool, true, false, List, [], codes, bytes_eq, drop, length, string_bytes, Ok, Err}
+use Rattle.hex.specs.Hex.{decode_of}
+use Rattle.hex.specs.declared.error.FromHexError.{FromHexError}
 use Rattle.guard_frames.specs.declared.running.RunFault.{RunFault}
 use Rattle.guard_frames.specs.declared.running.RunFault.TheVariants.{FrameTooLong, WriteFailed, TornFrame, ReadFailed, OutOfMemory}
 use Rattle.guard_files.specs.declared.fault.Fault.{Fault}
 use Rattle.guard_files.specs.declared.fault.Fault.TheVariants.{CannotRead, Run, NoMemory}
+use Rattle.guard_files.specs.declared.fault.Fault.TheVariants as fault
+use Rattle.guard_files.specs.declared.stop.Stop.{Stop}
+use Rattle.guard_files.specs.declared.stop.Stop.TheVariants as stop
 use Rattle.guard_files.specs.Devices.{Input, Device, IsUnread, IsUntouched}
+use Rattle.guard_files.specs.Explaining.{TellsWith, hex_note}
 use Rattle.guard_files.specs.Files.{Told, HasFront, HasNone, after_read}
 use Rattle.guard_files.specs.Intake.{IsRead, IsLost}
 use Rattle.guard_files.specs.Writing.{TellsLine, TellsText, Tells, Writes}
-use Rattle.guard_messages.specs.declared.finding.Unfound.{Unfound}
-use Rattle.guard_messages.specs.declared.finding.Unfound.TheVariants.{Faulty, TooLong, NoSuchFrame, BadRecord}
+use Rattle.guard_messages.specs.declared.unfound.Unfound.{Unfound}
+use Rattle.guard_messages.specs.declared.unfound.Unfound.TheVariants.{BadHex, Faulty, TooLong, NoSuchFrame, BadRecord}
 use Rattle.guard_messages.specs.Linked.{IsNthOfLink, EndsBefore, IsTornBefore, IsTooLongBefore, IsBadBefore, IsLostBefore}
 use Rattle.guard_messages.specs.Numbered.{IsNatural, IsNumber, IsNth, HasFewer, StopsBefore}
-use Rattle.guard_messages.specs.Questions.{AbstractSpot, kept, framed, linked}
+use Rattle.guard_messages.specs.Questions.{AbstractSpot, written, kept, framed, linked}
 
 -- ---- all that is at a path
 
@@ -36,6 +42,7 @@ IsNotKeptBy false told path input _ = ⊥
 
 -- the frame of what comes in, its length octets included
 abbrev pub IsFrameAt : AbstractSpot → Input → List ℕ → Type 0
+IsFrameAt (written digits) input frame = ⊥
 IsFrameAt (kept path) input frame = ⊥
 IsFrameAt (framed word) input frame = (n : ℕ) × IsNumber word n × IsNth n input frame
 IsFrameAt (linked number word) input frame =
@@ -47,12 +54,28 @@ IsBodyAt spot input octets = (frame : List ℕ) × IsFrameAt spot input frame ×
 
 -- A message has 1,048,576 octets at most. Of a frame they are those behind its length.
 abbrev pub IsFound : Told → AbstractSpot → Input → List ℕ → Told → Type 0
+IsFound told (written digits) input octets later = (decode_of digits ≡ Ok octets) × (later ≡ told)
 IsFound told (kept path) input octets later =
     IsKeptBy (is_input path) told path input octets later × (length octets ≤ 1048576)
 IsFound told (framed word) input octets later = IsBodyAt (framed word) input octets × (later ≡ told)
 IsFound told (linked number word) input octets later = IsBodyAt (linked number word) input octets × (later ≡ told)
 
+-- nothing is read for digits
+abbrev pub LeavesInput : AbstractSpot → Input → Type 0
+LeavesInput (written digits) input = IsUnread input
+LeavesInput (kept path) input = Unit {0}
+LeavesInput (framed word) input = Unit {0}
+LeavesInput (linked number word) input = Unit {0}
+
+-- the digits write none
+abbrev pub IsBadHexAt : AbstractSpot → Type 0
+IsBadHexAt (written digits) = (e : FromHexError) × (decode_of digits ≡ Err e)
+IsBadHexAt (kept path) = ⊥
+IsBadHexAt (framed word) = ⊥
+IsBadHexAt (linked number word) = ⊥
+
 abbrev pub IsTooLongAt : Told → AbstractSpot → Input → Type 0
+IsTooLongAt told (written digits) input = ⊥
 IsTooLongAt told (kept path) input =
     (octets : List ℕ) × (later : Told) × IsKeptBy (is_input path) told path input octets later × (1048576 < length octets)
 IsTooLongAt told (framed word) input = ⊥
@@ -60,6 +83,7 @@ IsTooLongAt told (linked number word) input = ⊥
 
 -- the word is no number of a frame, or there are fewer frames
 abbrev pub HasNoSuchFrame : AbstractSpot → Input → Type 0
+HasNoSuchFrame (written digits) input = ⊥
 HasNoSuchFrame (kept path) input = ⊥
 HasNoSuchFrame (framed word) input =
     (((n : ℕ) → IsNumber word n → ⊥) × IsUnread input) ⊎ ((n : ℕ) × IsNumber word n × HasFewer n input)
@@ -76,6 +100,7 @@ StopsLink WriteFailed link n input = ⊥
 StopsLink OutOfMemory link n input = ⊥
 
 abbrev pub IsFaultyAt : Told → AbstractSpot → Input → Fault → Type 0
+IsFaultyAt told (written digits) input f = ⊥
 IsFaultyAt told (kept path) input f = IsNotKeptBy (is_input path) told path input f
 IsFaultyAt told (framed word) input (Run f) = (n : ℕ) × IsNumber word n × StopsBefore f n input
 IsFaultyAt told (framed word) input _ = ⊥
@@ -85,6 +110,7 @@ IsFaultyAt told (linked number word) input _ = ⊥
 
 -- what comes in is no record, or is cut short
 abbrev pub IsBadAt : AbstractSpot → Input → Type 0
+IsBadAt (written digits) input = ⊥
 IsBadAt (kept path) input = ⊥
 IsBadAt (framed word) input = ⊥
 IsBadAt (linked number word) input =
@@ -92,29 +118,44 @@ IsBadAt (linked number word) input =
 
 -- why they can't be had; that memory ran out may come in place of any answer
 abbrev pub IsUnfound : Told → AbstractSpot → Input → Unfound → Type 0
+IsUnfound told spot input BadHex = IsBadHexAt spot
 IsUnfound told spot input (Faulty f) = IsFaultyAt told spot input f ⊎ (f ≡ NoMemory)
 IsUnfound told spot input TooLong = IsTooLongAt told spot input
 IsUnfound told spot input NoSuchFrame = HasNoSuchFrame spot input
 IsUnfound told spot input BadRecord = IsBadAt spot input
 
+-- why no record could be read
+abbrev pub of_stop : Stop → Unfound
+of_stop stop.BadRecord = BadRecord
+of_stop stop.ReadFailed = Faulty (Run ReadFailed)
+of_stop stop.WriteFailed = Faulty (Run ReadFailed)
+of_stop stop.ErrorFailed = Faulty (Run ReadFailed)
+
 -- ---- what comes of it
 
+-- with what is to be done, where that is to be explained
+abbrev pub TellsBadHex : Bool → Device → ℕ → Type 0
+TellsBadHex false err status = Tells fault.BadHex err status
+TellsBadHex true err status = TellsWith fault.BadHex hex_note err status
+
 -- what is reported, and the status
-abbrev pub TellsUnfound : Unfound → Device → ℕ → Type 0
-TellsUnfound (Faulty f) err status = Tells f err status
-TellsUnfound TooLong err status = TellsText (codes "message too long") 2 err status
-TellsUnfound NoSuchFrame err status = TellsText (codes "no such frame") 2 err status
-TellsUnfound BadRecord err status = TellsLine (codes "bad record") 3 err status
+abbrev pub TellsUnfound : Bool → Unfound → Device → ℕ → Type 0
+TellsUnfound explain BadHex err status = TellsBadHex explain err status
+TellsUnfound explain (Faulty f) err status = Tells f err status
+TellsUnfound explain TooLong err status = TellsText (codes "message too long") 2 err status
+TellsUnfound explain NoSuchFrame err status = TellsText (codes "no such frame") 2 err status
+TellsUnfound explain BadRecord err status = TellsLine (codes "bad record") 3 err status
 
 -- The frame goes out as it came; or why not is reported.
 abbrev pub CapturesFrame : Told → AbstractSpot → Input → Device → Device → ℕ → Type 0
 CapturesFrame told spot input out err status =
     ((frame : List ℕ) × IsFrameAt spot input frame × Writes frame 0 out err status)
-    ⊎ ((u : Unfound) × IsUnfound told spot input u × IsUntouched out × TellsUnfound u err status)
+    ⊎ ((u : Unfound) × IsUnfound told spot input u × IsUntouched out × TellsUnfound false u err status)
 
 -- The octets are had, and answered by what reads of files to come find; or why not is reported.
-abbrev pub AnswersFound : (Told → List ℕ → Device → Device → ℕ → Type 0) → Told → AbstractSpot → Input → Device → Device
-    → ℕ → Type 0
-AnswersFound IsAnswered told spot input out err status =
-    ((octets : List ℕ) × (later : Told) × IsFound told spot input octets later × IsAnswered later octets out err status)
-    ⊎ ((u : Unfound) × IsUnfound told spot input u × IsUntouched out × TellsUnfound u err status)
+abbrev pub AnswersFound : Bool → (Told → List ℕ → Device → Device → ℕ → Type 0) → Told → AbstractSpot → Input → Device
+    → Device → ℕ → Type 0
+AnswersFound explain IsAnswered told spot input out err status =
+    LeavesInput spot input
+    × (((octets : List ℕ) × (later : Told) × IsFound told spot input octets later × IsAnswered later octets out err status)
+    ⊎ ((u : Unfound) × IsUnfound told spot input u × IsUntouched out × TellsUnfound explain u err status))

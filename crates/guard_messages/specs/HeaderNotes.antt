@@ -4,7 +4,7 @@ use Rattle.std.specs.Prelude.{ℕ, ◌||◌, List, [], ◌∷◌, ◌++◌, code
 use Rattle.hex.specs.Hex.{encode_upper}
 use Rattle.guard_policy.specs.Names.{is_name}
 use Rattle.guard_frames.specs.Bodies.{AbstractBody}
-use Rattle.guard_messages.specs.Questions.{AbstractSpot, kept, framed, linked}
+use Rattle.guard_messages.specs.Questions.{AbstractSpot, written, kept, framed, linked}
 
 -- the first octet that is no name where it stands alone, as each octet of a name is
 abbrev pub first_other : List ℕ → Option ℕ
@@ -76,8 +76,9 @@ abbrev pub frame_note : Option AbstractBody → List ℕ → List ℕ
 frame_note (Some b) body = name_lines parts body
 frame_note None body = header_note body
 
--- what is shown of the octets at a spot: those of a file are no frame
+-- what is shown of the octets at a spot: those of digits or a file are no frame
 abbrev pub spot_note : AbstractSpot → Option AbstractBody → List ℕ → List ℕ
+spot_note (written digits) held octets = []
 spot_note (kept path) held octets = []
 spot_note (framed number) held octets = frame_note held octets
 spot_note (linked link number) held octets = frame_note held octets

@@ -13,9 +13,12 @@ pub mod Reasons
 pub mod HeaderNotes
 -- ---- what is listed of a policy, what is shown of a message
 pub mod PartsBefore
+pub mod ValueJson
 pub mod Shown
 -- ---- what decides or shows one message
 pub mod Decided
 pub mod Deciding
 -- ---- what only private contracts and proofs cite
 pub mod inside
+-- ---- worked examples
+pub mod rows

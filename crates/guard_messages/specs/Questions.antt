@@ -4,12 +4,10 @@ use Rattle.std.specs.Option.{option_map}
 use Rattle.guard_policy.specs.Policies.{AbstractRoute}
 use Rattle.guard_messages.specs.declared.question.Question.{Question}
 use Rattle.guard_messages.specs.declared.question.Spot.{Spot}
-use Rattle.guard_messages.specs.declared.question.Spot.TheVariants as code_spot
-use Rattle.guard_messages.specs.declared.question.Place.{Place}
-use Rattle.guard_messages.specs.declared.question.Place.TheVariants as code
+use Rattle.guard_messages.specs.declared.question.Spot.TheVariants as code
 
 -- What the words give. HEX is digits, `--der` a path, `--frame` the number of a frame that comes in, and `--link` that
--- of its link. `--capture` asks for the frame itself.
+-- of its link. `--capture` asks for the frame itself, `--json` for the value as JSON.
 pub record AbstractQuestion : Type 0 where
   pub policy : List ℕ
   pub from : Option (List ℕ)
@@ -21,6 +19,7 @@ pub record AbstractQuestion : Type 0 where
   pub link : Option (List ℕ)
   pub explain : Bool
   pub capture : Bool
+  pub json : Bool
 
 abbrev pub question_view : Question → AbstractQuestion
 question_view q =
@@ -35,6 +34,7 @@ question_view q =
       link = option_map (λ number. number.now) q.link;
       explain = q.explain;
       capture = q.capture;
+      json = q.json;
     }
 
 -- the names that the words give of the route
@@ -45,6 +45,8 @@ asked_route q =
 -- ---- where the octets are
 
 pub data AbstractSpot : Type 0 where
+  -- in these hexadecimal digits
+  written : List ℕ → AbstractSpot
   -- all that is at this path
   kept : List ℕ → AbstractSpot
   -- in the frame of this number
@@ -52,49 +54,39 @@ pub data AbstractSpot : Type 0 where
   -- in that of the link of this number, the link first
   linked : List ℕ → List ℕ → AbstractSpot
 
-pub data AbstractPlace : Type 0 where
-  -- in these digits
-  written : List ℕ → AbstractPlace
-  elsewhere : AbstractSpot → AbstractPlace
-  -- the words don't say where, or say more than one place
-  nowhere : AbstractPlace
-
-abbrev pub octets_place : Option (List ℕ) → Option (List ℕ) → AbstractPlace
-octets_place None None = nowhere
-octets_place None (Some path) = elsewhere (kept path)
-octets_place (Some digits) None = written digits
-octets_place (Some digits) (Some path) = nowhere
+-- the one of the two that is given
+abbrev pub octets_spot : Option (List ℕ) → Option (List ℕ) → Option AbstractSpot
+octets_spot None None = None
+octets_spot None (Some path) = Some (kept path)
+octets_spot (Some digits) None = Some (written digits)
+octets_spot (Some digits) (Some path) = None
 
 abbrev pub frame_spot : List ℕ → Option (List ℕ) → AbstractSpot
 frame_spot number None = framed number
 frame_spot number (Some link) = linked link number
 
 -- By whether all names are given that the command takes, and whether some are: HEX or `--der` comes with all of them,
--- `--frame` with none, and `--link` with `--frame`.
-abbrev pub place_by : Bool → Bool → Option (List ℕ) → Option (List ℕ) → Option (List ℕ) → Option (List ℕ)
-    → AbstractPlace
-place_by all some None link hex der = if all && is_none link then octets_place hex der else nowhere
-place_by all some (Some number) link hex der =
-    if some || is_some hex || is_some der then nowhere else elsewhere (frame_spot number link)
+-- `--frame` with none, and `--link` with `--frame`. Other words don't say where, or say more than one place.
+abbrev pub spot_by : Bool → Bool → Option (List ℕ) → Option (List ℕ) → Option (List ℕ) → Option (List ℕ)
+    → Option AbstractSpot
+spot_by all some None link hex der = if all && is_none link then octets_spot hex der else None
+spot_by all some (Some number) link hex der =
+    if some || is_some hex || is_some der then None else Some (frame_spot number link)
 
 -- `decide` takes all three names
-abbrev pub decide_place : AbstractQuestion → AbstractPlace
-decide_place q =
-    place_by (is_some q.from && is_some q.to && is_some q.message) (is_some q.from || is_some q.to || is_some q.message)
+abbrev pub decide_spot : AbstractQuestion → Option AbstractSpot
+decide_spot q =
+    spot_by (is_some q.from && is_some q.to && is_some q.message) (is_some q.from || is_some q.to || is_some q.message)
     q.frame q.link q.hex q.der
 
 -- `show` takes that of the message
-abbrev pub show_place : AbstractQuestion → AbstractPlace
-show_place q = place_by (is_some q.message) (is_some q.message) q.frame q.link q.hex q.der
+abbrev pub show_spot : AbstractQuestion → Option AbstractSpot
+show_spot q = spot_by (is_some q.message) (is_some q.message) q.frame q.link q.hex q.der
 
 -- ---- as the code has it
 
 abbrev pub spot_view : Spot → AbstractSpot
-spot_view (code_spot.Kept path) = kept path.now
-spot_view (code_spot.Framed number) = framed number.now
-spot_view (code_spot.Linked link number) = linked link.now number.now
-
-abbrev pub place_view : Place → AbstractPlace
-place_view (code.Written digits) = written digits.now
-place_view (code.Elsewhere spot) = elsewhere (spot_view spot)
-place_view code.Nowhere = nowhere
+spot_view (code.Written digits) = written digits.now
+spot_view (code.Kept path) = kept path.now
+spot_view (code.Framed number) = framed number.now
+spot_view (code.Linked link number) = linked link.now number.now

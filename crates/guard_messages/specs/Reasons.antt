@@ -9,7 +9,6 @@ use Rattle.guard_model.specs.declared.site.Step.TheVariants.{Component, Element}
 use Rattle.guard_model.specs.AbstractType.{AbstractType}
 use Rattle.guard_model.specs.AbstractValue.{AbstractValue}
 use Rattle.guard_eval.specs.Violations.{AbstractViolation}
-use Rattle.guard_policy.specs.Decisions.{allows}
 use Rattle.guard_policy.specs.Policies.{AbstractPolicy, AbstractRoute, AbstractRule}
 use Rattle.guard_policy.specs.Verdicts.{AbstractVerdict, pass, unknown_message, undecodable, outside_type, denied_by, not_allowed, no_rule}
 use Rattle.guard_report.specs.Parts.{part_octets}
@@ -76,16 +75,12 @@ abbrev pub lines_of_places : AbstractSources → List Site → List ℕ
 lines_of_places s [] = []
 lines_of_places s (site ∷ sites) = place_lines s (At site) ++ lines_of_places s sites
 
--- of the constraints on a whole value of the rule's type
-abbrev pub type_lines : AbstractSources → Option AbstractRule → List ℕ
-type_lines s None = []
-type_lines s (Some r) = lines_of_places s (places_of r.ty)
-
--- of the rule of this number, from 0: its type, where that is assigned and constrained, and what follows for the value
-abbrev pub denied_lines : AbstractGrounds → ℕ → Option AbstractRule → List ℕ
-denied_lines g number rule =
-    rule_type_lines g number
-    ++ (type_lines g.sources rule
+-- its type, where that is assigned and constrained, and what follows for the value
+abbrev pub denied_lines : AbstractGrounds → Option AbstractRule → List ℕ
+denied_lines g None = []
+denied_lines g (Some r) =
+    rule_type_lines g r
+    ++ (lines_of_places g.sources (places_of r.ty)
     ++ codes "  This denying rule has the value, so no allowing rule can let it pass.\n")
 
 -- ---- a verdict
@@ -100,7 +95,7 @@ ExplainsVerdict g p route octets (undecodable b) note =
 ExplainsVerdict g p route octets (outside_type w) note =
     OfValue p route.message octets (λ t v. note ≡ violation_lines g.sources t v w)
 ExplainsVerdict g p route octets (denied_by i) note =
-    OfValue p route.message octets (λ t v. note ≡ denied_lines g i (slice_get p.rules i) ++ part_line t v [])
+    OfValue p route.message octets (λ t v. note ≡ denied_lines g (slice_get p.rules i) ++ part_line t v [])
 ExplainsVerdict g p route octets (not_allowed rs) note =
     OfValue p route.message octets (λ t v. note ≡ shortfall_lines g.sources t v rs)
 ExplainsVerdict g p route octets no_rule note =

@@ -1,39 +1,24 @@
--- The type of a rule, by the names that the policy's text has for it, and where a module assigns it.
-use Rattle.std.specs.Prelude.{ℕ, List, [], ◌∷◌, ◌++◌, codes, map, bytes_eq, unwrap_or, Option, Some, None, if◌then◌else◌}
-use Rattle.toml.specs.Data.{Members}
-use Rattle.toml.specs.View.{table_view}
+-- The type of a rule, by its names, and where a module assigns it.
+use Rattle.std.specs.Prelude.{ℕ, List, [], ◌∷◌, ◌++◌, codes, map, bytes_eq, Option, Some, None, if◌then◌else◌}
 use Rattle.guard_model.specs.declared.site.Site.{Site}
 use Rattle.guard_syntax.specs.ModuleViews.{module_view}
 use Rattle.guard_syntax.specs.Trees.{WrittenAssignment, WrittenModule}
-use Rattle.guard_policy.specs.declared.entry.Key.{Key}
-use Rattle.guard_policy.specs.declared.entry.Key.TheVariants as key
-use Rattle.guard_notes.specs.PolicyNotes.{item_at, listed, word_at}
+use Rattle.guard_policy.specs.Policies.{AbstractRule}
 use Rattle.guard_notes.specs.Sources.{AbstractSources, place_lines, sources_view}
 use Rattle.guard_notes.specs.declared.notes.Place.TheVariants.{At}
 use Rattle.guard_messages.specs.declared.rule_types.Grounds.{Grounds}
 
--- What a verdict is explained over: the texts, what that of the policy has at its keys, and the trees of the modules.
+-- What a verdict is explained over: the texts, and the trees of the modules.
 pub record AbstractGrounds : Type 0 where
   pub sources : AbstractSources
-  pub top : Members
   pub modules : List WrittenModule
 
 abbrev pub grounds_view : Grounds → AbstractGrounds
-grounds_view g = record {
-  sources = sources_view g.sources;
-  top = table_view g.top.now;
-  modules = map module_view g.modules.now;
-}
-
--- ---- its names
-
--- what is written at a key of the rule of this number, from 0
-abbrev pub rule_word : Key → ℕ → Members → List ℕ
-rule_word k number top = unwrap_or (word_at k (item_at number (listed key.Rule top))) []
+grounds_view g = record { sources = sources_view g.sources; modules = map module_view g.modules.now }
 
 -- `  type Orders.Big`: the module, and the type
-abbrev pub type_line : List ℕ → List ℕ → List ℕ
-type_line home name = codes "  type " ++ (home ++ (codes "." ++ (name ++ codes "\n")))
+abbrev pub type_line : AbstractRule → List ℕ
+type_line r = codes "  type " ++ (r.home ++ (codes "." ++ (r.type_name ++ codes "\n")))
 
 -- ---- where it is assigned
 
@@ -55,10 +40,5 @@ site_lines s (Some site) = place_lines s (At site)
 
 -- ---- both
 
-abbrev pub named_lines : AbstractGrounds → List ℕ → List ℕ → List ℕ
-named_lines g home name = type_line home name ++ site_lines g.sources (assigned_at home name g.modules)
-
--- of the rule of this number, from 0
-abbrev pub rule_type_lines : AbstractGrounds → ℕ → List ℕ
-rule_type_lines g number =
-    named_lines g (rule_word key.Module number g.top) (rule_word key.TypeName number g.top)
+abbrev pub rule_type_lines : AbstractGrounds → AbstractRule → List ℕ
+rule_type_lines g r = type_line r ++ site_lines g.sources (assigned_at r.home r.type_name g.modules)

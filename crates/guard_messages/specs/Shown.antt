@@ -1,18 +1,20 @@
 -- What is answered to `show`: the value that the octets of a message encode, as ASN.1 writes it, or how far they are an
--- encoding.
-use Rattle.std.specs.Prelude.{◌≡◌, ◌⊎◌, ℕ, Bool, true, false, List, [], ◌++◌, codes, IsTrue, Some, None, Ok}
-use Rattle.hex.specs.Hex.{decode_of}
+-- encoding; or that value as JSON.
+use Rattle.std.specs.Prelude.{◌≡◌, ◌⊎◌, ℕ, Bool, true, false, List, [], ◌++◌, codes, IsTrue, Some, None}
 use Rattle.guard_model.specs.AbstractType.{AbstractType}
 use Rattle.guard_model.specs.AbstractValue.{AbstractValue}
 use Rattle.guard_der.specs.Breach.{AbstractBreach, IsBreach}
 use Rattle.guard_der.specs.Der.{der}
 use Rattle.guard_der.specs.Fits.{fits}
-use Rattle.guard_policy.specs.Policies.{AbstractPolicy, declared_type}
+use Rattle.json.specs.Print.{print}
+use Rattle.guard_policy.specs.Policies.{AbstractPolicy, AbstractRoute, declared_type}
+use Rattle.guard_policy.specs.Verdicts.{AbstractVerdict, unknown_message, undecodable}
+use Rattle.guard_report.specs.Text.{verdict_octets}
 use Rattle.guard_report.specs.Shown.{AbstractShown, shown_value, shown_undecodable, value_shown, breach_shown}
+use Rattle.guard_files.specs.Allowed.{OfValue}
 use Rattle.guard_files.specs.Answers.{AbstractAnswer}
-use Rattle.guard_files.specs.Files.{Told}
-use Rattle.guard_files.specs.Reading.{IsPolicyAt}
 use Rattle.guard_messages.specs.PartsBefore.{AreLinesBefore}
+use Rattle.guard_messages.specs.ValueJson.{value_json}
 
 -- the octets are the encoding of a value of the type, and it is shown; or they break the rules, and it is shown where
 abbrev pub IsShown : AbstractType → List ℕ → AbstractShown → Type 0
@@ -44,8 +46,24 @@ ShowsMessage explain p message octets a =
     × IsShown t octets shown × ComesBefore explain t octets lines
     × (a.out ≡ lines ++ (shown_octets shown ++ codes "\n")) × (a.status ≡ shown_status shown))
 
--- of the octets that the digits write, under the policy at the path
-abbrev pub IsShownAt : Bool → Told → List ℕ → List ℕ → List ℕ → AbstractAnswer → Type 0
-IsShownAt explain told path message digits a =
-    (octets : List ℕ) × (p : AbstractPolicy) × (decode_of digits ≡ Ok octets) × IsPolicyAt told path p
-    × ShowsMessage explain p message octets a
+-- ---- as JSON
+
+-- the verdict that says that the octets have no value
+abbrev pub HasNoValue : AbstractPolicy → List ℕ → List ℕ → AbstractVerdict → Type 0
+HasNoValue p message octets w =
+    ((declared_type p message ≡ None) × (w ≡ unknown_message))
+    ⊎ ((t : AbstractType) × (b : AbstractBreach) × (declared_type p message ≡ Some t) × IsBreach t octets b
+    × (w ≡ undecodable b))
+
+-- the value on a line; where there is none, the text of the verdict, as `decide` has it
+abbrev pub ShowsJson : AbstractPolicy → AbstractRoute → List ℕ → AbstractAnswer → Type 0
+ShowsJson p route octets a =
+    OfValue p route.message octets
+    (λ t v. (a.out ≡ print (value_json (Some t) v) ++ codes "\n") × (a.status ≡ 0))
+    ⊎ ((w : AbstractVerdict) × HasNoValue p route.message octets w × (a.out ≡ verdict_octets p route w ++ codes "\n")
+    × (a.status ≡ 1))
+
+-- by whether that is asked for, and whether octets that break the rules are to be explained
+abbrev pub ShowsIn : Bool → Bool → AbstractPolicy → AbstractRoute → List ℕ → AbstractAnswer → Type 0
+ShowsIn true explain p route octets = ShowsJson p route octets
+ShowsIn false explain p route octets = ShowsMessage explain p route.message octets

@@ -1,83 +1,32 @@
 //! What becomes of one message.
-ghost use Rattle.std.specs.Prelude.{◌≡◌, ◌⊎◌, ◌++◌, [], map, option_map, string_bytes, Ok, Err, IfOk, IfErr};
-ghost use Rattle.hex.specs.Hex.{decode_of};
-ghost use Rattle.hex.specs.declared.error.FromHexError.{FromHexError};
+ghost use Rattle.std.specs.Prelude.{◌≡◌, ◌⊎◌, ◌++◌, [], map, option_map, string_bytes, IfOk, IfErr};
 ghost use Rattle.guard_policy.specs.PolicyView.{policy_view, route_view};
 ghost use Rattle.guard_policy.specs.Verdicts.{verdict_view};
 ghost use Rattle.guard_frames.specs.Bodies.{body_view};
-ghost use Rattle.guard_policy.specs.Documents.{IsDocument};
-ghost use Rattle.guard_schema.specs.Accepts.{ReadsModules};
-ghost use Rattle.guard_schema.specs.Texts.{AreOfTexts};
 ghost use Rattle.guard_syntax.specs.ModuleViews.{module_view};
-ghost use Rattle.toml.specs.Data.{Members};
 ghost use Rattle.guard_notes.specs.Sources.{sources};
 ghost use Rattle.guard_files.specs.Answers.{answer_view};
 ghost use Rattle.guard_files.specs.Explaining.{IsExplained, IsExplanation};
 ghost use Rattle.guard_files.specs.Reading.{SayNothing, SayNoneLoaded};
-ghost use Rattle.guard_files.specs.declared.fault.Fault.TheVariants.{BadHex, NoMemory};
-ghost use Rattle.guard_messages.specs.Decided.{verdict_status, IsVerdict, IsDecided, IsUndecided, IsExplainedVerdict};
-ghost use Rattle.guard_messages.specs.Decided.{IsFoundExplained, IsHeldExplained, IsExplainedBy, IsExplainedOver};
-ghost use Rattle.guard_messages.specs.Decided.{IsDecidedExplained, OfHeld, IsUndecidedExplained};
+ghost use Rattle.guard_files.specs.declared.fault.Fault.TheVariants.{NoMemory};
+ghost use Rattle.guard_messages.specs.Decided.{verdict_status, IsVerdict, IsExplainedVerdict, OfHeld};
+ghost use Rattle.guard_messages.specs.Decided.{IsFoundExplained, IsHeldExplained, IsExplainedOver};
 ghost use Rattle.guard_messages.specs.HeaderNotes.{spot_note};
 ghost use Rattle.guard_messages.specs.Questions.{spot_view};
 ghost use Rattle.guard_messages.specs.RuleTypes.{grounds_view};
 
 use crate::header_notes::spot_note;
-use crate::holding::{bad_header, body_of, route_in};
+use crate::holding::{bad_header, route_in};
 use crate::question::Spot;
 use crate::reasons::verdict_note;
-use crate::rule_types::{Grounds, document_of};
-use guard_files::{
-    Answer, Fault, Files, Loaded, Refusal, Texts, add, load, read_explained, sources_of,
-    sources_of_path,
-};
+use crate::rule_types::Grounds;
+use guard_files::{Answer, Fault, Files, Loaded, Refusal, Texts, add, read_explained, sources_of};
 use guard_frames::Body;
 use guard_model::OutOfMemory;
 use guard_policy::{Policy, Route, Verdict};
 use guard_report::verdict_text;
 use guard_syntax::Module;
-use hex::FromHexError;
 use std::alloc::Global;
-
-/// The text of the verdict on a message whose octets the digits write, under the policy at the path; or why it isn't
-/// decided. Bad digits come before all that is wrong with the policy.
-pub fn decide<F: Files>(
-    alloc: Global,
-    path: &str,
-    route: &Route,
-    digits: &str,
-    files: &mut F,
-) -> Result<Answer, Fault>
-    ensures decided { IfOk result (λ a. IsDecided (F.told files.old) path.now (route_view route.now) digits.now
-        (answer_view a)) }
-    ensures undecided { IfErr result (IsUndecided (F.told files.old) path.now digits.now) }
-{
-    let octets = octets_of(alloc, digits)?;
-    let policy = load(alloc, path, files)?;
-    Ok(verdict_on(alloc, &policy, route, &octets)?)
-}
-
-/// The text of the verdict, with what explains it; or why it isn't decided, with what explains the fault.
-pub fn decide_explained<F: Files>(
-    alloc: Global,
-    path: &str,
-    route: &Route,
-    digits: &str,
-    files: &mut F,
-) -> Result<Answer, Refusal>
-    ensures decided { IfOk result (λ a. IsDecidedExplained (F.told files.old) path.now (route_view route.now) digits.now
-        (answer_view a)) }
-    ensures undecided { IfErr result
-        (λ r. IsUndecidedExplained (F.told files.old) path.now digits.now r.fault (string_bytes r.note)) }
-{
-    match octets_of(alloc, digits) {
-        Ok(octets) => {
-            let body = body_of(route.from, route.to, route.message, &octets);
-            explain_held(alloc, path, Some(body), files)
-        }
-        Err(fault) => Err(Refusal::new(alloc, &sources_of_path(path), &[], fault)),
-    }
-}
 
 /// The explained verdict on the message that the octets at the spot hold; or why they hold none.
 pub fn explain_found<F: Files>(
@@ -178,62 +127,14 @@ fn explained_over(
     ensures undecided { IfErr result (SayNoneLoaded
         (map (λ text. text.items) texts.now.modules.items) texts.now.policy.items) }
 {
-    match texts.trees(alloc) {
-        Ok(modules) => explained_by_modules(alloc, path, held, texts, &modules),
-        Err(fault) => Err(fault),
-    }
-}
-
-/// The explained verdict over these texts, whose modules have these trees.
-fn explained_by_modules(
-    alloc: Global,
-    path: &str,
-    held: Option<Body>,
-    texts: &Texts,
-    modules: &[Module],
-) -> Result<Answer, Fault>
-    requires kept { AreOfTexts (map module_view modules.now) }
-    requires read { ReadsModules (map (λ text. text.items) texts.now.modules.items)
-        (Ok (map module_view modules.now)) }
-    ensures decided { IfOk result (λ a. IsExplainedOver
-        (sources path.now (map string_bytes texts.now.files.items)
-        (map (λ text. text.items) texts.now.modules.items))
-        texts.now.policy.items (option_map body_view held.entry) (answer_view a)) }
-    ensures undecided { IfErr result (SayNoneLoaded
-        (map (λ text. text.items) texts.now.modules.items) texts.now.policy.items) }
-{
-    match Loaded::of(alloc, modules, &texts.policy) {
-        Ok(loaded) => {
-            let answer = explained_by(alloc, path, held, texts, modules, &loaded.policy)?;
-            Ok(answer)
-        }
-        Err(fault) => Err(fault),
-    }
-}
-
-/// The explained verdict under this policy, whose text is a document.
-fn explained_by(
-    alloc: Global,
-    path: &str,
-    held: Option<Body>,
-    texts: &Texts,
-    modules: &[Module],
-    policy: &Policy,
-) -> Result<Answer, OutOfMemory>
-    requires { (top : Members) × IsDocument texts.now.policy.items top }
-    ensures { IfOk result (λ a. IsExplainedBy
-        (sources path.now (map string_bytes texts.now.files.items)
-        (map (λ text. text.items) texts.now.modules.items))
-        texts.now.policy.items (map module_view modules.now) (policy_view policy.now)
-        (option_map body_view held.entry) (answer_view a)) }
-{
-    let top = document_of(alloc, &texts.policy)?;
+    let modules = texts.trees(alloc)?;
+    let loaded = Loaded::of(alloc, &modules, &texts.policy)?;
     let grounds = Grounds {
         sources: sources_of(path, texts),
-        top: &top,
-        modules,
+        modules: &modules,
     };
-    explained_answer(alloc, &grounds, policy, held)
+    let answer = explained_answer(alloc, &grounds, &loaded.policy, held)?;
+    Ok(answer)
 }
 
 /// The explained verdict on a message that is held, under the policy.
@@ -304,18 +205,5 @@ fn status_of(verdict: &Verdict) -> u8
     match verdict {
         Verdict::Pass => 0,
         _ => 1,
-    }
-}
-
-/// The octets that the digits write, in either case.
-pub fn octets_of(alloc: Global, digits: &str) -> Result<Vec<u8>, Fault>
-    ensures octets { IfOk result (λ octets. decode_of digits.now ≡ Ok octets.items) }
-    ensures bad { IfErr result (λ f. ((f ≡ BadHex) × ((e : FromHexError) × (decode_of digits.now ≡ Err e)))
-        ⊎ (f ≡ NoMemory)) }
-{
-    match hex::decode(alloc, digits) {
-        Ok(octets) => Ok(octets),
-        Err(FromHexError::OutOfMemory) => Err(Fault::NoMemory),
-        Err(_) => Err(Fault::BadHex),
     }
 }

@@ -1,58 +1,26 @@
-//! The octets of a message that is in a file or comes in.
+//! The octets of a message that is written, is in a file or comes in.
 ghost use Rattle.std.specs.Prelude.{◌≡◌, ◌≤◌, ◌⊎◌, drop, length, IfOk, IfErr};
 ghost use Rattle.guard_frames.specs.declared.running.RunFault.TheVariants.{ReadFailed};
-ghost use Rattle.guard_files.specs.Devices.{source_of, device_of};
+ghost use Rattle.guard_files.specs.Devices.{Input, source_of};
 ghost use Rattle.guard_files.specs.Files.{Told};
 ghost use Rattle.guard_files.specs.Intake.{IsRead, IsLost};
 ghost use Rattle.guard_files.specs.declared.fault.Fault.TheVariants.{Run, NoMemory};
 ghost use Rattle.guard_messages.specs.Finding.{is_input, IsFrameAt, IsKeptBy, IsNotKeptBy, IsFound, IsUnfound};
-ghost use Rattle.guard_messages.specs.Finding.{TellsUnfound};
-ghost use Rattle.guard_messages.specs.Questions.{spot_view, kept, framed, linked};
-ghost use Rattle.guard_messages.specs.declared.finding.Unfound.TheVariants as unfound;
-ghost use Rattle.guard_messages.specs.inside.Passed.{unfound_of};
+ghost use Rattle.guard_messages.specs.Finding.{LeavesInput};
+ghost use Rattle.guard_messages.specs.Questions.{spot_view, written, kept, framed, linked};
 
-use crate::linked::{Unlinked, linked_frame};
+use crate::linked::linked_frame;
 use crate::numbered::{natural_in, nth_frame, number_in};
 use crate::question::Spot;
-use guard_files::{
-    Fault, Files, Unread, new_frame_room, new_room, read_all, read_front, tell, tell_bad_record,
-    tell_text,
-};
-use guard_frames::{LENGTH_OCTETS, RunFault, Sink, Source};
+use crate::unfound::Unfound;
+use guard_files::{Fault, Files, Unread, new_frame_room, new_room, read_all, read_front};
+use guard_frames::{LENGTH_OCTETS, RunFault, Source};
 use guard_model::OutOfMemory;
+use hex::FromHexError;
 use std::alloc::Global;
 
 /// The most octets of a message.
 const MOST: usize = 1_048_576;
-
-/// Why the octets of a message can't be had.
-#[derive(Debug, Drop)]
-pub enum Unfound {
-    /// The file can't be read, standard input failed or isn't frames, or memory ran out.
-    Faulty(Fault),
-    /// There are more than 1,048,576.
-    TooLong,
-    /// No frame that comes in has the number.
-    NoSuchFrame,
-    /// What comes in is no record, or is cut short by the end.
-    BadRecord,
-}
-
-impl From<Fault> for Unfound {
-    ghost from_gives = { λ f e. e ≡ unfound.Faulty f };
-
-    fn from(fault: Fault) -> Unfound {
-        Unfound::Faulty(fault)
-    }
-}
-
-impl From<OutOfMemory> for Unfound {
-    ghost from_gives = { λ _ e. e ≡ unfound.Faulty NoMemory };
-
-    fn from(_e: OutOfMemory) -> Unfound {
-        Unfound::Faulty(Fault::NoMemory)
-    }
-}
 
 /// The octets at the spot; of a frame those behind its length.
 pub fn find<F: Files, S: Source>(
@@ -65,11 +33,27 @@ pub fn find<F: Files, S: Source>(
         (source_of S.tells S.takes S.has_failed input.old input.new) octets.items (F.told files.new)) }
     ensures unfound { IfErr result (IsUnfound (F.told files.old) (spot_view spot.now)
         (source_of S.tells S.takes S.has_failed input.old input.new)) }
+    ensures unread { LeavesInput (spot_view spot.now)
+        (source_of S.tells S.takes S.has_failed input.old input.new) }
 {
     match spot {
+        Spot::Written(digits) => written_octets(alloc, digits),
         Spot::Kept(path) => kept_octets(alloc, path, files, input),
         Spot::Framed(number) => framed_octets(alloc, number, input),
         Spot::Linked(link, number) => linked_octets(alloc, link, number, input),
+    }
+}
+
+/// The octets that the digits write, in either case.
+fn written_octets(alloc: Global, digits: &str) -> Result<Vec<u8>, Unfound>
+    ensures found { (told : Told) (input : Input) → IfOk result (λ octets.
+        IsFound told (written digits.now) input octets.items told) }
+    ensures unfound { (told : Told) (input : Input) → IfErr result (IsUnfound told (written digits.now) input) }
+{
+    match hex::decode(alloc, digits) {
+        Ok(octets) => Ok(octets),
+        Err(FromHexError::OutOfMemory) => Err(Unfound::Faulty(Fault::NoMemory)),
+        Err(_) => Err(Unfound::BadHex),
     }
 }
 
@@ -197,23 +181,7 @@ pub fn frame_of_link<S: Source>(
         return Err(Unfound::NoSuchFrame);
     };
     let mut room = new_room(alloc)?;
-    match linked_frame(alloc, input, room.as_mut_slice(), link, number) {
-        Ok(frame) => Ok(frame),
-        Err(reason) => Err(unfound_of(reason)),
-    }
-}
-
-fn unfound_of(reason: Unlinked) -> Unfound
-    ensures { result ≡ unfound_of reason }
-{
-    match reason {
-        Unlinked::Fewer => Unfound::NoSuchFrame,
-        Unlinked::Torn => Unfound::Faulty(Fault::Run(RunFault::TornFrame)),
-        Unlinked::TooLong => Unfound::Faulty(Fault::Run(RunFault::FrameTooLong)),
-        Unlinked::BadRecord => Unfound::BadRecord,
-        Unlinked::Lost => Unfound::Faulty(Fault::Run(RunFault::ReadFailed)),
-        Unlinked::NoMemory => Unfound::Faulty(Fault::NoMemory),
-    }
+    linked_frame(alloc, input, room.as_mut_slice(), link, number)
 }
 
 fn copied(alloc: Global, octets: &[u8]) -> Result<Vec<u8>, OutOfMemory>
@@ -228,16 +196,4 @@ fn body_in(alloc: Global, frame: &[u8]) -> Result<Vec<u8>, OutOfMemory>
     ensures { IfOk result (λ body. body.items ≡ drop 4 frame.now) }
 {
     Ok(Vec::from_slice(alloc, &frame[LENGTH_OCTETS..])?)
-}
-
-/// Reports why the octets can't be had, and answers the status.
-pub fn tell_unfound<E: Sink>(alloc: Global, reason: &Unfound, err: &mut E) -> u8
-    ensures { TellsUnfound reason.now (device_of E.taken E.has_failed err.old err.new) result }
-{
-    match reason {
-        Unfound::Faulty(fault) => tell(alloc, fault, err),
-        Unfound::TooLong => tell_text(alloc, "message too long", 2, err),
-        Unfound::NoSuchFrame => tell_text(alloc, "no such frame", 2, err),
-        Unfound::BadRecord => tell_bad_record(err),
-    }
 }

@@ -20,7 +20,7 @@ const LONGEST: usize = 63;
 /// How many octets of a body are shown.
 const SHOWN: usize = 59;
 
-/// What is shown of the octets at the spot: of those in a file nothing, since they are no frame.
+/// What is shown of the octets at the spot: of those in digits or a file nothing, since they are no frame.
 pub fn spot_note(
     alloc: Global,
     spot: &Spot,
@@ -31,7 +31,7 @@ pub fn spot_note(
         ≡ spot_note (spot_view spot.now) (option_map body_view held.entry) octets.now) }
 {
     match spot {
-        Spot::Kept(_) => Ok(Vec::new(alloc)),
+        Spot::Written(_) | Spot::Kept(_) => Ok(Vec::new(alloc)),
         Spot::Framed(_) | Spot::Linked(_, _) => frame_note(alloc, held, octets),
     }
 }

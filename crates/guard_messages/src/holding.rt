@@ -8,11 +8,11 @@ ghost use Rattle.guard_files.specs.Reading.{IsNoPolicyAt};
 ghost use Rattle.guard_messages.specs.Decided.{body_route, IsHeldDecided, IsVerdict, OfHeld};
 ghost use Rattle.guard_messages.specs.Deciding.{held_in, IsHeldShown};
 ghost use Rattle.guard_messages.specs.Questions.{question_view, asked_route, spot_view};
-ghost use Rattle.guard_messages.specs.Shown.{ShowsMessage};
+ghost use Rattle.guard_messages.specs.Shown.{ShowsIn};
 
 use crate::deciding::verdict_on;
 use crate::question::{Question, Spot};
-use crate::values::show_octets;
+use crate::values::{show_json, show_octets};
 use guard_files::{Answer, Fault, Files, load};
 use guard_frames::{Body, read_body};
 use guard_model::OutOfMemory;
@@ -32,7 +32,7 @@ pub fn held_in<'a>(
         (spot_view spot.now) octets.now }
 {
     match spot {
-        Spot::Kept(_) => Some(body_of(from, to, message, octets)),
+        Spot::Written(_) | Spot::Kept(_) => Some(body_of(from, to, message, octets)),
         Spot::Framed(_) | Spot::Linked(_, _) => read_body(octets),
     }
 }
@@ -107,31 +107,54 @@ fn verdict_answer(alloc: Global, policy: &Policy, held: Option<Body>) -> Result<
 /// The value of a message that is held, under the policy at the path.
 pub fn show_held<F: Files>(
     alloc: Global,
-    path: &str,
+    question: &Question,
     held: Option<Body>,
-    explain: bool,
     files: &mut F,
 ) -> Result<Answer, Fault>
-    ensures shown { IfOk result (λ a. IsHeldShown explain (F.told files.old) path.now
+    ensures shown { IfOk result (λ a. IsHeldShown (question_view question.now) (F.told files.old)
         (option_map body_view held.entry) (answer_view a)) }
-    ensures none { IfErr result (IsNoPolicyAt (F.told files.old) path.now) }
+    ensures none { IfErr result (IsNoPolicyAt (F.told files.old) (question_view question.now).policy) }
 {
-    let policy = load(alloc, path, files)?;
-    Ok(shown_answer(alloc, &policy, held, explain)?)
+    let policy = load(alloc, question.policy, files)?;
+    Ok(shown_answer(alloc, &policy, question, held)?)
 }
 
 fn shown_answer(
     alloc: Global,
     policy: &Policy,
+    question: &Question,
     held: Option<Body>,
-    explain: bool,
 ) -> Result<Answer, OutOfMemory>
-    ensures { IfOk result (λ a.
-        OfHeld (λ route octets. ShowsMessage explain (policy_view policy.now) route.message octets)
+    ensures { IfOk result (λ a. OfHeld
+        (ShowsIn (question_view question.now).json (question_view question.now).explain (policy_view policy.now))
         (option_map body_view held.entry) (answer_view a)) }
 {
     match held {
-        Some(body) => show_octets(alloc, policy, body.name, body.message_octets, explain),
+        Some(body) => show_body(alloc, policy, question, &body),
         None => bad_header(alloc),
+    }
+}
+
+/// The value of a message, as JSON where that is asked for.
+fn show_body(
+    alloc: Global,
+    policy: &Policy,
+    question: &Question,
+    body: &Body,
+) -> Result<Answer, OutOfMemory>
+    ensures { IfOk result (λ a. ShowsIn (question_view question.now).json (question_view question.now).explain
+        (policy_view policy.now) (body_route (body_view body.now)) (body_view body.now).message_octets
+        (answer_view a)) }
+{
+    if question.json {
+        show_json(alloc, policy, &route_in(body), body.message_octets)
+    } else {
+        show_octets(
+            alloc,
+            policy,
+            body.name,
+            body.message_octets,
+            question.explain,
+        )
     }
 }

@@ -1,13 +1,15 @@
-//! The commands on one message: `decide`, with what explains its verdict, and `show`. The message is given by
-//! digits, in a file or in a capture.
+//! The commands on one message: `decide`, with what explains its verdict, and `show`. The message is written in digits,
+//! kept in a file or held in a capture.
 //!
 //! | question | code | definition |
 //! |---|---|---|
 //! | What is answered to `decide`? | `deciding.rt` | `specs/Decided.antt` |
 //! | Which message is `decide` or `show` asked of? | `question.rt` | `specs/Questions.antt` |
-//! | How are its octets found in a file or in a frame? | `finding.rt`, `numbered.rt`, `linked.rt` | `specs/Finding.antt`, `specs/Numbered.antt`, `specs/Linked.antt` |
+//! | How are its octets found in digits, in a file or in a frame? | `finding.rt`, `numbered.rt`, `linked.rt` | `specs/Finding.antt`, `specs/Numbered.antt`, `specs/Linked.antt` |
+//! | What is reported where they can't be had? | `unfound.rt` | `specs/Finding.antt` |
 //! | What is answered to it? | `looking.rt`, `holding.rt` | `specs/Deciding.antt` |
 //! | What is shown of a message? | `values.rt` | `specs/Shown.antt` |
+//! | How is a value written as JSON? | `value_json.rt` | `specs/ValueJson.antt` |
 //! | Which parts of a message stand whole before its breach? | `parts_before.rt` | `specs/PartsBefore.antt` |
 //! | What is shown below a verdict where it is to be explained? | `reasons.rt` | `specs/Reasons.antt` |
 //! | Which names stand in a frame, and why not the next one? | `header_notes.rt` | `specs/HeaderNotes.antt` |
@@ -30,6 +32,8 @@ mod parts_before;
 mod question;
 mod reasons;
 mod rule_types;
+mod unfound;
+mod value_json;
 mod values;
 
 pub use built_in::first_run;

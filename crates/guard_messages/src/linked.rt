@@ -2,52 +2,20 @@
 ghost use Rattle.std.specs.Prelude.{◌≡◌, ◌<◌, ◌≤◌, ◌+◌, ◌⊎◌, ◌++◌, ℕ, List, [], None};
 ghost use Rattle.std.specs.Prelude.{drop, length, take, IfOk, IfErr, IfSome, OnOk};
 ghost use Rattle.guard_frames.specs.Frames.{IsFrame, IsTooLong, IsUnfinished};
+ghost use Rattle.guard_frames.specs.declared.running.RunFault.TheVariants.{FrameTooLong, TornFrame};
 ghost use Rattle.guard_files.specs.Devices.{source_of};
 ghost use Rattle.guard_files.specs.Headers.{record_of, IsGood};
+ghost use Rattle.guard_files.specs.declared.fault.Fault.TheVariants.{Run, NoMemory};
 ghost use Rattle.guard_messages.specs.Linked.{IsNthOfLink};
 ghost use Rattle.guard_messages.specs.inside.Passed.{AreFrames, Completes, Holds, IsPassed};
-ghost use Rattle.guard_messages.specs.inside.Passed.{IsUnlinked, Refuses, of_stop};
-ghost use Rattle.guard_messages.specs.declared.linked.Unlinked.TheVariants as unlinked;
+ghost use Rattle.guard_messages.specs.inside.Passed.{IsUnlinked, Refuses};
+ghost use Rattle.guard_messages.specs.declared.unfound.Unfound.TheVariants.{Faulty, NoSuchFrame};
 
-use guard_files::{Header, Stop, add, next_record};
-use guard_frames::{Cut, MOST_READS, Rest, Source, first_cut};
+use crate::unfound::Unfound;
+use guard_files::{Fault, Header, add, next_record};
+use guard_frames::{Cut, MOST_READS, Rest, RunFault, Source, first_cut};
 use guard_model::OutOfMemory;
 use std::alloc::Global;
-
-/// Why a link's frame can't be had.
-#[derive(Clone, Copy, Debug, PartialEq, Eq)]
-pub enum Unlinked {
-    /// The link has fewer frames.
-    Fewer,
-    /// Its stream ends inside a frame.
-    Torn,
-    /// A length is above that of a frame.
-    TooLong,
-    /// What comes in is no record, or is cut short by the end.
-    BadRecord,
-    /// Standard input failed, or was asked too often.
-    Lost,
-    NoMemory,
-}
-
-impl From<OutOfMemory> for Unlinked {
-    ghost from_gives = { λ _ e. e ≡ unlinked.NoMemory };
-
-    fn from(_e: OutOfMemory) -> Unlinked {
-        Unlinked::NoMemory
-    }
-}
-
-impl From<Stop> for Unlinked {
-    ghost from_gives = { λ s e. e ≡ of_stop s };
-
-    fn from(stop: Stop) -> Unlinked {
-        match stop {
-            Stop::BadRecord => Unlinked::BadRecord,
-            Stop::ReadFailed | Stop::WriteFailed | Stop::ErrorFailed => Unlinked::Lost,
-        }
-    }
-}
 
 /// What follows the frames that are passed over.
 #[derive(Clone, Copy)]
@@ -68,7 +36,7 @@ pub fn linked_frame<S: Source>(
     room: &mut [u8],
     link: u64,
     number: u64,
-) -> Result<Vec<u8>, Unlinked>
+) -> Result<Vec<u8>, Unfound>
     requires room { length room.old ≡ 1048576 }
     requires some { 0 < number }
     ensures frame { IfOk result (λ frame. IsNthOfLink link number
@@ -88,17 +56,18 @@ pub fn linked_frame<S: Source>(
             return Ok(frame);
         }
     }
-    Err(Unlinked::Lost)
+    Err(Unfound::Faulty(Fault::Run(RunFault::ReadFailed)))
 }
 
 /// Why there is no further frame where a link's stream has ended.
-fn ended(held: &[u8]) -> Unlinked
-    ensures { ((result ≡ unlinked.Fewer) × (held.now ≡ [])) ⊎ ((result ≡ unlinked.Torn) × (0 < length held.now)) }
+fn ended(held: &[u8]) -> Unfound
+    ensures { ((result ≡ NoSuchFrame) × (held.now ≡ []))
+        ⊎ ((result ≡ Faulty (Run TornFrame)) × (0 < length held.now)) }
 {
     if held.is_empty() {
-        Unlinked::Fewer
+        Unfound::NoSuchFrame
     } else {
-        Unlinked::Torn
+        Unfound::Faulty(Fault::Run(RunFault::TornFrame))
     }
 }
 
@@ -110,7 +79,7 @@ fn take_record(
     link: u64,
     held: &mut Vec<u8>,
     before: &mut u64,
-) -> Result<Option<Vec<u8>>, Unlinked>
+) -> Result<Option<Vec<u8>>, Unfound>
     requires good { IsGood header }
     requires room { length room.now ≡ 1048576 }
     requires unfinished { IsUnfinished held.old.items }
@@ -145,14 +114,14 @@ fn take_piece(
     piece: &[u8],
     held: &mut Vec<u8>,
     before: &mut u64,
-) -> Result<Option<Vec<u8>>, Unlinked>
+) -> Result<Option<Vec<u8>>, Unfound>
     ensures frame { IfOk result (λ found. IfSome found (λ frame. (more : List ℕ)
         × AreFrames (held.old.items ++ piece.now) before.old (frame.items ++ more) × IsFrame frame.items)) }
     ensures none { IfOk result (λ found. found ≡ None → (count : ℕ) × (before.new + count ≡ before.old)
         × AreFrames (held.old.items ++ piece.now) count held.new.items × IsUnfinished held.new.items) }
-    ensures refused { IfErr result (λ u. ((u ≡ unlinked.TooLong) × ((rest : List ℕ) × (count : ℕ)
+    ensures refused { IfErr result (λ u. ((u ≡ Faulty (Run FrameTooLong)) × ((rest : List ℕ) × (count : ℕ)
         × (count ≤ before.old) × AreFrames (held.old.items ++ piece.now) count rest × IsTooLong rest))
-        ⊎ (u ≡ unlinked.NoMemory)) }
+        ⊎ (u ≡ Faulty NoMemory)) }
 {
     add(held, piece)?;
     match pass(held.as_slice(), before) {
@@ -161,7 +130,7 @@ fn take_piece(
             drop_front(alloc, held, at)?;
             Ok(None)
         }
-        Passed::TooLong => Err(Unlinked::TooLong),
+        Passed::TooLong => Err(Unfound::Faulty(Fault::Run(RunFault::FrameTooLong))),
     }
 }
 

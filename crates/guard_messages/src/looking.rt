@@ -1,21 +1,21 @@
 //! What becomes of one message, and its value, wherever its octets are.
-ghost use Rattle.std.specs.Prelude.{◌≡◌, option_map, IfOk, IfErr};
+ghost use Rattle.std.specs.Prelude.{◌≡◌, false, option_map, IfOk, IfErr};
 ghost use Rattle.guard_frames.specs.Bodies.{body_view};
 ghost use Rattle.guard_files.specs.Answers.{Gives};
 ghost use Rattle.guard_files.specs.Devices.{source_of, device_of, IsUntouched};
 ghost use Rattle.guard_files.specs.Files.{Told};
 ghost use Rattle.guard_files.specs.Reading.{IsNoPolicyAt};
-ghost use Rattle.guard_messages.specs.Deciding.{CapturesAt, Decides, ShowsAsked, ShowsAt, GivesWritten, GivesHeld};
+ghost use Rattle.guard_messages.specs.Deciding.{CapturesAt, Decides, ShowsAsked, ShowsAt, GivesHeld};
 ghost use Rattle.guard_messages.specs.Deciding.{held_in, IsHeldShown};
 ghost use Rattle.guard_files.specs.Writing.{Writes};
 ghost use Rattle.guard_messages.specs.Finding.{AnswersFound, TellsUnfound};
-ghost use Rattle.guard_messages.specs.Questions.{question_view, asked_route, show_place, spot_view};
+ghost use Rattle.guard_messages.specs.Questions.{question_view, asked_route, show_spot, spot_view};
 
-use crate::deciding::{decide, decide_explained, explain_found};
-use crate::finding::{Unfound, find, frame_of_link, frame_of_number, tell_unfound};
+use crate::deciding::explain_found;
+use crate::finding::{find, frame_of_link, frame_of_number};
 use crate::holding::{decide_held, held_in, route_asked, show_held};
-use crate::question::{Place, Question, Spot};
-use crate::values::show_message;
+use crate::question::{Question, Spot};
+use crate::unfound::{Unfound, tell_unfound};
 use guard_files::{Files, give, give_explained, tell_text, write};
 use guard_frames::{Body, Sink, Source};
 use std::alloc::Global;
@@ -45,15 +45,14 @@ pub fn decide_asked<F: Files, S: Source, O: Sink, E: Sink>(
         (device_of O.taken O.has_failed out.old out.new)
         (device_of E.taken E.has_failed err.old err.new) result }
 {
-    match question.decide_place() {
-        Place::Written(digits) => decide_written(alloc, question, digits, files, out, err),
-        Place::Elsewhere(spot) => decide_found(alloc, question, &spot, files, input, out, err),
-        Place::Nowhere => tell_text(alloc, UNASKED, BAD_WORDS, err),
+    match question.decide_spot() {
+        Some(spot) => decide_found(alloc, question, &spot, files, input, out, err),
+        None => tell_text(alloc, UNASKED, BAD_WORDS, err),
     }
 }
 
-/// Shows the value of the message that is asked of, or writes its frame, and answers the status: 0 where there is one,
-/// and else as for what becomes of it.
+/// Shows the value of the message that is asked of, as JSON where the question says so, or writes its frame, and answers
+/// the status: 0 where there is one, and else as for what becomes of it.
 pub fn show_asked<F: Files, S: Source, O: Sink, E: Sink>(
     alloc: Global,
     question: &Question,
@@ -83,26 +82,14 @@ fn show_value<F: Files, S: Source, O: Sink, E: Sink>(
     out: &mut O,
     err: &mut E,
 ) -> u8
-    ensures { ShowsAt (show_place (question_view question.now)) (F.told files.old) (question_view question.now)
+    ensures { ShowsAt (show_spot (question_view question.now)) (F.told files.old) (question_view question.now)
         (source_of S.tells S.takes S.has_failed input.old input.new)
         (device_of O.taken O.has_failed out.old out.new)
         (device_of E.taken E.has_failed err.old err.new) result }
 {
-    match question.show_place() {
-        Place::Written(digits) => {
-            let message = route_asked(question).message;
-            let shown = show_message(
-                alloc,
-                question.policy,
-                message,
-                digits,
-                question.explain,
-                files,
-            );
-            give(alloc, shown, out, err)
-        }
-        Place::Elsewhere(spot) => show_found(alloc, question, &spot, files, input, out, err),
-        Place::Nowhere => tell_text(alloc, UNASKED, BAD_WORDS, err),
+    match question.show_spot() {
+        Some(spot) => show_found(alloc, question, &spot, files, input, out, err),
+        None => tell_text(alloc, UNASKED, BAD_WORDS, err),
     }
 }
 
@@ -114,21 +101,21 @@ fn write_frame<S: Source, O: Sink, E: Sink>(
     out: &mut O,
     err: &mut E,
 ) -> u8
-    ensures { (told : Told) → CapturesAt (show_place (question_view question.now)) told
+    ensures { (told : Told) → CapturesAt (show_spot (question_view question.now)) told
         (source_of S.tells S.takes S.has_failed input.old input.new)
         (device_of O.taken O.has_failed out.old out.new)
         (device_of E.taken E.has_failed err.old err.new) result }
 {
-    match question.show_place() {
-        Place::Elsewhere(Spot::Framed(number)) => {
+    match question.show_spot() {
+        Some(Spot::Framed(number)) => {
             let found = frame_of_number(alloc, number, input);
             give_frame(alloc, found, out, err)
         }
-        Place::Elsewhere(Spot::Linked(link, number)) => {
+        Some(Spot::Linked(link, number)) => {
             let found = frame_of_link(alloc, link, number, input);
             give_frame(alloc, found, out, err)
         }
-        Place::Elsewhere(Spot::Kept(_)) | Place::Written(_) | Place::Nowhere => {
+        Some(Spot::Written(_)) | Some(Spot::Kept(_)) | None => {
             tell_text(alloc, UNASKED, BAD_WORDS, err)
         }
     }
@@ -144,35 +131,11 @@ fn give_frame<O: Sink, E: Sink>(
     ensures written { IfOk found (λ frame. Writes frame.items 0 (device_of O.taken O.has_failed out.old out.new)
         (device_of E.taken E.has_failed err.old err.new) result) }
     ensures told { IfErr found (λ u. IsUntouched (device_of O.taken O.has_failed out.old out.new)
-        × TellsUnfound u (device_of E.taken E.has_failed err.old err.new) result) }
+        × TellsUnfound false u (device_of E.taken E.has_failed err.old err.new) result) }
 {
     match found {
         Ok(frame) => write(&frame, 0, out, err),
-        Err(reason) => tell_unfound(alloc, &reason, err),
-    }
-}
-
-/// Says what becomes of a message whose octets the digits write.
-fn decide_written<F: Files, O: Sink, E: Sink>(
-    alloc: Global,
-    question: &Question,
-    digits: &str,
-    files: &mut F,
-    out: &mut O,
-    err: &mut E,
-) -> u8
-    ensures { GivesWritten (question_view question.now).explain (F.told files.old) (question_view question.now).policy
-        (asked_route (question_view question.now)) digits.now
-        (device_of O.taken O.has_failed out.old out.new)
-        (device_of E.taken E.has_failed err.old err.new) result }
-{
-    let (path, route) = (question.policy, route_asked(question));
-    if question.explain {
-        let decided = decide_explained(alloc, path, &route, digits, files);
-        give_explained(alloc, decided, out, err)
-    } else {
-        let decided = decide(alloc, path, &route, digits, files);
-        give(alloc, decided, out, err)
+        Err(reason) => tell_unfound(alloc, false, &reason, err),
     }
 }
 
@@ -186,8 +149,8 @@ fn decide_found<F: Files, S: Source, O: Sink, E: Sink>(
     out: &mut O,
     err: &mut E,
 ) -> u8
-    ensures { AnswersFound (λ later octets. GivesHeld (question_view question.now).explain later
-        (question_view question.now).policy (spot_view spot.now)
+    ensures { AnswersFound (question_view question.now).explain (λ later octets. GivesHeld
+        (question_view question.now).explain later (question_view question.now).policy (spot_view spot.now)
         (held_in (asked_route (question_view question.now)) (spot_view spot.now) octets) octets)
         (F.told files.old) (spot_view spot.now)
         (source_of S.tells S.takes S.has_failed input.old input.new)
@@ -200,7 +163,7 @@ fn decide_found<F: Files, S: Source, O: Sink, E: Sink>(
             let held = held_in(route.from, route.to, route.message, spot, &octets);
             give_held(alloc, question, spot, held, &octets, files, out, err)
         }
-        Err(reason) => tell_unfound(alloc, &reason, err),
+        Err(reason) => tell_unfound(alloc, question.explain, &reason, err),
     }
 }
 
@@ -246,8 +209,8 @@ fn show_found<F: Files, S: Source, O: Sink, E: Sink>(
     out: &mut O,
     err: &mut E,
 ) -> u8
-    ensures { AnswersFound (λ later octets.
-        Gives (IsHeldShown (question_view question.now).explain later (question_view question.now).policy
+    ensures { AnswersFound false (λ later octets.
+        Gives (IsHeldShown (question_view question.now) later
         (held_in (asked_route (question_view question.now)) (spot_view spot.now) octets))
         (IsNoPolicyAt later (question_view question.now).policy))
         (F.told files.old) (spot_view spot.now)
@@ -259,13 +222,8 @@ fn show_found<F: Files, S: Source, O: Sink, E: Sink>(
         Ok(octets) => {
             let route = route_asked(question);
             let held = held_in(route.from, route.to, route.message, spot, &octets);
-            give(
-                alloc,
-                show_held(alloc, question.policy, held, question.explain, files),
-                out,
-                err,
-            )
+            give(alloc, show_held(alloc, question, held, files), out, err)
         }
-        Err(reason) => tell_unfound(alloc, &reason, err),
+        Err(reason) => tell_unfound(alloc, false, &reason, err),
     }
 }

@@ -1,7 +1,7 @@
 //! What is asked of one message.
 ghost use Rattle.std.specs.Prelude.{◌≡◌, option_map};
-ghost use Rattle.guard_messages.specs.Questions.{question_view, frame_spot, octets_place, place_by, decide_place};
-ghost use Rattle.guard_messages.specs.Questions.{show_place, place_view, spot_view};
+ghost use Rattle.guard_messages.specs.Questions.{question_view, frame_spot, octets_spot, spot_by, decide_spot};
+ghost use Rattle.guard_messages.specs.Questions.{show_spot, spot_view};
 
 /// What the words give of one message: by which policy it is asked of, and where its octets are.
 #[derive(Clone, Copy, Debug, PartialEq, Eq)]
@@ -22,11 +22,15 @@ pub struct Question<'a> {
     pub explain: bool,
     /// Whether the frame itself is to be written in place of its value.
     pub capture: bool,
+    /// Whether its value is to be shown as JSON. Nothing is explained then.
+    pub json: bool,
 }
 
-/// Where octets are that the words don't write.
+/// Where the octets of a message are.
 #[derive(Clone, Copy)]
 pub enum Spot<'a> {
+    /// In these hexadecimal digits.
+    Written(&'a str),
     /// All that is at this path.
     Kept(&'a str),
     /// In the frame of this number.
@@ -35,44 +39,35 @@ pub enum Spot<'a> {
     Linked(&'a str, &'a str),
 }
 
-/// Where the octets of a message are.
-#[derive(Clone, Copy)]
-pub enum Place<'a> {
-    /// In these digits.
-    Written(&'a str),
-    Elsewhere(Spot<'a>),
-    /// The words don't say where, or say more than one place.
-    Nowhere,
-}
-
 impl<'a> Question<'a> {
-    /// Where `decide` looks for the octets. It takes all three names, or those of the frame.
-    pub fn decide_place(&self) -> Place<'a>
-        ensures { place_view result ≡ decide_place (question_view self.now) }
+    /// Where `decide` looks for the octets. It takes all three names, or those of the frame. None where the words don't
+    /// say where, or say more than one place.
+    pub fn decide_spot(&self) -> Option<Spot<'a>>
+        ensures { option_map spot_view result ≡ decide_spot (question_view self.now) }
     {
         let all = self.from.is_some() && self.to.is_some() && self.message.is_some();
         let some = self.from.is_some() || self.to.is_some() || self.message.is_some();
-        self.place(all, some)
+        self.spot(all, some)
     }
 
-    /// Where `show` looks for them. It takes the name of the message, or that of the frame.
-    pub fn show_place(&self) -> Place<'a>
-        ensures { place_view result ≡ show_place (question_view self.now) }
+    /// Where `show` looks for them. It takes the name of the message, or that of the frame. None as for `decide`.
+    pub fn show_spot(&self) -> Option<Spot<'a>>
+        ensures { option_map spot_view result ≡ show_spot (question_view self.now) }
     {
         let named = self.message.is_some();
-        self.place(named, named)
+        self.spot(named, named)
     }
 
     /// Where the octets are, by whether all names are given, and whether some are.
-    fn place(&self, all: bool, some: bool) -> Place<'a>
-        ensures { place_view result ≡ place_by all some (question_view self.now).frame (question_view self.now).link
-            (question_view self.now).hex (question_view self.now).der }
+    fn spot(&self, all: bool, some: bool) -> Option<Spot<'a>>
+        ensures { option_map spot_view result ≡ spot_by all some (question_view self.now).frame
+            (question_view self.now).link (question_view self.now).hex (question_view self.now).der }
     {
         match self.frame {
-            Some(_) if some || self.hex.is_some() || self.der.is_some() => Place::Nowhere,
-            Some(number) => Place::Elsewhere(frame_spot(number, self.link)),
-            None if all && self.link.is_none() => octets_place(self.hex, self.der),
-            None => Place::Nowhere,
+            Some(_) if some || self.hex.is_some() || self.der.is_some() => None,
+            Some(number) => Some(frame_spot(number, self.link)),
+            None if all && self.link.is_none() => octets_spot(self.hex, self.der),
+            None => None,
         }
     }
 }
@@ -87,14 +82,14 @@ fn frame_spot<'a>(number: &'a str, link: Option<&'a str>) -> Spot<'a>
     }
 }
 
-/// The one place of the two that is given.
-fn octets_place<'a>(hex: Option<&'a str>, der: Option<&'a str>) -> Place<'a>
-    ensures { place_view result ≡ octets_place (option_map (λ digits. digits.now) hex.entry)
+/// The one of the two that is given.
+fn octets_spot<'a>(hex: Option<&'a str>, der: Option<&'a str>) -> Option<Spot<'a>>
+    ensures { option_map spot_view result ≡ octets_spot (option_map (λ digits. digits.now) hex.entry)
         (option_map (λ path. path.now) der.entry) }
 {
     match (hex, der) {
-        (Some(digits), None) => Place::Written(digits),
-        (None, Some(path)) => Place::Elsewhere(Spot::Kept(path)),
-        (Some(_), Some(_)) | (None, None) => Place::Nowhere,
+        (Some(digits), None) => Some(Spot::Written(digits)),
+        (None, Some(path)) => Some(Spot::Kept(path)),
+        (Some(_), Some(_)) | (None, None) => None,
     }
 }

@@ -7,12 +7,12 @@ ghost use Rattle.guard_policy.specs.Decisions.{IsReason};
 ghost use Rattle.guard_policy.specs.PolicyView.{policy_view, route_view, said_view};
 ghost use Rattle.guard_policy.specs.Verdicts.{verdict_view};
 ghost use Rattle.guard_notes.specs.Sources.{place_lines, sources_view};
-ghost use Rattle.guard_files.specs.Places.{places_in};
+ghost use Rattle.guard_files.specs.Places.{places_in, places_of};
 ghost use Rattle.guard_files.specs.Allowed.{OfValue, HasValue};
 ghost use Rattle.guard_notes.specs.Marking.{columns};
-ghost use Rattle.guard_messages.specs.RuleTypes.{grounds_view, rule_type_lines};
+ghost use Rattle.guard_messages.specs.RuleTypes.{grounds_view};
 ghost use Rattle.guard_messages.specs.Reasons.{message_rules, step_name, name_at, name_before, part_shown, part_line};
-ghost use Rattle.guard_messages.specs.Reasons.{violation_lines, shortfall_lines, lines_of_places, type_lines};
+ghost use Rattle.guard_messages.specs.Reasons.{violation_lines, shortfall_lines, lines_of_places};
 ghost use Rattle.guard_messages.specs.Reasons.{denied_lines, ExplainsVerdict};
 ghost use Rattle.guard_notes.specs.declared.notes.Place.TheVariants.{At};
 
@@ -132,28 +132,38 @@ fn denied_by_note(
 ) -> Result<Vec<u8>, OutOfMemory>
     requires { HasValue (policy_view policy.now) (route_view route.now).message octets.now }
     ensures { IfOk result (λ note. OfValue (policy_view policy.now) (route_view route.now).message octets.now
-        (λ t v. note.items ≡ denied_lines (grounds_view grounds.now) number
+        (λ t v. note.items ≡ denied_lines (grounds_view grounds.now)
         (slice_get (policy_view policy.now).rules number) ++ part_line t v [])) }
 {
     let (ty, value) = value_of(alloc, policy, route.message, octets)?;
-    let mut note = denied_note(alloc, grounds, number, policy.rule(number))?;
+    let mut note = denied_note(alloc, grounds, policy.rule(number))?;
     add_part(alloc, &mut note, ty, &value, &[])?;
     Ok(note)
 }
 
-/// The type of the denying rule of this number, where it is assigned and constrained, and what follows for the value.
+/// What is shown of a denying rule.
 fn denied_note(
     alloc: Global,
     grounds: &Grounds,
-    number: usize,
     rule: Option<SaidRule>,
 ) -> Result<Vec<u8>, OutOfMemory>
     ensures { IfOk result (λ note. note.items
-        ≡ denied_lines (grounds_view grounds.now) number (option_map said_view rule.entry)) }
+        ≡ denied_lines (grounds_view grounds.now) (option_map said_view rule.entry)) }
 {
-    let mut note = Vec::new(alloc);
-    add_type(alloc, &mut note, grounds, number)?;
-    let constraints = type_lines(alloc, &grounds.sources, rule)?;
+    match rule {
+        Some(rule) => denying_note(alloc, grounds, &rule),
+        None => Ok(Vec::new(alloc)),
+    }
+}
+
+/// Its type, where that is assigned and constrained, and what follows for the value.
+fn denying_note(alloc: Global, grounds: &Grounds, rule: &SaidRule) -> Result<Vec<u8>, OutOfMemory>
+    ensures { IfOk result (λ note. note.items
+        ≡ denied_lines (grounds_view grounds.now) (Some (said_view rule.now))) }
+{
+    let lines = rule_type_lines(alloc, grounds, rule)?;
+    let constraints = type_lines(alloc, &grounds.sources, rule.ty)?;
+    let mut note = sentence(alloc, &lines)?;
     add(&mut note, &constraints)?;
     add(
         &mut note,
@@ -162,30 +172,12 @@ fn denied_note(
     Ok(note)
 }
 
-fn add_type(
-    alloc: Global,
-    note: &mut Vec<u8>,
-    grounds: &Grounds,
-    number: usize,
-) -> Result<(), OutOfMemory>
-    ensures { OnOk result (note.new.items ≡ note.old.items ++ rule_type_lines (grounds_view grounds.now) number) }
-{
-    let lines = rule_type_lines(alloc, grounds, number)?;
-    add(note, lines.as_bytes())
-}
-
-fn type_lines(
-    alloc: Global,
-    sources: &Sources,
-    rule: Option<SaidRule>,
-) -> Result<Vec<u8>, OutOfMemory>
+/// The line of each of the constraints on a whole value of the type.
+fn type_lines(alloc: Global, sources: &Sources, ty: &Ty) -> Result<Vec<u8>, OutOfMemory>
     ensures { IfOk result (λ lines. lines.items
-        ≡ type_lines (sources_view sources.now) (option_map said_view rule.entry)) }
+        ≡ lines_of_places (sources_view sources.now) (places_of (type_view ty.now))) }
 {
-    match rule {
-        Some(rule) => constraint_lines(alloc, sources, &rule.ty.cons),
-        None => Ok(Vec::new(alloc)),
-    }
+    constraint_lines(alloc, sources, &ty.cons)
 }
 
 /// The line of each of the constraints, with a mark.

@@ -1,41 +1,26 @@
 //! The value of one message.
-ghost use Rattle.std.specs.Prelude.{◌≡◌, ◌++◌, codes, IfOk, IfErr, IsTrue};
+ghost use Rattle.std.specs.Prelude.{◌≡◌, ◌++◌, codes, IfOk, IsTrue, Some};
 ghost use Rattle.guard_model.specs.TypeView.{type_view};
+ghost use Rattle.guard_model.specs.ValueView.{value_view};
 ghost use Rattle.guard_der.specs.Sound.{is_sound};
-ghost use Rattle.guard_policy.specs.PolicyView.{policy_view};
+ghost use Rattle.json.specs.Print.{print};
+ghost use Rattle.guard_policy.specs.PolicyView.{policy_view, route_view};
+ghost use Rattle.guard_policy.specs.Verdicts.{verdict_view};
+ghost use Rattle.guard_report.specs.Text.{verdict_octets};
 ghost use Rattle.guard_report.specs.Shown.{shown_view};
 ghost use Rattle.guard_files.specs.Answers.{answer_view};
-ghost use Rattle.guard_messages.specs.Decided.{IsUndecided};
-ghost use Rattle.guard_messages.specs.Shown.{shown_octets, shown_status, ComesBefore, ShowsMessage, IsShownAt};
+ghost use Rattle.guard_messages.specs.Shown.{shown_octets, shown_status, ComesBefore, ShowsJson, ShowsMessage};
+ghost use Rattle.guard_messages.specs.ValueJson.{value_json};
 
-use crate::deciding::octets_of;
 use crate::parts_before::lines_before;
+use crate::value_json::value_json;
 use guard_der::laws::law_one_answer;
 use guard_der::{DecodeFault, decode};
-use guard_files::{Answer, Fault, Files, add, load};
-use guard_model::{OutOfMemory, Ty};
-use guard_policy::Policy;
-use guard_report::{Shown, shown_text};
+use guard_files::{Answer, add};
+use guard_model::{OutOfMemory, Ty, Value};
+use guard_policy::{Policy, Route, Verdict};
+use guard_report::{Shown, shown_text, verdict_text};
 use std::alloc::Global;
-
-/// The value of a message of this name, under the policy at the path; or why there is no policy. Bad digits come before
-/// all that is wrong with the policy.
-pub fn show_message<F: Files>(
-    alloc: Global,
-    path: &str,
-    message: &[u8],
-    hex: &str,
-    explain: bool,
-    files: &mut F,
-) -> Result<Answer, Fault>
-    ensures shown { IfOk result (λ a.
-        IsShownAt explain (F.told files.old) path.now message.now hex.now (answer_view a)) }
-    ensures none { IfErr result (IsUndecided (F.told files.old) path.now hex.now) }
-{
-    let octets = octets_of(alloc, hex)?;
-    let policy = load(alloc, path, files)?;
-    Ok(show_octets(alloc, &policy, message, &octets, explain)?)
-}
 
 /// What is shown of the octets of a message of this name.
 pub fn show_octets(
@@ -96,4 +81,53 @@ fn ended(lines: Vec<u8>, text: &[u8], status: u8) -> Result<Answer, OutOfMemory>
     add(&mut out, text)?;
     add(&mut out, b"\n")?;
     Ok(Answer { out, status })
+}
+
+// ---- as JSON
+
+/// The value of the octets of a message on this route as JSON, or the text of the verdict that they have none.
+pub fn show_json(
+    alloc: Global,
+    policy: &Policy,
+    route: &Route,
+    octets: &[u8],
+) -> Result<Answer, OutOfMemory>
+    ensures { IfOk result (λ a. ShowsJson (policy_view policy.now) (route_view route.now) octets.now (answer_view a)) }
+{
+    let Some(ty) = policy.declared(route.message) else {
+        return without_value(alloc, policy, route, Verdict::UnknownMessage);
+    };
+    match decode(alloc, ty, octets) {
+        Ok(value) => json_answer(alloc, ty, &value),
+        Err(DecodeFault::Breach(breach)) => {
+            without_value(alloc, policy, route, Verdict::Undecodable(breach))
+        }
+        Err(DecodeFault::OutOfMemory) => Err(OutOfMemory),
+    }
+}
+
+/// A value of the type and a line feed, with status 0.
+fn json_answer(alloc: Global, ty: &Ty, value: &Value) -> Result<Answer, OutOfMemory>
+    ensures { IfOk result (λ a. (a.out.items
+        ≡ print (value_json (Some (type_view ty.now)) (value_view value.now)) ++ codes "\n") × (a.status ≡ 0)) }
+{
+    let mut out = value_json(alloc, ty, value)?;
+    add(&mut out, b"\n")?;
+    Ok(Answer { out, status: 0 })
+}
+
+/// The text of the verdict and a line feed, with status 1.
+fn without_value(
+    alloc: Global,
+    policy: &Policy,
+    route: &Route,
+    verdict: Verdict,
+) -> Result<Answer, OutOfMemory>
+    ensures { IfOk result (λ a. (a.out.items
+        ≡ verdict_octets (policy_view policy.now) (route_view route.now) (verdict_view verdict) ++ codes "\n")
+        × (a.status ≡ 1)) }
+{
+    let mut out = verdict_text(alloc, &verdict, route, policy)?;
+    add(&mut out, b"\n")?;
+    Ok(Answer { out, status: 1 })
 }

@@ -3,20 +3,16 @@ use Rattle.std.specs.Prelude.{◌≡◌, ◌<◌, ◌≤◌, ◌+◌, ℕ, List,
 use Rattle.std.specs.List.{concat, All}
 use Rattle.guard_frames.specs.Frames.{IsFrame, IsTooLong, IsUnfinished}
 use Rattle.guard_frames.specs.declared.running.RunFault.TheVariants.{FrameTooLong, TornFrame}
-use Rattle.guard_frames.specs.declared.running.RunFault.TheVariants as run
 use Rattle.guard_files.specs.declared.fault.Fault.TheVariants.{Run, NoMemory}
 use Rattle.guard_files.specs.Devices.{Input}
 use Rattle.guard_files.specs.Records.{Record}
 use Rattle.guard_files.specs.Records.Record.{end}
-use Rattle.guard_files.specs.declared.stop.Stop.{Stop}
-use Rattle.guard_files.specs.declared.stop.Stop.TheVariants.{BadRecord, ReadFailed, WriteFailed, ErrorFailed}
-use Rattle.guard_messages.specs.declared.finding.Unfound.{Unfound}
-use Rattle.guard_messages.specs.declared.finding.Unfound.TheVariants as unfound
+use Rattle.guard_messages.specs.declared.unfound.Unfound.{Unfound}
+use Rattle.guard_messages.specs.declared.unfound.Unfound.TheVariants.{Faulty, NoSuchFrame, BadRecord}
 use Rattle.guard_messages.specs.declared.linked.Passed.{Passed}
 use Rattle.guard_messages.specs.declared.linked.Passed.TheVariants.{Frame, Held, TooLong}
-use Rattle.guard_messages.specs.declared.linked.Unlinked.{Unlinked}
-use Rattle.guard_messages.specs.declared.linked.Unlinked.TheVariants as unlinked
-use Rattle.guard_messages.specs.Linked.{EndsBefore, IsBadBefore, IsLostBefore, IsTooLongBefore, IsTornBefore, LeavesOpen, link_octets}
+use Rattle.guard_messages.specs.Finding.{StopsLink}
+use Rattle.guard_messages.specs.Linked.{EndsBefore, IsBadBefore, LeavesOpen, link_octets}
 
 -- The octets are as many frames, and then this rest.
 pub record AreFrames (octets : List ℕ) (count : ℕ) (rest : List ℕ) : Type 0 where
@@ -57,38 +53,20 @@ pub record Holds (link : ℕ) (r : Record) (held later : List ℕ) (before left 
   pub unfinished : IsUnfinished later
 
 -- it can't come
-abbrev pub Refuses : Unlinked → ℕ → Record → List ℕ → ℕ → Type 0
-Refuses unlinked.Fewer link r held before = (r ≡ end link) × (held ≡ [])
-Refuses unlinked.Torn link r held before = (r ≡ end link) × (0 < length held)
-Refuses unlinked.TooLong link r held before =
+abbrev pub Refuses : Unfound → ℕ → Record → List ℕ → ℕ → Type 0
+Refuses NoSuchFrame link r held before = (r ≡ end link) × (held ≡ [])
+Refuses (Faulty (Run TornFrame)) link r held before = (r ≡ end link) × (0 < length held)
+Refuses (Faulty (Run FrameTooLong)) link r held before =
     LeavesOpen link r
     × ((rest : List ℕ) × (count : ℕ) × (count ≤ before) × AreFrames (joins link held r) count rest × IsTooLong rest)
-Refuses unlinked.BadRecord link r held before = ⊥
-Refuses unlinked.Lost link r held before = ⊥
-Refuses unlinked.NoMemory link r held before = Unit {0}
+Refuses (Faulty NoMemory) link r held before = Unit {0}
+Refuses _ link r held before = ⊥
 
 -- ---- all of them
 
-abbrev pub IsUnlinked : ℕ → ℕ → Input → Unlinked → Type 0
-IsUnlinked link n input unlinked.Fewer = EndsBefore link n input []
-IsUnlinked link n input unlinked.Torn = IsTornBefore link n input
-IsUnlinked link n input unlinked.TooLong = IsTooLongBefore link n input
-IsUnlinked link n input unlinked.BadRecord = IsBadBefore link n input
-IsUnlinked link n input unlinked.Lost = IsLostBefore link n input
-IsUnlinked link n input unlinked.NoMemory = Unit {0}
-
--- what is answered for it
-abbrev pub unfound_of : Unlinked → Unfound
-unfound_of unlinked.Fewer = unfound.NoSuchFrame
-unfound_of unlinked.Torn = unfound.Faulty (Run TornFrame)
-unfound_of unlinked.TooLong = unfound.Faulty (Run FrameTooLong)
-unfound_of unlinked.BadRecord = unfound.BadRecord
-unfound_of unlinked.Lost = unfound.Faulty (Run run.ReadFailed)
-unfound_of unlinked.NoMemory = unfound.Faulty NoMemory
-
--- why no record could be read
-abbrev pub of_stop : Stop → Unlinked
-of_stop BadRecord = unlinked.BadRecord
-of_stop ReadFailed = unlinked.Lost
-of_stop WriteFailed = unlinked.Lost
-of_stop ErrorFailed = unlinked.Lost
+abbrev pub IsUnlinked : ℕ → ℕ → Input → Unfound → Type 0
+IsUnlinked link n input NoSuchFrame = EndsBefore link n input []
+IsUnlinked link n input BadRecord = IsBadBefore link n input
+IsUnlinked link n input (Faulty (Run f)) = StopsLink f link n input
+IsUnlinked link n input (Faulty NoMemory) = Unit {0}
+IsUnlinked link n input _ = ⊥

@@ -14,10 +14,12 @@ returns-in-Ok g c =
     let out = device (g.O.Sink.taken c.args.out.now) (g.O.Sink.taken c.give_held.new.out) (g.O.Sink.has_failed c.give_held.new.out) in
     let err = device (g.E.Sink.taken c.args.err.now) (g.E.Sink.taken c.give_held.new.err) (g.E.Sink.has_failed c.give_held.new.err) in
     let held = c.held_in-held.ensures ∙ ap (λ (r : AbstractRoute). held_in r (spot_view c.args.spot.now) c.deref.result.now) c.route_asked-route.ensures
-    ∙ ap (held_in (asked_route q) (spot_view c.args.spot.now)) c.deref.ensures.value in
-    inl (
-      c.in-Ok.octets.items,
-      later,
-      c.in-Ok.ensures.found,
-      subst (λ (h : Option AbstractBody). GivesHeld q.explain later q.policy (spot_view c.args.spot.now) h c.in-Ok.octets.items out err c.give_held.result) held (rw c.deref-in-Ok.ensures.value at c.give_held.ensures),
+    ∙ ap (held_in (asked_route q) (spot_view c.args.spot.now)) c.deref.ensures.value in (
+      c.find.ensures.unread,
+      inl (
+        c.in-Ok.octets.items,
+        later,
+        c.in-Ok.ensures.found,
+        subst (λ (h : Option AbstractBody). GivesHeld q.explain later q.policy (spot_view c.args.spot.now) h c.in-Ok.octets.items out err c.give_held.result) held (rw c.deref-in-Ok.ensures.value at c.give_held.ensures),
+      ),
     )

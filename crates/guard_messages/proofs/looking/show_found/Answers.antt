@@ -17,12 +17,14 @@ returns-in-Ok g c =
     let out = device (g.O.Sink.taken c.args.out.now) (g.O.Sink.taken c.give.new.out) (g.O.Sink.has_failed c.give.new.out) in
     let err = device (g.E.Sink.taken c.args.err.now) (g.E.Sink.taken c.give.new.err) (g.E.Sink.has_failed c.give.new.err) in
     let same = c.held_in-held.ensures ∙ ap (λ (r : AbstractRoute). held_in r (spot_view c.args.spot.now) c.deref.result.now) c.route_asked-route.ensures
-    ∙ ap (held_in (asked_route q) (spot_view c.args.spot.now)) c.deref.ensures.value in
-    inl (
-      c.in-Ok.octets.items,
-      later,
-      c.in-Ok.ensures.found,
-      subst (λ (h : Option AbstractBody). Gives (IsHeldShown q.explain later q.policy h) (IsNoPolicyAt later q.policy) out err c.give.result) same
-          (gives (IsHeldShown q.explain later q.policy (option_map body_view c.held_in-held.result)) (IsNoPolicyAt later q.policy) out err c.give.result c.show_held.result
-          c.show_held.ensures.shown c.show_held.ensures.none c.give.ensures.written c.give.ensures.told),
+    ∙ ap (held_in (asked_route q) (spot_view c.args.spot.now)) c.deref.ensures.value in (
+      c.find.ensures.unread,
+      inl (
+        c.in-Ok.octets.items,
+        later,
+        c.in-Ok.ensures.found,
+        subst (λ (h : Option AbstractBody). Gives (IsHeldShown q later h) (IsNoPolicyAt later q.policy) out err c.give.result) same
+            (gives (IsHeldShown q later (option_map body_view c.held_in-held.result)) (IsNoPolicyAt later q.policy) out err c.give.result c.show_held.result
+            c.show_held.ensures.shown c.show_held.ensures.none c.give.ensures.written c.give.ensures.told),
+      ),
     )

@@ -10,5 +10,5 @@ returns c =
     let d = c.in_ok-ty.ensures in
     let t = type_view c.in_ok-ty.ty.now in
     let v = value_view c.in_ok-ty.value in
-    let note = c.in_ok-note.ensures ∙ ap (denied_lines (grounds_view c.args.grounds.now) c.args.number) c.rule.ensures in
+    let note = c.in_ok-note.ensures ∙ ap (denied_lines (grounds_view c.args.grounds.now)) c.rule.ensures in
     (t, v, d.0, d.1, d.2, c.in_ok-add_part.ensures ∙ ap (λ (x : List ℕ). x ++ part_line t v []) note)

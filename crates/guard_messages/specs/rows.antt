@@ -1,0 +1,2 @@
+-- Worked examples, which the checker computes.
+pub mod JsonRows

@@ -1,0 +1,316 @@
+//! A value as JSON.
+ghost use Rattle.std.specs.Prelude.{◌≡◌, ◌++◌, ◌∷◌, [], IfOk, OnOk, codes, decimal, map, option_map, string_bytes};
+ghost use Rattle.std.specs.Prelude.{◌-◌, ◌*◌, chars, length, Some};
+ghost use Rattle.std.specs.Str.{encode_utf8_all};
+ghost use Rattle.std.specs.Fmt.{signed_decimal};
+ghost use Rattle.std.specs.Arc.{arc_slice_items};
+ghost use Rattle.hex.specs.Hex.{encode_upper};
+ghost use Rattle.json.specs.Print.{print, IsPrintable};
+ghost use Rattle.json.specs.Reads.{token_of};
+ghost use Rattle.json.specs.Token.{begin_array, begin_object, end_array, end_object, key, number, string};
+ghost use Rattle.guard_model.specs.declared.site.Step.TheVariants.{Component};
+ghost use Rattle.guard_model.specs.TypeView.{type_view, component_view, named_view};
+ghost use Rattle.guard_model.specs.ValueView.{value_view, fields_view, items_view};
+ghost use Rattle.guard_report.specs.Strings.{name_of};
+ghost use Rattle.guard_report.specs.Text.{component_of, element_type, type_within};
+ghost use Rattle.guard_report.specs.ValueText.{items_known, part_name};
+ghost use Rattle.guard_messages.specs.ValueJson.{bits_json, dotted, elements_json, item_json, members_json};
+ghost use Rattle.guard_messages.specs.ValueJson.{value_json};
+
+use guard_model::{Bits, Comp, Kind, Named, OutOfMemory, Ty, Value};
+use itoa::Buffer;
+use json::{Token, Writer};
+use std::alloc::Global;
+
+/// The text of a value of the type.
+pub fn value_json(alloc: Global, ty: &Ty, value: &Value) -> Result<Vec<u8>, OutOfMemory>
+    ensures { IfOk result (λ text. text.items
+        ≡ print (value_json (Some (type_view ty.now)) (value_view value.now))) }
+{
+    let mut writer = Writer::new(Vec::new(alloc));
+    add_value(alloc, &mut writer, Some(ty), value)?;
+    Ok(writer.into_inner())
+}
+
+/// Writes the value, with the names that its type has, where one is known.
+#[cycle(values)]
+fn add_value(
+    alloc: Global,
+    writer: &mut Writer,
+    ty: Option<&Ty>,
+    value: &Value,
+) -> Result<(), OutOfMemory>
+    ensures tokens { OnOk result (writer.new.tokens ≡ writer.old.tokens
+        ++ value_json (option_map (λ ty. type_view ty.now) ty.entry) (value_view value.now)) }
+    ensures before { writer.new.before ≡ writer.old.before }
+{
+    match value {
+        Value::Bool(truth) => put(writer, Token::Bool(*truth)),
+        Value::Int(number) => put_integer(writer, *number),
+        Value::Enumerated(number) => put_item(writer, items_known(ty), *number),
+        Value::Null => put(writer, Token::Null),
+        Value::Bits(bits) => put_bits(alloc, writer, bits),
+        Value::Octets(octets) => put_octets(alloc, writer, octets),
+        Value::Oid(arcs) => put_arcs(alloc, writer, arcs),
+        Value::Chars(string) => put_characters(writer, string),
+        Value::Fields(fields) => add_fields(alloc, writer, ty, fields),
+        Value::Items(items) => add_items(alloc, writer, element_type(ty), items),
+        Value::Chosen(place, inner) => add_chosen(alloc, writer, ty, usize::from(*place), inner),
+    }
+}
+
+/// Writes an object of the components that are there.
+#[cycle(values)]
+fn add_fields(
+    alloc: Global,
+    writer: &mut Writer,
+    ty: Option<&Ty>,
+    fields: &[Option<Value>],
+) -> Result<(), OutOfMemory>
+    ensures tokens { OnOk result (writer.new.tokens ≡ writer.old.tokens
+        ++ begin_object ∷ (members_json (option_map (λ ty. type_view ty.now) ty.entry) 0 (fields_view fields.now)
+        ++ end_object ∷ [])) }
+    ensures before { writer.new.before ≡ writer.old.before }
+{
+    put(writer, Token::BeginObject)?;
+    for (place, field) in fields.iter().enumerate() {
+        if let Some(value) = field {
+            add_member(alloc, writer, ty, place, value)?;
+        }
+    }
+    put(writer, Token::EndObject)?;
+    Ok(())
+}
+
+/// Writes an array of the elements, each of this type, where one is known.
+#[cycle(values)]
+fn add_items(
+    alloc: Global,
+    writer: &mut Writer,
+    ty: Option<&Ty>,
+    items: &[Value],
+) -> Result<(), OutOfMemory>
+    ensures tokens { OnOk result (writer.new.tokens ≡ writer.old.tokens
+        ++ begin_array ∷ (elements_json (option_map (λ ty. type_view ty.now) ty.entry) (items_view items.now)
+        ++ end_array ∷ [])) }
+    ensures before { writer.new.before ≡ writer.old.before }
+{
+    put(writer, Token::BeginArray)?;
+    for item in items {
+        add_value(alloc, writer, ty, item)?;
+    }
+    put(writer, Token::EndArray)?;
+    Ok(())
+}
+
+/// Writes an object of the alternative at this place of the type.
+#[cycle(values)]
+fn add_chosen(
+    alloc: Global,
+    writer: &mut Writer,
+    ty: Option<&Ty>,
+    place: usize,
+    value: &Value,
+) -> Result<(), OutOfMemory>
+    ensures tokens { let t = option_map (λ ty. type_view ty.now) ty.entry in
+        OnOk result (writer.new.tokens ≡ writer.old.tokens ++ begin_object ∷ key (part_name t place)
+        ∷ (value_json (type_within t (Component place)) (value_view value.now) ++ end_object ∷ [])) }
+    ensures before { writer.new.before ≡ writer.old.before }
+{
+    put(writer, Token::BeginObject)?;
+    add_member(alloc, writer, ty, place, value)?;
+    put(writer, Token::EndObject)?;
+    Ok(())
+}
+
+/// Writes the name of the component or alternative at this place of the type, and its value.
+#[cycle(values)]
+fn add_member(
+    alloc: Global,
+    writer: &mut Writer,
+    ty: Option<&Ty>,
+    place: usize,
+    value: &Value,
+) -> Result<(), OutOfMemory>
+    ensures tokens { let t = option_map (λ ty. type_view ty.now) ty.entry in
+        OnOk result (writer.new.tokens ≡ writer.old.tokens ++ key (part_name t place)
+        ∷ value_json (type_within t (Component place)) (value_view value.now)) }
+    ensures before { writer.new.before ≡ writer.old.before }
+{
+    put_part_name(writer, ty, place)?;
+    add_value(alloc, writer, part_type(ty, place), value)?;
+    Ok(())
+}
+
+// ---- tokens
+
+/// Writes a token.
+fn put(writer: &mut Writer, token: Token<'_>) -> Result<(), OutOfMemory>
+    requires { IsPrintable (token_of token) }
+    ensures tokens { OnOk result (writer.new.tokens ≡ writer.old.tokens ++ token_of token.entry ∷ []) }
+    ensures before { writer.new.before ≡ writer.old.before }
+{
+    writer.token(token)?;
+    Ok(())
+}
+
+/// Writes the name of the component or alternative at this place of the type, or its number where there is none.
+fn put_part_name(writer: &mut Writer, ty: Option<&Ty>, place: usize) -> Result<(), OutOfMemory>
+    ensures tokens { OnOk result (writer.new.tokens ≡ writer.old.tokens
+        ++ key (part_name (option_map (λ ty. type_view ty.now) ty.entry) place) ∷ []) }
+    ensures before { writer.new.before ≡ writer.old.before }
+{
+    match component_at(ty, place) {
+        Some(comp) => put(writer, Token::Key(&comp.name)),
+        None => {
+            let mut buffer = Buffer::new();
+            put(writer, Token::Key(buffer.format(place)))
+        }
+    }
+}
+
+fn put_integer(writer: &mut Writer, value: i128) -> Result<(), OutOfMemory>
+    ensures tokens { OnOk result (writer.new.tokens ≡ writer.old.tokens ++ number (signed_decimal value) ∷ []) }
+    ensures before { writer.new.before ≡ writer.old.before }
+{
+    let mut buffer = Buffer::new();
+    put(writer, Token::Number(buffer.format(value)))
+}
+
+/// Writes an item by its name, or its number where there is none.
+fn put_item(writer: &mut Writer, items: &[Named], number: i128) -> Result<(), OutOfMemory>
+    ensures tokens { OnOk result (writer.new.tokens ≡ writer.old.tokens
+        ++ item_json (name_of (map named_view items.now) number) number ∷ []) }
+    ensures before { writer.new.before ≡ writer.old.before }
+{
+    match name_of(items, number) {
+        Some(name) => put(writer, Token::String(name)),
+        None => put_integer(writer, number),
+    }
+}
+
+fn put_characters(writer: &mut Writer, text: &str) -> Result<(), OutOfMemory>
+    ensures tokens { OnOk result (writer.new.tokens
+        ≡ writer.old.tokens ++ string (encode_utf8_all (chars text.now)) ∷ []) }
+    ensures before { writer.new.before ≡ writer.old.before }
+{
+    put(writer, Token::String(text))
+}
+
+/// Writes the octets in hexadecimal.
+fn put_octets(alloc: Global, writer: &mut Writer, octets: &[u8]) -> Result<(), OutOfMemory>
+    ensures tokens { OnOk result (writer.new.tokens ≡ writer.old.tokens ++ string (encode_upper octets.now) ∷ []) }
+    ensures before { writer.new.before ≡ writer.old.before }
+{
+    let digits = hex::encode_upper(alloc, octets)?;
+    put(writer, Token::String(&digits))
+}
+
+/// Writes an object of the octets and the number of bits.
+fn put_bits(alloc: Global, writer: &mut Writer, bits: &Bits) -> Result<(), OutOfMemory>
+    ensures tokens { OnOk result (writer.new.tokens ≡ writer.old.tokens
+        ++ bits_json (arc_slice_items bits.now.octets) bits.now.unused) }
+    ensures before { writer.new.before ≡ writer.old.before }
+{
+    put(writer, Token::BeginObject)?;
+    put(writer, Token::Key("value"))?;
+    put_octets(alloc, writer, bits.octets.as_slice())?;
+    put(writer, Token::Key("length"))?;
+    put_length(writer, bits.octets.as_slice(), bits.unused)?;
+    put(writer, Token::EndObject)?;
+    Ok(())
+}
+
+/// Writes how many bits the octets have, without the unused ones.
+fn put_length(writer: &mut Writer, octets: &[u8], unused: u8) -> Result<(), OutOfMemory>
+    ensures tokens { OnOk result (writer.new.tokens ≡ writer.old.tokens
+        ++ number (decimal (8 * length octets.now - unused)) ∷ []) }
+    ensures before { writer.new.before ≡ writer.old.before }
+{
+    let bits = (8 * octets.len() as u128).saturating_sub(u128::from(unused));
+    let mut buffer = Buffer::new();
+    put(writer, Token::Number(buffer.format(bits)))
+}
+
+/// Writes the arcs of an object identifier.
+fn put_arcs(alloc: Global, writer: &mut Writer, arcs: &[u128]) -> Result<(), OutOfMemory>
+    ensures tokens { OnOk result (writer.new.tokens ≡ writer.old.tokens ++ string (dotted arcs.now) ∷ []) }
+    ensures before { writer.new.before ≡ writer.old.before }
+{
+    let text = dotted(alloc, arcs)?;
+    put(writer, Token::String(&text))
+}
+
+/// The arcs with dots between them.
+fn dotted(alloc: Global, arcs: &[u128]) -> Result<String, OutOfMemory>
+    ensures { IfOk result (λ text. string_bytes text ≡ dotted arcs.now) }
+{
+    let mut text = String::new(alloc);
+    let [first, others @ ..] = arcs else {
+        return Ok(text);
+    };
+    add_arc(&mut text, *first)?;
+    for arc in others {
+        text.push_str(".")?;
+        add_arc(&mut text, *arc)?;
+    }
+    Ok(text)
+}
+
+fn add_arc(text: &mut String, arc: u128) -> Result<(), OutOfMemory>
+    ensures { OnOk result (string_bytes text.new ≡ string_bytes text.old ++ decimal arc) }
+{
+    let mut buffer = Buffer::new();
+    text.push_str(buffer.format(arc))?;
+    Ok(())
+}
+
+// ---- what the type knows
+
+/// The component or alternative at this place of the written list, from 0; None where no type is known, or it has no
+/// such part.
+fn component_at(ty: Option<&Ty>, place: usize) -> Option<&Comp>
+    ensures { option_map (λ comp. component_view comp.now) result
+        ≡ component_of (option_map (λ ty. type_view ty.now) ty.entry) place }
+{
+    let kind = &ty?.kind;
+    kind.components().get(place)
+}
+
+/// The type of that part.
+fn part_type(ty: Option<&Ty>, place: usize) -> Option<&Ty>
+    ensures { option_map (λ ty. type_view ty.now) result
+        ≡ type_within (option_map (λ ty. type_view ty.now) ty.entry) (Component place) }
+{
+    Some(&component_at(ty, place)?.ty)
+}
+
+/// The type of the elements of an OF type; None where no type is known, or it is no OF type.
+fn element_type(ty: Option<&Ty>) -> Option<&Ty>
+    ensures { option_map (λ ty. type_view ty.now) result ≡ element_type (option_map (λ ty. type_view ty.now) ty.entry) }
+{
+    ty?.kind.element()
+}
+
+/// The items of an ENUMERATED; none where no type is known, or of another one.
+fn items_known(ty: Option<&Ty>) -> &[Named]
+    ensures { map named_view result.now ≡ items_known (option_map (λ ty. type_view ty.now) ty.entry) }
+{
+    let Some(ty) = ty else { return &[] };
+    match &ty.kind {
+        Kind::Enumerated(items) => items.as_slice(),
+        _ => &[],
+    }
+}
+
+/// The first name of this number; None where none has it.
+fn name_of(names: &[Named], number: i128) -> Option<&str>
+    ensures { option_map (λ name. name.now) result ≡ name_of (map named_view names.now) number }
+{
+    for named in names {
+        if named.number == number {
+            return Some(&named.name);
+        }
+    }
+    None
+}

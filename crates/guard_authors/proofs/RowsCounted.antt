@@ -22,8 +22,9 @@ use Rattle.guard_authors.specs.declared.summary.Counts.{Counts}
 use Rattle.guard_authors.specs.declared.summary.Row.{Row}
 use Rattle.guard_authors.specs.declared.summary.Row.TheVariants.{Rule, Reason}
 use Rattle.guard_authors.specs.declared.summary.Sums.{Sums}
+use Rattle.guard_authors.specs.declared.summary.Unruled.{Unruled}
 use Rattle.guard_authors.specs.Differing.{AbstractComparison, written}
-use Rattle.guard_authors.specs.Summary.{AreRows, IsRow, IsRowOf, how_often, reasons_in, rules_in}
+use Rattle.guard_authors.specs.Summary.{AreRows, IsRow, IsRowOf, how_often, place_of, reasons_in, rules_in}
 use Rattle.guard_authors.specs.inside.Counting.{AreCounted, AreCounts, BeginsCounting, CountsBodies, CountsBody, CountsFrame, CountsFrames, IsCount, IsCounted, count_at}
 
 -- ---- a number more
@@ -98,7 +99,7 @@ rules_then (Reason k ∷ a) b = rules_then a b
 reasons_then : (a b : List Row) → reasons_in (a ++ b) ≡ reasons_in a ++ reasons_in b
 reasons_then [] b = refl
 reasons_then (Rule i ∷ a) b = reasons_then a b
-reasons_then (Reason k ∷ a) b = ap (λ ns. k ∷ ns) (reasons_then a b)
+reasons_then (Reason k ∷ a) b = ap (λ ns. place_of k ∷ ns) (reasons_then a b)
 
 abbrev pub CountsNumber : ℕ → List ℕ → List ℕ → Type 0
 CountsNumber n before after =
@@ -112,12 +113,13 @@ counts_rule n rules rules₁ reasons counts many rows h = (
   subst (λ (ns : List ℕ). IsCount 6 ns reasons) (sym (reasons_then rows (Rule n ∷ []) ∙ append-nil (reasons_in rows))) h.1,
 )
 
-pub counts_reason : (n : ℕ) (rules reasons reasons₁ : List ℕ) → CountsNumber n reasons reasons₁ → (many : ℕ) (rows : List Row)
+pub counts_reason : (k : Unruled) (n : ℕ) (rules reasons reasons₁ : List ℕ) → n ≡ place_of k → CountsNumber n reasons reasons₁ → (many : ℕ) (rows : List Row)
     → IsCount many (rules_in rows) rules × IsCount 6 (reasons_in rows) reasons
-    → IsCount many (rules_in (rows ++ Reason n ∷ [])) rules × IsCount 6 (reasons_in (rows ++ Reason n ∷ [])) reasons₁
-counts_reason n rules reasons reasons₁ counts many rows h = (
-  subst (λ (ns : List ℕ). IsCount many ns rules) (sym (rules_then rows (Reason n ∷ []) ∙ append-nil (rules_in rows))) h.0,
-  subst (λ (ns : List ℕ). IsCount 6 ns reasons₁) (sym (reasons_then rows (Reason n ∷ []))) (counts 6 (reasons_in rows) h.1),
+    → IsCount many (rules_in (rows ++ Reason k ∷ [])) rules × IsCount 6 (reasons_in (rows ++ Reason k ∷ [])) reasons₁
+counts_reason k n rules reasons reasons₁ is counts many rows h = (
+  subst (λ (ns : List ℕ). IsCount many ns rules) (sym (rules_then rows (Reason k ∷ []) ∙ append-nil (rules_in rows))) h.0,
+  subst (λ (ns : List ℕ). IsCount 6 ns reasons₁) (ap (λ (i : ℕ). reasons_in rows ++ i ∷ []) is ∙ sym (reasons_then rows (Reason k ∷ [])))
+      (counts 6 (reasons_in rows) h.1),
 )
 
 -- ---- the frames

@@ -12,25 +12,27 @@ use Rattle.guard_files.specs.RuleText.{said_text}
 use Rattle.guard_authors.specs.Differing.{AbstractComparison}
 use Rattle.guard_authors.specs.declared.summary.Row.{Row}
 use Rattle.guard_authors.specs.declared.summary.Row.TheVariants.{Rule, Reason}
+use Rattle.guard_authors.specs.declared.summary.Unruled.{Unruled}
+use Rattle.guard_authors.specs.declared.summary.Unruled.TheVariants.{BadHeader, UnknownMessage, Undecodable, OutsideType, NotAllowed, NoRule}
 
 -- ---- the row in which a frame is counted
 
 -- By the verdict on a message: the first rule that allows its value, where it goes; the rule that denies it; and where no
--- rule has it the reason, by a number.
+-- rule has it the reason.
 abbrev pub IsRow : AbstractPolicy → AbstractRoute → List ℕ → AbstractVerdict → Row → Type 0
 IsRow p route octets pass row =
     OfValue p route.message octets
     (λ t v. (i : ℕ) × (others : List ℕ) × (allowing (rules_of p route) v ≡ i ∷ others) × (row ≡ Rule i))
 IsRow p route octets (denied_by i) row = row ≡ Rule i
-IsRow p route octets unknown_message row = row ≡ Reason 1
-IsRow p route octets (undecodable b) row = row ≡ Reason 2
-IsRow p route octets (outside_type w) row = row ≡ Reason 3
-IsRow p route octets (not_allowed rs) row = row ≡ Reason 4
-IsRow p route octets no_rule row = row ≡ Reason 5
+IsRow p route octets unknown_message row = row ≡ Reason UnknownMessage
+IsRow p route octets (undecodable b) row = row ≡ Reason Undecodable
+IsRow p route octets (outside_type w) row = row ≡ Reason OutsideType
+IsRow p route octets (not_allowed rs) row = row ≡ Reason NotAllowed
+IsRow p route octets no_rule row = row ≡ Reason NoRule
 
 -- that of the frame with this body, which no policy decides where it isn't three names and a message
 abbrev pub IsRowOf : AbstractPolicy → Option AbstractBody → Row → Type 0
-IsRowOf p None row = row ≡ Reason 0
+IsRowOf p None row = row ≡ Reason BadHeader
 IsRowOf p (Some b) row =
     (w : AbstractVerdict) × IsReason p (route_of b) b.message_octets w × IsRow p (route_of b) b.message_octets w row
 
@@ -41,7 +43,16 @@ AreRows p (f ∷ fs) rows =
     (row : Row) × (others : List Row) × IsRowOf p (body_in (drop 4 f)) row × AreRows p fs others
     × (rows ≡ row ∷ others)
 
--- the rules by their numbers, one for each frame that a rule has, and the reasons for all others
+-- the place of a reason in the table, from 0
+abbrev pub place_of : Unruled → ℕ
+place_of BadHeader = 0
+place_of UnknownMessage = 1
+place_of Undecodable = 2
+place_of OutsideType = 3
+place_of NotAllowed = 4
+place_of NoRule = 5
+
+-- the rules by their numbers, one for each frame that a rule has, and the reasons by their places for all others
 abbrev pub rules_in : List Row → List ℕ
 rules_in [] = []
 rules_in (Rule i ∷ rows) = i ∷ rules_in rows
@@ -50,7 +61,7 @@ rules_in (Reason k ∷ rows) = rules_in rows
 abbrev pub reasons_in : List Row → List ℕ
 reasons_in [] = []
 reasons_in (Rule i ∷ rows) = reasons_in rows
-reasons_in (Reason k ∷ rows) = k ∷ reasons_in rows
+reasons_in (Reason k ∷ rows) = place_of k ∷ reasons_in rows
 
 -- how many of the numbers are this one; from the greatest number of 64 bits on it is that one
 abbrev pub how_often : List ℕ → ℕ → ℕ
@@ -68,16 +79,16 @@ rule_lines often i (r ∷ rs) =
 abbrev pub reason_line : List ℕ → ℕ → List ℕ
 reason_line reason n = if nat_eq n 0 then [] else codes "  " ++ reason ++ codes " " ++ decimal n ++ codes "\n"
 
-abbrev pub reason_lines : (ℕ → ℕ) → List ℕ
+abbrev pub reason_lines : (Unruled → ℕ) → List ℕ
 reason_lines often =
-    reason_line (codes "bad-header") (often 0)
-    ++ reason_line (codes "unknown-message") (often 1)
-    ++ reason_line (codes "undecodable") (often 2)
-    ++ reason_line (codes "outside-type") (often 3)
-    ++ reason_line (codes "not-allowed") (often 4)
-    ++ reason_line (codes "no-rule") (often 5)
+    reason_line (codes "bad-header") (often BadHeader)
+    ++ reason_line (codes "unknown-message") (often UnknownMessage)
+    ++ reason_line (codes "undecodable") (often Undecodable)
+    ++ reason_line (codes "outside-type") (often OutsideType)
+    ++ reason_line (codes "not-allowed") (often NotAllowed)
+    ++ reason_line (codes "no-rule") (often NoRule)
 
-abbrev pub policy_lines : AbstractPolicy → (ℕ → ℕ) → (ℕ → ℕ) → List ℕ
+abbrev pub policy_lines : AbstractPolicy → (ℕ → ℕ) → (Unruled → ℕ) → List ℕ
 policy_lines p by_rule by_reason = rule_lines by_rule 0 p.rules ++ reason_lines by_reason
 
 abbrev pub both_lines : List ℕ → List ℕ → List ℕ
@@ -85,7 +96,7 @@ both_lines old new = codes "old policy:\n" ++ old ++ codes "new policy:\n" ++ ne
 
 -- of a policy, by the rows of the frames
 abbrev pub counted_lines : AbstractPolicy → List Row → List ℕ
-counted_lines p rows = policy_lines p (how_often (rules_in rows)) (how_often (reasons_in rows))
+counted_lines p rows = policy_lines p (how_often (rules_in rows)) (λ k. how_often (reasons_in rows) (place_of k))
 
 -- where it is asked for, what is told of these frames under both policies
 abbrev pub IsSummary : Bool → AbstractComparison → List (List ℕ) → List ℕ → Type 0

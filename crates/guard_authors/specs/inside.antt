@@ -3,5 +3,4 @@ pub mod Assigned
 pub mod Caseless
 pub mod Counting
 pub mod Encoded
-pub mod Loading
 pub mod Pieces

@@ -1,14 +1,11 @@
 //! One number over the octets of a policy and of its modules.
-ghost use Rattle.std.specs.Prelude.{◌≡◌, ◌++◌, map, IfOk, IfErr, OnOk};
-ghost use Rattle.guard_frames.specs.Texts.{SayPolicy};
-ghost use Rattle.guard_policy.specs.Policies.{AbstractPolicy};
+ghost use Rattle.std.specs.Prelude.{◌++◌, IfOk, IfErr, OnOk, ◌≡◌};
 ghost use Rattle.guard_files.specs.Answers.{answer_view};
-ghost use Rattle.guard_files.specs.Reading.{IsNoPolicyAt, SayNoneLoaded};
-ghost use Rattle.guard_authors.specs.Checked.{counts_text};
+ghost use Rattle.guard_files.specs.Reading.{IsNoPolicyAt};
 ghost use Rattle.guard_authors.specs.Digested.{digest_line, IsDigested};
 
 use crate::checking::counts;
-use guard_files::{Answer, Fault, Files, Texts, add_line, digest_of, said_by};
+use guard_files::{Answer, Fault, Files, add_line, load_numbered};
 use guard_model::OutOfMemory;
 use std::alloc::Global;
 
@@ -18,30 +15,16 @@ pub fn check_digest<F: Files>(alloc: Global, path: &str, files: &mut F) -> Resul
     ensures digested { IfOk result (λ a. IsDigested (F.told files.old) path.now (answer_view a)) }
     ensures none { IfErr result (IsNoPolicyAt (F.told files.old) path.now) }
 {
-    let texts = Texts::read(alloc, path, files)?;
-    digested(alloc, &texts)
-}
-
-fn digested(alloc: Global, texts: &Texts) -> Result<Answer, Fault>
-    ensures digested { IfOk result (λ a. (p : AbstractPolicy)
-        × SayPolicy (map (λ text. text.items) texts.now.modules.items) texts.now.policy.items p
-        × (a.out.items ≡ counts_text p ++ digest_line texts.now.policy.items
-        (map (λ text. text.items) texts.now.modules.items)) × (a.status ≡ 0)) }
-    ensures none { IfErr result (SayNoneLoaded (map (λ text. text.items) texts.now.modules.items)
-        texts.now.policy.items) }
-{
-    let policy = said_by(alloc, texts)?;
+    let (policy, digest) = load_numbered(alloc, path, files)?;
     let mut out = counts(alloc, &policy)?;
-    add_digest(alloc, &mut out, texts)?;
+    add_digest(alloc, &mut out, digest)?;
     Ok(Answer { out, status: 0 })
 }
 
 /// Adds the line of the number.
-fn add_digest(alloc: Global, out: &mut Vec<u8>, texts: &Texts) -> Result<(), OutOfMemory>
-    ensures { OnOk result (out.new.items ≡ out.old.items ++ digest_line texts.now.policy.items
-        (map (λ text. text.items) texts.now.modules.items)) }
+fn add_digest(alloc: Global, out: &mut Vec<u8>, digest: [u8; 32]) -> Result<(), OutOfMemory>
+    ensures { OnOk result (out.new.items ≡ out.old.items ++ digest_line digest) }
 {
-    let digest = digest_of(texts);
     let digits = hex::encode(alloc, digest.as_slice())?;
     add_line(out, b"digest ", &digits)
 }

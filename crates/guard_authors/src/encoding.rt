@@ -1,5 +1,5 @@
 //! The DER encoding of a value that is written, or the frame that holds it.
-ghost use Rattle.std.specs.Prelude.{◌≡◌, ◌⊎◌, ◌++◌, ℕ, List, [], Some, None, Ok, codes, map, option_map};
+ghost use Rattle.std.specs.Prelude.{◌≡◌, ◌⊎◌, ◌++◌, [], Some, None, codes, option_map};
 ghost use Rattle.std.specs.Prelude.{IfOk, IfErr, IfSome, IsTrue, string_bytes};
 ghost use Rattle.hex.specs.Hex.{encode_upper};
 ghost use Rattle.guard_model.specs.TypeView.{type_view};
@@ -9,9 +9,6 @@ ghost use Rattle.guard_der.specs.Sound.{is_sound};
 ghost use Rattle.guard_eval.specs.Violations.{violation, violation_view};
 ghost use Rattle.guard_policy.specs.PolicyView.{policy_view};
 ghost use Rattle.guard_policy.specs.SaidView.{said_message_view};
-ghost use Rattle.guard_schema.specs.Accepts.{ReadsModules};
-ghost use Rattle.guard_schema.specs.Texts.{AreOfTexts};
-ghost use Rattle.guard_syntax.specs.ModuleViews.{module_view};
 ghost use Rattle.guard_files.specs.declared.fault.Fault.TheVariants.{NoMemory};
 ghost use Rattle.guard_files.specs.Devices.{source_of, device_of, IsUntouched};
 ghost use Rattle.guard_files.specs.Explaining.{TellsWith};
@@ -23,7 +20,6 @@ ghost use Rattle.guard_authors.specs.Encodes.{IsEncoded, EncodesText, EncodesGiv
 ghost use Rattle.guard_authors.specs.Framing.{IsPayload, HasNoPayload};
 ghost use Rattle.guard_authors.specs.ValueTexts.{value_note};
 ghost use Rattle.guard_authors.specs.inside.Encoded.{IsUnencoded};
-ghost use Rattle.guard_authors.specs.inside.Loading.{EncodesOver};
 
 use crate::framing::frame;
 use crate::written::encoded;
@@ -37,7 +33,6 @@ use guard_model::{OutOfMemory, Ty, Value};
 use guard_notes::{Sources, place_lines, schema_place};
 use guard_policy::{Policy, Route, SaidMessage, Verdict};
 use guard_report::verdict_text;
-use guard_syntax::Module;
 use std::alloc::Global;
 
 /// What `encode` is asked for: the octets of a value of this message, under the policy at a path.
@@ -71,50 +66,15 @@ pub fn encode<F: Files, S: Source, O: Sink, E: Sink>(
         (device_of O.taken O.has_failed out.old out.new)
         (device_of E.taken E.has_failed err.old err.new) result }
 {
-    match Texts::read(alloc, asked.policy, files) {
-        Ok(texts) => encode_over(alloc, asked, &texts, input, out, err),
-        Err(fault) => tell(alloc, &fault, err),
-    }
-}
-
-/// Over the texts of the policy and of its modules.
-fn encode_over<S: Source, O: Sink, E: Sink>(
-    alloc: Global,
-    asked: &Encoding,
-    texts: &Texts,
-    input: &mut S,
-    out: &mut O,
-    err: &mut E,
-) -> u8
-    ensures { EncodesOver (map (λ text. text.items) texts.now.modules.items) texts.now.policy.items
-        (encoding_view asked.now) (source_of S.tells S.takes S.has_failed input.old input.new)
-        (device_of O.taken O.has_failed out.old out.new)
-        (device_of E.taken E.has_failed err.old err.new) result }
-{
-    match texts.trees(alloc) {
-        Ok(modules) => encode_within(alloc, asked, &modules, &texts.policy, input, out, err),
-        Err(fault) => tell(alloc, &fault, err),
-    }
-}
-
-/// Over these modules, where the text says the policy.
-fn encode_within<S: Source, O: Sink, E: Sink>(
-    alloc: Global,
-    asked: &Encoding,
-    modules: &[Module],
-    text: &[u8],
-    input: &mut S,
-    out: &mut O,
-    err: &mut E,
-) -> u8
-    requires { AreOfTexts (map module_view modules.now) }
-    ensures { (texts : List (List ℕ)) → ReadsModules texts (Ok (map module_view modules.now))
-        → EncodesOver texts text.now (encoding_view asked.now)
-        (source_of S.tells S.takes S.has_failed input.old input.new)
-        (device_of O.taken O.has_failed out.old out.new)
-        (device_of E.taken E.has_failed err.old err.new) result }
-{
-    match Loaded::of(alloc, modules, text) {
+    let texts = match Texts::read(alloc, asked.policy, files) {
+        Ok(texts) => texts,
+        Err(fault) => return tell(alloc, &fault, err),
+    };
+    let modules = match texts.trees(alloc) {
+        Ok(modules) => modules,
+        Err(fault) => return tell(alloc, &fault, err),
+    };
+    match Loaded::of(alloc, &modules, &texts.policy) {
         Ok(loaded) => encode_under(alloc, asked, &loaded, input, out, err),
         Err(fault) => tell(alloc, &fault, err),
     }

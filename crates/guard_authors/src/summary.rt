@@ -6,9 +6,9 @@ ghost use Rattle.guard_policy.specs.Decisions.{IsReason};
 ghost use Rattle.guard_policy.specs.PolicyView.{policy_view, route_view};
 ghost use Rattle.guard_policy.specs.Verdicts.{pass, verdict_view};
 ghost use Rattle.guard_authors.specs.Differing.{comparison_view};
-ghost use Rattle.guard_authors.specs.Summary.{policy_lines, reason_line, reason_lines, rule_lines, IsRow, IsRowOf};
-ghost use Rattle.guard_authors.specs.inside.Counting.{count_at, summed, AreCounts, BeginsCounting, CountsFrame};
-ghost use Rattle.guard_authors.specs.inside.Counting.{IsCount};
+ghost use Rattle.guard_authors.specs.Summary.{place_of, policy_lines, reason_line, reason_lines, rule_lines, IsRow, IsRowOf};
+ghost use Rattle.guard_authors.specs.inside.Counting.{count_at, count_of, summed, AreCounts, BeginsCounting};
+ghost use Rattle.guard_authors.specs.inside.Counting.{CountsFrame, IsCount};
 ghost use Rattle.guard_authors.specs.declared.summary.Row.{Row};
 
 use crate::differing::{Comparison, Tally, route_in};
@@ -22,14 +22,46 @@ use std::alloc::{AllocError, Global};
 /// How many reasons there are why no rule has a frame.
 const REASONS: usize = 6;
 
+/// Why no rule has a frame, in the order of the table.
+#[derive(Clone, Copy, Debug, PartialEq, Eq)]
+pub enum Unruled {
+    /// It isn't three names and a message.
+    BadHeader,
+    /// The policy declares no message of its name.
+    UnknownMessage,
+    /// Its octets break the encoding rules.
+    Undecodable,
+    /// Its value is outside its declared type.
+    OutsideType,
+    /// No allowing rule of its route has its value.
+    NotAllowed,
+    /// No allowing rule speaks of its route.
+    NoRule,
+}
+
+impl Unruled {
+    /// The place of its count, from 0.
+    fn place(self) -> usize
+        ensures { result ≡ place_of self }
+    {
+        match self {
+            Unruled::BadHeader => 0,
+            Unruled::UnknownMessage => 1,
+            Unruled::Undecodable => 2,
+            Unruled::OutsideType => 3,
+            Unruled::NotAllowed => 4,
+            Unruled::NoRule => 5,
+        }
+    }
+}
+
 /// In which row of a policy's table a frame is counted.
 #[derive(Clone, Copy, Debug, PartialEq, Eq)]
 pub enum Row {
     /// That of the rule of this number, which let it through or stopped it.
     Rule(usize),
-    /// That of the reason of this number, where no rule has it: 0 where it isn't three names and a message, and then as
-    /// they are written below.
-    Reason(usize),
+    /// That of the reason why no rule has it.
+    Reason(Unruled),
 }
 
 /// How many frames were counted in each row. Each number stays at the greatest of 64 bits.
@@ -65,7 +97,7 @@ impl Counts {
     {
         match row {
             Row::Rule(number) => count_one(&mut self.rules, number),
-            Row::Reason(number) => count_one(&mut self.reasons, number),
+            Row::Reason(reason) => count_one(&mut self.reasons, reason.place()),
         }
     }
 }
@@ -126,7 +158,7 @@ fn row_of(alloc: Global, policy: &Policy, body: &[u8]) -> Result<Row, OutOfMemor
 {
     match read_body(body) {
         Some(body) => decided_row(alloc, policy, &body),
-        None => Ok(Row::Reason(0)),
+        None => Ok(Row::Reason(Unruled::BadHeader)),
     }
 }
 
@@ -153,11 +185,11 @@ fn verdict_row(
     match verdict {
         Verdict::Pass => allowing_row(alloc, policy, route, octets),
         Verdict::DeniedBy(number) => Ok(Row::Rule(*number)),
-        Verdict::UnknownMessage => Ok(Row::Reason(1)),
-        Verdict::Undecodable(_) => Ok(Row::Reason(2)),
-        Verdict::OutsideType(_) => Ok(Row::Reason(3)),
-        Verdict::NotAllowed(_) => Ok(Row::Reason(4)),
-        Verdict::NoRule => Ok(Row::Reason(5)),
+        Verdict::UnknownMessage => Ok(Row::Reason(Unruled::UnknownMessage)),
+        Verdict::Undecodable(_) => Ok(Row::Reason(Unruled::Undecodable)),
+        Verdict::OutsideType(_) => Ok(Row::Reason(Unruled::OutsideType)),
+        Verdict::NotAllowed(_) => Ok(Row::Reason(Unruled::NotAllowed)),
+        Verdict::NoRule => Ok(Row::Reason(Unruled::NoRule)),
     }
 }
 
@@ -218,7 +250,7 @@ fn both_text(alloc: Global, comparison: &Comparison, sums: &Sums) -> Result<Vec<
 
 fn add_policy(text: &mut Vec<u8>, policy: &Policy, counts: &Counts) -> Result<(), OutOfMemory>
     ensures { OnOk result (text.new.items ≡ text.old.items ++ policy_lines (policy_view policy.now)
-        (count_at counts.now.rules.items) (count_at counts.now.reasons.items)) }
+        (count_at counts.now.rules.items) (count_of counts.now.reasons.items)) }
 {
     add_rules(text, policy, &counts.rules)?;
     add_reasons(text, &counts.reasons)
@@ -240,14 +272,22 @@ fn add_rules(text: &mut Vec<u8>, policy: &Policy, counts: &[u64]) -> Result<(), 
 }
 
 fn add_reasons(text: &mut Vec<u8>, counts: &[u64]) -> Result<(), OutOfMemory>
-    ensures { OnOk result (text.new.items ≡ text.old.items ++ reason_lines (count_at counts.now)) }
+    ensures { OnOk result (text.new.items ≡ text.old.items ++ reason_lines (count_of counts.now)) }
 {
-    add_reason(text, b"bad-header", count_at(counts, 0))?;
-    add_reason(text, b"unknown-message", count_at(counts, 1))?;
-    add_reason(text, b"undecodable", count_at(counts, 2))?;
-    add_reason(text, b"outside-type", count_at(counts, 3))?;
-    add_reason(text, b"not-allowed", count_at(counts, 4))?;
-    add_reason(text, b"no-rule", count_at(counts, 5))
+    add_reason(text, b"bad-header", count_of(counts, Unruled::BadHeader))?;
+    add_reason(
+        text,
+        b"unknown-message",
+        count_of(counts, Unruled::UnknownMessage),
+    )?;
+    add_reason(text, b"undecodable", count_of(counts, Unruled::Undecodable))?;
+    add_reason(
+        text,
+        b"outside-type",
+        count_of(counts, Unruled::OutsideType),
+    )?;
+    add_reason(text, b"not-allowed", count_of(counts, Unruled::NotAllowed))?;
+    add_reason(text, b"no-rule", count_of(counts, Unruled::NoRule))
 }
 
 /// Adds the line of a reason that is there.
@@ -279,4 +319,10 @@ fn count_at(counts: &[u64], number: usize) -> u64
         Some(count) => *count,
         None => 0,
     }
+}
+
+fn count_of(counts: &[u64], reason: Unruled) -> u64
+    ensures { result ≡ count_of counts.now reason }
+{
+    count_at(counts, reason.place())
 }

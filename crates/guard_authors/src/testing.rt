@@ -1,5 +1,5 @@
 //! Which cases that are kept beside a policy come out as they should.
-ghost use Rattle.std.specs.Prelude.{◌≡◌, ◌⊎◌, ◌++◌, ℕ, List, codes, map, option_map, string_bytes};
+ghost use Rattle.std.specs.Prelude.{◌≡◌, ◌⊎◌, ◌++◌, codes, option_map, string_bytes};
 ghost use Rattle.std.specs.Prelude.{Ok, Err, IfOk, IfErr, OnOk, IsTrue};
 ghost use Rattle.hex.specs.Hex.{decode_of};
 ghost use Rattle.hex.specs.declared.error.FromHexError.{FromHexError};
@@ -11,9 +11,6 @@ ghost use Rattle.guard_policy.specs.Documents.{IsNoDocument};
 ghost use Rattle.guard_policy.specs.Policies.{declared_message};
 ghost use Rattle.guard_policy.specs.PolicyView.{policy_view, route_view};
 ghost use Rattle.guard_policy.specs.SaidView.{said_message_view};
-ghost use Rattle.guard_schema.specs.Accepts.{ReadsModules};
-ghost use Rattle.guard_schema.specs.Texts.{AreOfTexts};
-ghost use Rattle.guard_syntax.specs.ModuleViews.{module_view};
 ghost use Rattle.guard_files.specs.Answers.{answer_view};
 ghost use Rattle.guard_files.specs.Devices.{device_of, IsUntouched};
 ghost use Rattle.guard_files.specs.Files.{Told, IsLater};
@@ -27,7 +24,6 @@ ghost use Rattle.guard_authors.specs.Testing.{case_line, case_route};
 ghost use Rattle.guard_authors.specs.Testing.{cases_path, differing_line, digits_in, failures, is_blank, is_wanted};
 ghost use Rattle.guard_authors.specs.Testing.{last_text, name_text, only, tested_status};
 ghost use Rattle.guard_authors.specs.inside.Caseless.{OfFault};
-ghost use Rattle.guard_authors.specs.inside.Loading.{TestsOver};
 
 use crate::cases::{Case, CasesFault, case_in, case_text, cases_of, document, tell_no_document};
 use crate::no_value::no_value_text;
@@ -42,7 +38,6 @@ use guard_model::OutOfMemory;
 use guard_notes::beside;
 use guard_policy::{Policy, Route, SaidMessage};
 use guard_report::verdict_text;
-use guard_syntax::Module;
 use hex::FromHexError;
 use std::alloc::{AllocError, Global};
 use toml::Value;
@@ -82,51 +77,15 @@ pub fn test<F: Files, O: Sink, E: Sink>(
         × IsUntouched (device_of O.taken O.has_failed out.old out.new)
         × Tells f (device_of E.taken E.has_failed err.old err.new) result) }
 {
-    match Texts::read(alloc, asked.policy, files) {
-        Ok(texts) => test_over(alloc, &texts, asked, files, out, err),
-        Err(fault) => tell(alloc, &fault, err),
-    }
-}
-
-/// Over the texts of the policy and of its modules.
-fn test_over<F: Files, O: Sink, E: Sink>(
-    alloc: Global,
-    texts: &Texts,
-    asked: &Trial,
-    files: &mut F,
-    out: &mut O,
-    err: &mut E,
-) -> u8
-    ensures { TestsOver (map (λ text. text.items) texts.now.modules.items) texts.now.policy.items
-        (trial_view asked.now) (F.told files.old)
-        (cases_path (trial_view asked.now).policy (trial_view asked.now).cases)
-        (device_of O.taken O.has_failed out.old out.new)
-        (device_of E.taken E.has_failed err.old err.new) result }
-{
-    match texts.trees(alloc) {
-        Ok(modules) => test_within(alloc, &modules, &texts.policy, asked, files, out, err),
-        Err(fault) => tell(alloc, &fault, err),
-    }
-}
-
-/// Over these modules, where the text says the policy.
-fn test_within<F: Files, O: Sink, E: Sink>(
-    alloc: Global,
-    modules: &[Module],
-    text: &[u8],
-    asked: &Trial,
-    files: &mut F,
-    out: &mut O,
-    err: &mut E,
-) -> u8
-    requires { AreOfTexts (map module_view modules.now) }
-    ensures { (texts : List (List ℕ)) → ReadsModules texts (Ok (map module_view modules.now))
-        → TestsOver texts text.now (trial_view asked.now) (F.told files.old)
-        (cases_path (trial_view asked.now).policy (trial_view asked.now).cases)
-        (device_of O.taken O.has_failed out.old out.new)
-        (device_of E.taken E.has_failed err.old err.new) result }
-{
-    match Loaded::of(alloc, modules, text) {
+    let texts = match Texts::read(alloc, asked.policy, files) {
+        Ok(texts) => texts,
+        Err(fault) => return tell(alloc, &fault, err),
+    };
+    let modules = match texts.trees(alloc) {
+        Ok(modules) => modules,
+        Err(fault) => return tell(alloc, &fault, err),
+    };
+    match Loaded::of(alloc, &modules, &texts.policy) {
         Ok(loaded) => test_beside(alloc, &loaded, asked, files, out, err),
         Err(fault) => tell(alloc, &fault, err),
     }

@@ -5,13 +5,18 @@ use Rattle.guard_frames.specs.Bodies.{AbstractBody}
 use Rattle.guard_authors.specs.declared.summary.Counts.{Counts}
 use Rattle.guard_authors.specs.declared.summary.Row.{Row}
 use Rattle.guard_authors.specs.declared.summary.Sums.{Sums}
+use Rattle.guard_authors.specs.declared.summary.Unruled.{Unruled}
 use Rattle.guard_authors.specs.Differing.{AbstractComparison, no_frames, total_line}
-use Rattle.guard_authors.specs.Summary.{AreRows, IsRowOf, both_lines, how_often, policy_lines, reasons_in, rules_in}
+use Rattle.guard_authors.specs.Summary.{AreRows, IsRowOf, both_lines, how_often, place_of, policy_lines, reasons_in, rules_in}
 
 -- ---- one policy
 
 abbrev pub count_at : List ℕ → ℕ → ℕ
 count_at counts i = get_or counts i 0
+
+-- that of a reason
+abbrev pub count_of : List ℕ → Unruled → ℕ
+count_of counts k = count_at counts (place_of k)
 
 -- so many counts, of how often each number is there
 abbrev pub IsCount : ℕ → List ℕ → List ℕ → Type 0
@@ -66,7 +71,7 @@ AreCounted c frames s = c.summary ≡ true → IsCounted c.old frames s.under_ol
 -- ---- the table, by the counts
 
 abbrev pub lines_of_counts : AbstractPolicy → Counts → List ℕ
-lines_of_counts p counts = policy_lines p (count_at counts.rules.items) (count_at counts.reasons.items)
+lines_of_counts p counts = policy_lines p (count_at counts.rules.items) (count_of counts.reasons.items)
 
 abbrev pub summed : Bool → AbstractComparison → Sums → List ℕ
 summed false c s = []

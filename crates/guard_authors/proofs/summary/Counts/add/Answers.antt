@@ -19,4 +19,4 @@ returns-in-Reason c =
     let reasons = c.count_one-in-Reason.new.counts.items in
     subst (λ (r : Row). (many : ℕ) (rows : List Row) → AreCounts many rows was
     → IsCount many (rules_in (rows ++ r ∷ [])) was.rules.items × IsCount 6 (reasons_in (rows ++ r ∷ [])) reasons)
-    (sym c.in-Reason.is) (counts_reason c.in-Reason.number was.rules.items was.reasons.items reasons c.count_one-in-Reason.ensures)
+    (sym c.in-Reason.is) (counts_reason c.in-Reason.reason c.place.result was.rules.items was.reasons.items reasons c.place.ensures c.count_one-in-Reason.ensures)

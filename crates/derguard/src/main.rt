@@ -1,16 +1,19 @@
 //! The guard as a process: the program over the machine's files, standard input, standard output and standard error.
 //!
-//! What it does is the library `derguard_program`; where its files come from is `real_files.rt`, and how its devices
-//! wait is `waiting.rt`.
+//! What it does is the library `derguard_program`; where its files come from is `real_files.rt`, where counters are
+//! shown is `file_board.rt`, and how its devices wait is `waiting.rt`.
 #![tactic(auto)]
 
+mod file_board;
 mod noting;
 mod real_files;
 mod waiting;
 
 use derguard_program::program;
+use file_board::FileBoard;
 use guard_files::{tell_no_memory, tell_text};
 use guard_frames::{Sink, Through};
+use guard_streams::Counters;
 use noting::{Noting, System};
 use real_files::RealFiles;
 use std::alloc::{AllocError, Global};
@@ -70,6 +73,7 @@ fn started<E: Sink>(rt: &HostRuntime, words: &[String], system: &System, err: &m
         &mut out,
         err,
         system,
+        &mut Counters::over(rt.alloc(), FileBoard::new(rt)),
     )
 }
 

@@ -205,35 +205,35 @@ help_flag_fills : (place : ℕ) → Fills (ready_rule place help_rule)
 help_flag_fills place = help_fills (ready_rule place help_rule) refl
 
 check_fills : AllFill built_check.rules
-check_fills = (place_fills 1 (codes "policy"), (switch_fills 2 (codes "explain"), (switch_fills 2 (codes "strict"), (switch_fills 2 (codes "digest"), (help_flag_fills 2, tt)))))
+check_fills = (place_fills 1 (codes "policy"), (switch_fills 2 (codes "explain"), (switch_fills 2 (codes "strict"), (switch_fills 2 (codes "digest"), (switch_fills 2 (codes "json"), (help_flag_fills 2, tt))))))
 
 decide_fills : AllFill built_decide.rules
 decide_fills =
-    (place_fills 1 (codes "policy"), (free_option_fills (codes "from"), (free_option_fills (codes "to"), (free_option_fills (codes "message"), (free_place_fills 2 (codes "hex"), (free_option_fills (codes "der"), (free_option_fills (codes "frame"), (free_option_fills (codes "link"), (switch_fills 3 (codes "explain"), (help_flag_fills 3, tt))))))))))
+    (place_fills 1 (codes "policy"), (free_option_fills (codes "from"), (free_option_fills (codes "to"), (free_option_fills (codes "message"), (free_place_fills 2 (codes "hex"), (free_option_fills (codes "der"), (free_option_fills (codes "frame"), (free_option_fills (codes "link"), (switch_fills 3 (codes "explain"), (switch_fills 3 (codes "json"), (help_flag_fills 3, tt)))))))))))
 
 show_fills : AllFill built_show.rules
 show_fills =
-    (place_fills 1 (codes "policy"), (free_option_fills (codes "message"), (free_place_fills 2 (codes "hex"), (free_option_fills (codes "der"), (free_option_fills (codes "frame"), (free_option_fills (codes "link"), (switch_fills 3 (codes "capture"), (switch_fills 3 (codes "explain"), (help_flag_fills 3, tt)))))))))
+    (place_fills 1 (codes "policy"), (free_option_fills (codes "message"), (free_place_fills 2 (codes "hex"), (free_option_fills (codes "der"), (free_option_fills (codes "frame"), (free_option_fills (codes "link"), (switch_fills 3 (codes "capture"), (switch_fills 3 (codes "explain"), (switch_fills 3 (codes "json"), (help_flag_fills 3, tt))))))))))
 
 encode_fills : AllFill built_encode.rules
 encode_fills =
     (place_fills 1 (codes "policy"), (option_fills (codes "message"), (free_place_fills 2 (codes "value"), (free_option_fills (codes "from"), (free_option_fills (codes "to"), (switch_fills 3 (codes "der"), (help_flag_fills 3, tt)))))))
 
 test_fills : AllFill built_test.rules
-test_fills = (place_fills 1 (codes "policy"), (free_place_fills 2 (codes "cases"), (switch_fills 3 (codes "cover"), (switch_fills 3 (codes "explain"), (help_flag_fills 3, tt)))))
+test_fills = (place_fills 1 (codes "policy"), (free_place_fills 2 (codes "cases"), (switch_fills 3 (codes "cover"), (switch_fills 3 (codes "explain"), (switch_fills 3 (codes "json"), (help_flag_fills 3, tt))))))
 
 compare_fills : AllFill built_compare.rules
 compare_fills =
-    (place_fills 1 (codes "old"), (place_fills 2 (codes "new"), (switch_fills 3 (codes "by-place"), (switch_fills 3 (codes "summary"), (free_option_fills (codes "link"), (help_flag_fills 3, tt))))))
+    (place_fills 1 (codes "old"), (place_fills 2 (codes "new"), (switch_fills 3 (codes "by-place"), (switch_fills 3 (codes "summary"), (free_option_fills (codes "link"), (switch_fills 3 (codes "json"), (help_flag_fills 3, tt)))))))
 
 run_fills : AllFill built_run.rules
-run_fills = (place_fills 1 (codes "policy"), (switch_fills 2 (codes "verbose"), (help_flag_fills 2, tt)))
+run_fills = (place_fills 1 (codes "policy"), (switch_fills 2 (codes "verbose"), (free_option_fills (codes "counts"), (switch_fills 2 (codes "json"), (help_flag_fills 2, tt)))))
 
 ask_fills : AllFill built_ask.rules
-ask_fills = (place_fills 1 (codes "policy"), (help_flag_fills 2, tt))
+ask_fills = (place_fills 1 (codes "policy"), (switch_fills 2 (codes "json"), (help_flag_fills 2, tt)))
 
 mux_fills : AllFill built_mux.rules
-mux_fills = (place_fills 1 (codes "policy"), (switch_fills 2 (codes "verbose"), (help_flag_fills 2, tt)))
+mux_fills = (place_fills 1 (codes "policy"), (switch_fills 2 (codes "verbose"), (free_option_fills (codes "counts"), (switch_fills 2 (codes "json"), (help_flag_fills 2, tt)))))
 
 -- a command with these words asks for a request
 abbrev Requests : Shape → List Text → Type 0
@@ -263,8 +263,9 @@ show_asks words e =
       link = first_of (codes "link") rows;
       explain = flag_of (codes "explain") rows;
       capture = flag_of (codes "capture") rows;
+      json = flag_of (codes "json") rows;
     } in
-    (show asked, (refl, p.1, refl, refl, refl, refl, refl, refl, refl, refl, refl))
+    (show asked, (refl, p.1, refl, refl, refl, refl, refl, refl, refl, refl, refl, refl))
 
 encode_asks : (words : List Text) → level_fault built_encode [] nothing_held words false [] ≡ [] → Requests built_encode words
 encode_asks words e =
@@ -320,7 +321,7 @@ run_asks words e =
     let rows = rows_filled built_run [] words false [] e run_fills in
     let policy = given_next _ _ (check_none built_run [] words false [] e) in
     let path = given_value (codes "policy") (rows_after built_run.rules [] words) rows policy.0 in
-    (run path.0 (flag_of (codes "verbose") (rows_after built_run.rules [] words)), (refl, path.1, refl))
+    (run path.0 (flag_of (codes "verbose") (rows_after built_run.rules [] words)) (first_of (codes "counts") (rows_after built_run.rules [] words)), (refl, path.1, refl, refl))
 
 ask_asks : (words : List Text) → level_fault built_ask [] nothing_held words false [] ≡ [] → Requests built_ask words
 ask_asks words e =
@@ -334,7 +335,7 @@ mux_asks words e =
     let rows = rows_filled built_mux [] words false [] e mux_fills in
     let policy = given_next _ _ (check_none built_mux [] words false [] e) in
     let path = given_value (codes "policy") (rows_after built_mux.rules [] words) rows policy.0 in
-    (mux path.0 (flag_of (codes "verbose") (rows_after built_mux.rules [] words)), (refl, path.1, refl))
+    (mux path.0 (flag_of (codes "verbose") (rows_after built_mux.rules [] words)) (first_of (codes "counts") (rows_after built_mux.rules [] words)), (refl, path.1, refl, refl))
 
 decide_asks : (words : List Text) → level_fault built_decide [] nothing_held words false [] ≡ [] → Requests built_decide words
 decide_asks words e =
@@ -353,8 +354,9 @@ decide_asks words e =
       link = first_of (codes "link") rows;
       explain = flag_of (codes "explain") rows;
       capture = false;
+      json = false;
     } in
-    (decide asked, (refl, p.1, refl, refl, refl, refl, refl, refl, refl, refl, refl))
+    (decide asked, (refl, p.1, refl, refl, refl, refl, refl, refl, refl, refl, refl, refl))
 
 -- ---- the command that the words name
 
@@ -413,7 +415,7 @@ command_there : (b : Bool) (others : Kinds)
 command_there true others e = refl
 command_there false others e = absurd (some_kind _ _ e)
 
-pub asked : (words : List Text) → fault_of the_app words ≡ [] → (request : AbstractRequest) × AreFound words request
+pub asked : (words : List Text) → fault_of the_app words ≡ [] → (request : AbstractRequest) × (json : Bool) × AreFound words request json
 asked words e =
     let given = argument_words the_app words in
     let stop = (walk ready.top.rules (names_of ready) nothing_held given).stopped in
@@ -421,7 +423,7 @@ asked words e =
     let below = entered_fault ready stop in
     let past = walk_passes_help ready.top (names_of ready) refl given (walk_from nothing_held) (walk_none ready.top (names_of ready) given has below e) tt in
     let found = entered_asks stop past (below_none ready.top (names_of ready) given has below e) (command_there has _ (check_none ready.top (names_of ready) given has below e)) in
-    (found.0, (e, (found.1, found.2, found.3, found.4)))
+    (found.0, flag_of (codes "json") found.2, (e, (found.1, found.2, found.3, found.4, refl)))
 
 -- ---- words ask for one request
 
@@ -455,6 +457,7 @@ module _ (rows : List Row) where
     link = first_of (codes "link") rows;
     explain = flag_of (codes "explain") rows;
     capture = false;
+    json = false;
   }
 
   abbrev showing_at : AbstractQuestion
@@ -469,6 +472,7 @@ module _ (rows : List Row) where
     link = first_of (codes "link") rows;
     explain = flag_of (codes "explain") rows;
     capture = flag_of (codes "capture") rows;
+    json = flag_of (codes "json") rows;
   }
 
   abbrev trial_at : AbstractTrial
@@ -496,9 +500,9 @@ module _ (rows : List Row) where
       else if nat_eq letter 115 then show showing_at
       else if nat_eq letter 101 then encode encoding_at
       else if nat_eq letter 116 then test trial_at
-      else if nat_eq letter 114 then run (value_of (codes "policy")) (flag_of (codes "verbose") rows)
+      else if nat_eq letter 114 then run (value_of (codes "policy")) (flag_of (codes "verbose") rows) (first_of (codes "counts") rows)
       else if nat_eq letter 97 then ask (value_of (codes "policy"))
-      else if nat_eq letter 109 then mux (value_of (codes "policy")) (flag_of (codes "verbose") rows)
+      else if nat_eq letter 109 then mux (value_of (codes "policy")) (flag_of (codes "verbose") rows) (first_of (codes "counts") rows)
       else first
 
   is_value : (id : Text) (v : Text) → first_of id rows ≡ Some v → v ≡ value_of id
@@ -523,7 +527,7 @@ module _ (rows : List Row) where
       let d = sym h.6 in
       let n = sym h.7 in
       let l = sym h.8 in
-      (λ i. decide (record { policy = p i; from = f i; to = t i; message = m i; hex = x i; der = d i; frame = n i; link = l i; explain = h.9 i; capture = h.10 i })) ∙ named_at name (codes "decide") h.0
+      (λ i. decide (record { policy = p i; from = f i; to = t i; message = m i; hex = x i; der = d i; frame = n i; link = l i; explain = h.9 i; capture = h.10 i; json = h.11 i })) ∙ named_at name (codes "decide") h.0
   is_request_at name (show q) h =
       let p = is_value (codes "policy") q.policy h.1 in
       let f = h.2 in
@@ -533,7 +537,7 @@ module _ (rows : List Row) where
       let d = sym h.6 in
       let n = sym h.7 in
       let l = sym h.8 in
-      (λ i. show (record { policy = p i; from = f i; to = t i; message = m i; hex = x i; der = d i; frame = n i; link = l i; explain = h.9 i; capture = h.10 i })) ∙ named_at name (codes "show") h.0
+      (λ i. show (record { policy = p i; from = f i; to = t i; message = m i; hex = x i; der = d i; frame = n i; link = l i; explain = h.9 i; capture = h.10 i; json = h.11 i })) ∙ named_at name (codes "show") h.0
   is_request_at name (encode asked) h =
       let p = is_value (codes "policy") asked.policy h.1 in
       let m = is_value (codes "message") asked.message h.2 in
@@ -550,13 +554,15 @@ module _ (rows : List Row) where
       let q = is_value (codes "new") asked.new h.2 in
       let l = sym h.5 in
       (λ i. compare (record { old = p i; new = q i; by_place = h.3 i; summary = h.4 i; link = l i })) ∙ named_at name (codes "compare") h.0
-  is_request_at name (run path verbose) h =
+  is_request_at name (run path verbose counts) h =
       let p = is_value (codes "policy") path h.1 in
-      (λ i. run (p i) (h.2 i)) ∙ named_at name (codes "run") h.0
+      let k = sym h.3 in
+      (λ i. run (p i) (h.2 i) (k i)) ∙ named_at name (codes "run") h.0
   is_request_at name (ask path) h = ap ask (is_value (codes "policy") path h.1) ∙ named_at name (codes "ask") h.0
-  is_request_at name (mux path verbose) h =
+  is_request_at name (mux path verbose counts) h =
       let p = is_value (codes "policy") path h.1 in
-      (λ i. mux (p i) (h.2 i)) ∙ named_at name (codes "mux") h.0
+      let k = sym h.3 in
+      (λ i. mux (p i) (h.2 i) (k i)) ∙ named_at name (codes "mux") h.0
 
   one_command : (name : Text) (r s : AbstractRequest) → IsCommand name rows r → IsCommand name rows s → r ≡ s
   one_command name r s h g = is_request_at name r h ∙ sym (is_request_at name s g)
@@ -566,21 +572,25 @@ module _ (rows : List Row) where
 -- a command is found in words in which nothing is wrong
 pub command_found : (words : List Text) (found : Option (Text × List Row)) → fault_of the_app words ≡ [] → found ≡ subcommand_of the_app words
     → (name : Text) × (rows : List Row) × (found ≡ Some (name, rows))
-command_found words found none is = let one = asked words none in (one.1.1.0, one.1.1.1, is ∙ one.1.1.2)
+command_found words found none is = let one = asked words none in (one.2.1.0, one.2.1.1, is ∙ one.2.1.2)
 
 -- what is answered by the values of the command that is found in the words is what they ask for
-pub answered : (words : List Text) (found : Option (Text × List Row)) (answer : AbstractRequest) → fault_of the_app words ≡ [] → found ≡ subcommand_of the_app words
+pub answered : (words : List Text) (found : Option (Text × List Row)) (answer : AbstractRequest) (json : Bool) → fault_of the_app words ≡ [] → found ≡ subcommand_of the_app words
     → ((name : Text) (rows : List Row) (request : AbstractRequest) → found ≡ Some (name, rows) → IsCommand name rows request → answer ≡ request)
-    → AreFound words answer
-answered words found answer none is given =
+    → ((name : Text) (rows : List Row) → found ≡ Some (name, rows) → json ≡ flag_of (codes "json") rows) → AreFound words answer json
+answered words found answer json none is given lines =
     let one = asked words none in
-    let same = given one.1.1.0 one.1.1.1 one.0 (is ∙ one.1.1.2) one.1.1.3 in
-    subst (AreFound words) (sym same) one.1
+    let name = one.2.1.0 in
+    let rows = one.2.1.1 in
+    let named = is ∙ one.2.1.2 in
+    let same = given name rows one.0 named one.2.1.3 in
+    (none, (name, rows, one.2.1.2, subst (IsCommand name rows) (sym same) one.2.1.3, lines name rows named))
 
 -- words ask for one request
-pub asks_one : (words : List Text) (r s : AbstractRequest) → AreFound words r → AreFound words s → r ≡ s
-asks_one words r s h g =
+pub asks_one : (words : List Text) (r s : AbstractRequest) (json also : Bool) → AreFound words r json → AreFound words s also → (r ≡ s) × (json ≡ also)
+asks_one words r s json also h g =
     let found = same_value _ _ (sym h.1.2 ∙ g.1.2) in
-    let as_named : IsCommand h.1.0 g.1.1 r = subst (λ (rows : List Row). IsCommand h.1.0 rows r) (ap (λ (p : Text × List Row). p.1) found) h.1.3 in
+    let rows = ap (λ (p : Text × List Row). p.1) found in
+    let as_named : IsCommand h.1.0 g.1.1 r = subst (λ (rows : List Row). IsCommand h.1.0 rows r) rows h.1.3 in
     let as_found : IsCommand g.1.0 g.1.1 r = subst (λ (name : Text). IsCommand name g.1.1 r) (ap (λ (p : Text × List Row). p.0) found) as_named in
-    one_command g.1.1 g.1.0 r s as_found g.1.3
+    (one_command g.1.1 g.1.0 r s as_found g.1.3, h.1.4 ∙ ap (flag_of (codes "json")) rows ∙ sym g.1.4)

@@ -7,3 +7,4 @@ pub mod Meetings
 pub mod RecordsRead
 pub mod OwnRecords
 pub mod Statuses
+pub mod ByJson

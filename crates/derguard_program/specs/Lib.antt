@@ -2,6 +2,7 @@
 pub mod Requests
 pub mod Words
 -- ---- what it is to meet a request
+pub mod AsJson
 pub mod Meeting
 -- ---- what only private contracts and proofs cite
 pub mod inside

@@ -1,5 +1,5 @@
 -- What a request asks for.
-use Rattle.std.specs.Prelude.{ℕ, Bool, List}
+use Rattle.std.specs.Prelude.{ℕ, Bool, List, Option, option_map}
 use Rattle.guard_messages.specs.Questions.{AbstractQuestion, question_view}
 use Rattle.guard_authors.specs.Comparing.{AbstractComparing, comparing_view}
 use Rattle.guard_authors.specs.Encodes.{AbstractEncoding, encoding_view}
@@ -23,12 +23,13 @@ pub data AbstractRequest : Type 0 where
   test : AbstractTrial → AbstractRequest
   -- the frames that come in, under an old policy and a new one
   compare : AbstractComparing → AbstractRequest
-  -- what comes in, by the policy at this path; and whether notes are to be written
-  run : List ℕ → Bool → AbstractRequest
+  -- what comes in, by the policy at this path; whether notes are to be written, and where counters are to be shown, if
+  -- they are
+  run : List ℕ → Bool → Option (List ℕ) → AbstractRequest
   -- frames that come in, of each of which it is said what the policy at this path makes of it
   ask : List ℕ → AbstractRequest
-  -- the records of many links, by the policy at this path; and whether notes are to be written
-  mux : List ℕ → Bool → AbstractRequest
+  -- the records of many links, by the policy at this path, with notes and counters as for one
+  mux : List ℕ → Bool → Option (List ℕ) → AbstractRequest
 
 abbrev pub request_view : Request → AbstractRequest
 request_view code.First = first
@@ -38,6 +39,7 @@ request_view (code.Show q) = show (question_view q)
 request_view (code.Encode e) = encode (encoding_view e)
 request_view (code.Test t) = test (trial_view t)
 request_view (code.Compare asked) = compare (comparing_view asked)
-request_view (code.Run policy verbose) = run policy.now verbose
+request_view (code.Run policy verbose counts) = run policy.now verbose (option_map (λ path. path.now) counts)
 request_view (code.Ask policy) = ask policy.now
-request_view (code.Mux policy verbose) = mux policy.now verbose
+request_view (code.Mux policy verbose counts) =
+    mux policy.now verbose (option_map (λ path. path.now) counts)

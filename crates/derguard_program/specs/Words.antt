@@ -42,26 +42,28 @@ flag_rule name = record (new_rule name) { long = Some name; action = Some SetTru
 abbrev pub command_shape : Text → List Rule → Shape
 command_shape name arguments = record (new_shape name) { rules = arguments }
 
--- check POLICY [--explain] [--strict] [--digest]
+-- check POLICY [--explain] [--strict] [--digest] [--json]
 abbrev pub check_shape : Shape
 check_shape = command_shape (codes "check")
     (place_rule (codes "policy") ∷ flag_rule (codes "explain") ∷ flag_rule (codes "strict")
-    ∷ flag_rule (codes "digest") ∷ [])
+    ∷ flag_rule (codes "digest") ∷ flag_rule (codes "json") ∷ [])
 
 -- decide POLICY [--from FROM] [--to TO] [--message MESSAGE] [HEX] [--der FILE] [--frame NUMBER] [--link NUMBER] [--explain]
+-- [--json]
 abbrev pub decide_shape : Shape
 decide_shape = command_shape (codes "decide")
     (place_rule (codes "policy") ∷ free_option_rule (codes "from") ∷ free_option_rule (codes "to")
     ∷ free_option_rule (codes "message") ∷ free_place_rule (codes "hex") ∷ free_option_rule (codes "der")
-    ∷ free_option_rule (codes "frame") ∷ free_option_rule (codes "link") ∷ flag_rule (codes "explain") ∷ [])
+    ∷ free_option_rule (codes "frame") ∷ free_option_rule (codes "link") ∷ flag_rule (codes "explain")
+    ∷ flag_rule (codes "json") ∷ [])
 
 -- show POLICY [--message MESSAGE] [HEX] [--der FILE] [--frame NUMBER] [--link NUMBER] [--capture]
--- [--explain]
+-- [--explain] [--json]
 abbrev pub show_shape : Shape
 show_shape = command_shape (codes "show")
     (place_rule (codes "policy") ∷ free_option_rule (codes "message") ∷ free_place_rule (codes "hex")
     ∷ free_option_rule (codes "der") ∷ free_option_rule (codes "frame") ∷ free_option_rule (codes "link")
-    ∷ flag_rule (codes "capture") ∷ flag_rule (codes "explain") ∷ [])
+    ∷ flag_rule (codes "capture") ∷ flag_rule (codes "explain") ∷ flag_rule (codes "json") ∷ [])
 
 -- encode POLICY --message MESSAGE [VALUE] [--from FROM] [--to TO] [--der]
 abbrev pub encode_shape : Shape
@@ -69,29 +71,33 @@ encode_shape = command_shape (codes "encode")
     (place_rule (codes "policy") ∷ option_rule (codes "message") ∷ free_place_rule (codes "value")
     ∷ free_option_rule (codes "from") ∷ free_option_rule (codes "to") ∷ flag_rule (codes "der") ∷ [])
 
--- test POLICY [CASES] [--cover] [--explain]
+-- test POLICY [CASES] [--cover] [--explain] [--json]
 abbrev pub test_shape : Shape
 test_shape = command_shape (codes "test")
     (place_rule (codes "policy") ∷ free_place_rule (codes "cases") ∷ flag_rule (codes "cover")
-    ∷ flag_rule (codes "explain") ∷ [])
+    ∷ flag_rule (codes "explain") ∷ flag_rule (codes "json") ∷ [])
 
--- compare OLD NEW [--by-place] [--summary] [--link NUMBER]
+-- compare OLD NEW [--by-place] [--summary] [--link NUMBER] [--json]
 abbrev pub compare_shape : Shape
 compare_shape = command_shape (codes "compare")
     (place_rule (codes "old") ∷ place_rule (codes "new") ∷ flag_rule (codes "by-place")
-    ∷ flag_rule (codes "summary") ∷ free_option_rule (codes "link") ∷ [])
+    ∷ flag_rule (codes "summary") ∷ free_option_rule (codes "link") ∷ flag_rule (codes "json") ∷ [])
 
--- run POLICY [--verbose]
+-- run POLICY [--verbose] [--counts FILE] [--json]
 abbrev pub run_shape : Shape
-run_shape = command_shape (codes "run") (place_rule (codes "policy") ∷ flag_rule (codes "verbose") ∷ [])
+run_shape = command_shape (codes "run")
+    (place_rule (codes "policy") ∷ flag_rule (codes "verbose") ∷ free_option_rule (codes "counts")
+    ∷ flag_rule (codes "json") ∷ [])
 
--- ask POLICY
+-- ask POLICY [--json]
 abbrev pub ask_shape : Shape
-ask_shape = command_shape (codes "ask") (place_rule (codes "policy") ∷ [])
+ask_shape = command_shape (codes "ask") (place_rule (codes "policy") ∷ flag_rule (codes "json") ∷ [])
 
--- mux POLICY [--verbose]
+-- mux POLICY [--verbose] [--counts FILE] [--json]
 abbrev pub mux_shape : Shape
-mux_shape = command_shape (codes "mux") (place_rule (codes "policy") ∷ flag_rule (codes "verbose") ∷ [])
+mux_shape = command_shape (codes "mux")
+    (place_rule (codes "policy") ∷ flag_rule (codes "verbose") ∷ free_option_rule (codes "counts")
+    ∷ flag_rule (codes "json") ∷ [])
 
 -- one of these commands, after the program's name; or `--version`
 abbrev pub the_app : App
@@ -119,12 +125,13 @@ IsCommand name rows (decide q) =
     × (first_of (codes "hex") rows ≡ q.hex) × (first_of (codes "der") rows ≡ q.der)
     × (first_of (codes "frame") rows ≡ q.frame) × (first_of (codes "link") rows ≡ q.link)
     × (q.explain ≡ flag_of (codes "explain") rows) × (q.capture ≡ false)
+    × (q.json ≡ false)
 IsCommand name rows (show q) =
     (name ≡ codes "show") × (first_of (codes "policy") rows ≡ Some q.policy) × (q.from ≡ None) × (q.to ≡ None)
     × (first_of (codes "message") rows ≡ q.message) × (first_of (codes "hex") rows ≡ q.hex)
     × (first_of (codes "der") rows ≡ q.der) × (first_of (codes "frame") rows ≡ q.frame)
     × (first_of (codes "link") rows ≡ q.link) × (q.explain ≡ flag_of (codes "explain") rows)
-    × (q.capture ≡ flag_of (codes "capture") rows)
+    × (q.capture ≡ flag_of (codes "capture") rows) × (q.json ≡ flag_of (codes "json") rows)
 IsCommand name rows (encode asked) =
     (name ≡ codes "encode") × (first_of (codes "policy") rows ≡ Some asked.policy)
     × (first_of (codes "message") rows ≡ Some asked.message) × (first_of (codes "value") rows ≡ asked.value)
@@ -138,11 +145,13 @@ IsCommand name rows (compare asked) =
     (name ≡ codes "compare") × (first_of (codes "old") rows ≡ Some asked.old)
     × (first_of (codes "new") rows ≡ Some asked.new) × (asked.by_place ≡ flag_of (codes "by-place") rows)
     × (asked.summary ≡ flag_of (codes "summary") rows) × (first_of (codes "link") rows ≡ asked.link)
-IsCommand name rows (run path verbose) =
+IsCommand name rows (run path verbose counts) =
     (name ≡ codes "run") × (first_of (codes "policy") rows ≡ Some path) × (verbose ≡ flag_of (codes "verbose") rows)
+    × (first_of (codes "counts") rows ≡ counts)
 IsCommand name rows (ask path) = (name ≡ codes "ask") × (first_of (codes "policy") rows ≡ Some path)
-IsCommand name rows (mux path verbose) =
+IsCommand name rows (mux path verbose counts) =
     (name ≡ codes "mux") × (first_of (codes "policy") rows ≡ Some path) × (verbose ≡ flag_of (codes "verbose") rows)
+    × (first_of (codes "counts") rows ≡ counts)
 
 -- ---- the words
 
@@ -162,13 +171,14 @@ joined (word ∷ next ∷ words) =
     else if takes_next word then (word ++ codes "=" ++ next) ∷ joined words
     else word ∷ joined (next ∷ words)
 
--- Nothing is wrong with words that `clap` reads, and the command that is found in them asks for this.
-abbrev pub AreFound : List Text → AbstractRequest → Type 0
-AreFound words request =
+-- Nothing is wrong with words that `clap` reads, and the command that is found in them asks for this, and, where the
+-- flag `--json` is true, for lines that are JSON.
+abbrev pub AreFound : List Text → AbstractRequest → Bool → Type 0
+AreFound words request json =
     (fault_of the_app words ≡ [])
     × ((name : Text) × (rows : List Row) × (subcommand_of the_app words ≡ Some (name, rows))
-    × IsCommand name rows request)
+    × IsCommand name rows request × (json ≡ flag_of (codes "json") rows))
 
 -- what the words ask for
-abbrev pub Asks : List Text → AbstractRequest → Type 0
-Asks words request = AreFound (joined words) request
+abbrev pub Asks : List Text → AbstractRequest → Bool → Type 0
+Asks words = AreFound (joined words)

@@ -1,11 +1,12 @@
 //! Laws of the definitions. The functions do nothing when they run.
-ghost use Rattle.std.specs.Prelude.{◌≡◌, ◌<◌, ◌≤◌, ℕ, List, [], Option, Some, IsTrue, length};
+ghost use Rattle.std.specs.Prelude.{◌≡◌, ◌<◌, ◌≤◌, ℕ, Bool, List, [], Option, Some, IsTrue, length};
 ghost use Rattle.std.specs.Io.KnownBytes.{Appends};
 ghost use Rattle.clap.specs.Words.{Text, fault_of};
 ghost use Rattle.guard_files.specs.Devices.{Input, Device};
 ghost use Rattle.guard_files.specs.Files.{Told};
 ghost use Rattle.guard_files.specs.Reading.{AbstractLoaded, IsLoadedAt, IsPolicyAt};
 ghost use Rattle.guard_files.specs.Records.{Record, AreRecords, HasNoRecord};
+ghost use Rattle.guard_streams.specs.Counters.{AbstractCounted};
 ghost use Rattle.guard_streams.specs.Muxing.{GuardsLinks, new_mux};
 ghost use Rattle.guard_streams.specs.OwnRecords.{AreTurns};
 ghost use Rattle.guard_streams.specs.Turns.{AbstractMux, Written, InTurn};
@@ -31,12 +32,12 @@ ghost use Rattle.reads_back.specs.Names.{HasNames, is_seen};
 use guard_frames::laws::law_own_stream;
 use reads_back::laws::{law_one_value_of_text, law_shown_reads_back};
 
-/// Words in which nothing is wrong ask for a request, and for one alone.
+/// Words in which nothing is wrong ask for a request, with or without lines that are JSON, and for one alone.
 pub fn law_one_request()
     ensures some { (words : List Text) → fault_of the_app (joined words) ≡ [] → (request : AbstractRequest)
-        × Asks words request }
-    ensures one { (words : List Text) (request other : AbstractRequest) → Asks words request → Asks words other
-        → request ≡ other }
+        × (json : Bool) × Asks words request json }
+    ensures one { (words : List Text) (request other : AbstractRequest) (json also : Bool) → Asks words request json
+        → Asks words other also → (request ≡ other) × (json ≡ also) }
 {}
 
 /// A stream has one reading as records and a rest with which no record begins.
@@ -61,9 +62,10 @@ pub fn law_status_of_links()
 /// up to a failure of an output of the link. Its own stream is its pieces until its first end, or until a piece that
 /// was answered with a fault.
 pub fn law_own_records()
-    ensures { (k : ℕ) (path : List ℕ) (p : AbstractPolicy) (told : Told) (seen : Option Seen) (records : List Record)
-        (written : List Written) (last : AbstractMux) → k < 16 → InTurn path (new_mux p told seen) records written last
-        → (turns : List Turn) × AreTurns path (new_mux p told seen) records written turns
+    ensures { (k : ℕ) (path : List ℕ) (p : AbstractPolicy) (told : Told) (seen : Option Seen)
+        (counted : Option AbstractCounted) (records : List Record) (written : List Written) (last : AbstractMux)
+        → k < 16 → InTurn path (new_mux p told seen counted) records written last
+        → (turns : List Turn) × AreTurns path (new_mux p told seen counted) records written turns
         × Gives (pieces_of k p turns) (added_to k turns) (is_broken k turns) }
 {
     law_own_stream();

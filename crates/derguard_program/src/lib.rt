@@ -8,6 +8,7 @@
 //! | What is it to meet a request? | `meeting.rt` (`program`, `meet`) | `specs/Meeting.antt` |
 #![tactic(auto)]
 
+mod help;
 mod joining;
 pub mod laws;
 mod meeting;

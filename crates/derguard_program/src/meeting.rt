@@ -1,9 +1,12 @@
 //! The program over any files, source and sinks.
-ghost use Rattle.std.specs.Prelude.{◌≡◌, ◌≤◌, ◌||◌, ◌∷◌, [], length, map, string_bytes, true, false, IfOk, IfErr};
+ghost use Rattle.std.specs.Prelude.{◌≡◌, ◌≤◌, ◌||◌, ◌∷◌, [], length, map, option_map, string_bytes, true, false, IfOk, IfErr};
 ghost use Rattle.guard_files.specs.Devices.{source_of, device_of, IsUntouched};
 ghost use Rattle.guard_files.specs.Writing.{TellsNoMemory};
-ghost use Rattle.derguard_program.specs.Requests.{request_view, first, run, mux};
-ghost use Rattle.derguard_program.specs.Meeting.{GivesDigest, Meets, Programs, Shows, is_help, version_line};
+ghost use Rattle.guard_streams.specs.Counting.{display_of};
+ghost use Rattle.guard_streams.specs.Shown.{Display};
+ghost use Rattle.guard_messages.specs.Questions.{question_view};
+ghost use Rattle.derguard_program.specs.Requests.{request_view, first, show, run, mux};
+ghost use Rattle.derguard_program.specs.Meeting.{GivesDigest, Meets, MeetsBy, Programs, Shows, answers_lines, asks_more_than_json, is_help, version_line};
 ghost use Rattle.clap.specs.Words.{kind_of};
 ghost use Rattle.clap.specs.declared.error.kind.ErrorKind.TheVariants.{DisplayVersion, OutOfMemory};
 
@@ -15,22 +18,29 @@ use clap::error::ErrorKind;
 use guard_authors::{check, check_digest, check_explained, check_strictly, compare, encode, test};
 use guard_files::{Files, give, give_explained, tell_no_memory, tell_text, write};
 use guard_frames::{Sink, Source};
-use guard_messages::{decide_asked, first_run, show_asked};
-use guard_streams::{Says, ask, mux, mux_verbosely, run, run_verbosely};
+use guard_json::JsonLines;
+use guard_messages::{Question, decide_asked, first_run, show_asked};
+use guard_streams::{
+    Board, Counters, Says, ask, mux, mux_counting, mux_verbosely, run, run_counting, run_verbosely,
+};
 use std::alloc::{AllocError, Global};
 
 const NOT_ALONE: &str =
     "error: the argument '--digest' cannot be used with '--explain' or '--strict'\n\nFor more information, try \
         '--help'.";
 
+const JSON_NOT_ALONE: &str =
+    "error: the argument '--json' cannot be used with '--explain' or '--capture'\n\nFor more information, try \
+        '--help'.";
+
 /// Does what the words ask for, the first of which is the program's name, and answers the status: 0 where all passed,
 /// the policy is accepted or help was asked for; 1 where something was denied; 2 for bad words, hexadecimal digits, a
 /// bad policy, bad modules or a file that can't be read; 3 where the stream or a device failed, or memory ran out. What
-/// is at fault is reported on standard error, after `derguard: `.
+/// is at fault is reported on standard error, after `derguard: `. With `--json` lines are objects of JSON.
 ///
 /// Faults are looked for in this order: the words, the hexadecimal digits, the policy's file and its top, the files of
 /// the modules in listed order, the modules, the policy, the stream.
-pub fn program<F: Files, S: Source, O: Sink, E: Sink, T: Says>(
+pub fn program<F: Files, S: Source, O: Sink, E: Sink, T: Says, B: Board>(
     alloc: Global,
     words: &[&str],
     files: &mut F,
@@ -38,32 +48,70 @@ pub fn program<F: Files, S: Source, O: Sink, E: Sink, T: Says>(
     out: &mut O,
     err: &mut E,
     system: &T,
+    counters: &mut Counters<B>,
 ) -> u8
     ensures words { 2 ≤ length words.now
-        → Programs (map (λ w. w.now) words.now) (F.told files.old)
+        → Programs (map (λ w. w.now) words.now) (F.told files.old) (display_of B.shown counters.old counters.new)
         (source_of S.tells S.takes S.has_failed input.old input.new)
         (device_of O.taken O.has_failed out.old out.new)
         (device_of E.taken E.has_failed err.old err.new) result }
     // Without words after the program's name it decides the messages that are built in.
     ensures alone { length words.now ≤ 1
-        → Meets (F.told files.old) first (source_of S.tells S.takes S.has_failed input.old input.new)
+        → Meets (F.told files.old) (display_of B.shown counters.old counters.new) first
+        (source_of S.tells S.takes S.has_failed input.old input.new)
         (device_of O.taken O.has_failed out.old out.new)
         (device_of E.taken E.has_failed err.old err.new) result }
 {
     if words.len() <= 1 {
-        return meet(alloc, &Request::First, files, input, out, err, system);
+        return meet(
+            alloc,
+            &Request::First,
+            files,
+            input,
+            out,
+            err,
+            system,
+            counters,
+        );
     }
     let Ok(words) = joined(alloc, words) else {
         return tell_no_memory(err);
     };
     match request_in(alloc, &words) {
-        Ok(request) => meet(alloc, &request, files, input, out, err, system),
+        Ok(asked) => meet_by(
+            alloc, &asked.0, asked.1, files, input, out, err, system, counters,
+        ),
         Err(e) => show(alloc, &e, out, err),
     }
 }
 
-/// Meets the request, and answers the status.
-pub fn meet<F: Files, S: Source, O: Sink, E: Sink, T: Says>(
+/// Meets the request by lines as they are, or by lines as JSON, and answers the status.
+fn meet_by<F: Files, S: Source, O: Sink, E: Sink, T: Says, B: Board>(
+    alloc: Global,
+    request: &Request,
+    json: bool,
+    files: &mut F,
+    input: &mut S,
+    out: &mut O,
+    err: &mut E,
+    system: &T,
+    counters: &mut Counters<B>,
+) -> u8
+    ensures { MeetsBy json (F.told files.old) (display_of B.shown counters.old counters.new) (request_view request.now)
+        (source_of S.tells S.takes S.has_failed input.old input.new)
+        (device_of O.taken O.has_failed out.old out.new)
+        (device_of E.taken E.has_failed err.old err.new) result }
+{
+    if json {
+        meet_as_json(alloc, request, files, input, out, err, system, counters)
+    } else {
+        meet(alloc, request, files, input, out, err, system, counters)
+    }
+}
+
+/// Meets the request, and answers the status. Each line is JSON, those of standard error and those of standard output,
+/// where it is lines.
+fn meet_as_json<F: Files, S: Source, O: Sink, E: Sink, T: Says, B: Board>(
     alloc: Global,
     request: &Request,
     files: &mut F,
@@ -71,8 +119,59 @@ pub fn meet<F: Files, S: Source, O: Sink, E: Sink, T: Says>(
     out: &mut O,
     err: &mut E,
     system: &T,
+    counters: &mut Counters<B>,
 ) -> u8
-    ensures { Meets (F.told files.old) (request_view request.now)
+    ensures { MeetsBy true (F.told files.old) (display_of B.shown counters.old counters.new) (request_view request.now)
+        (source_of S.tells S.takes S.has_failed input.old input.new)
+        (device_of O.taken O.has_failed out.old out.new)
+        (device_of E.taken E.has_failed err.old err.new) result }
+{
+    let mut lines = JsonLines::new(alloc, err);
+    if answers_lines(request) {
+        let mut answers = JsonLines::new(alloc, out);
+        let status = meet(
+            alloc,
+            request,
+            files,
+            input,
+            &mut answers,
+            &mut lines,
+            system,
+            counters,
+        );
+        let _out = answers.into_sink();
+        let _err = lines.into_sink();
+        return status;
+    }
+    let status = meet(
+        alloc, request, files, input, out, &mut lines, system, counters,
+    );
+    let _err = lines.into_sink();
+    status
+}
+
+/// Whether its standard output is lines, and not frames, records or a value.
+fn answers_lines(request: &Request) -> bool
+    ensures { result ≡ answers_lines (request_view request.now) }
+{
+    !matches!(
+        request,
+        Request::Show(_) | Request::Encode(_) | Request::Run { .. } | Request::Mux { .. }
+    )
+}
+
+/// Meets the request, and answers the status.
+pub fn meet<F: Files, S: Source, O: Sink, E: Sink, T: Says, B: Board>(
+    alloc: Global,
+    request: &Request,
+    files: &mut F,
+    input: &mut S,
+    out: &mut O,
+    err: &mut E,
+    system: &T,
+    counters: &mut Counters<B>,
+) -> u8
+    ensures { Meets (F.told files.old) (display_of B.shown counters.old counters.new) (request_view request.now)
         (source_of S.tells S.takes S.has_failed input.old input.new)
         (device_of O.taken O.has_failed out.old out.new)
         (device_of E.taken E.has_failed err.old err.new) result }
@@ -97,17 +196,25 @@ pub fn meet<F: Files, S: Source, O: Sink, E: Sink, T: Says>(
             }
         }
         Request::Decide(question) => decide_asked(alloc, question, files, input, out, err),
-        Request::Show(question) => show_asked(alloc, question, files, input, out, err),
+        Request::Show(question) => show_one(alloc, question, files, input, out, err),
         Request::Encode(asked) => encode(alloc, asked, files, input, out, err),
         Request::Test(asked) => test(alloc, asked, files, out, err),
         Request::Compare(asked) => compare(alloc, asked, files, input, out, err),
-        Request::Run { policy, verbose } => {
-            guard_stream(alloc, policy, *verbose, files, input, out, err, system)
-        }
+        Request::Run {
+            policy,
+            verbose,
+            counts,
+        } => guard_stream(
+            alloc, policy, *verbose, *counts, files, input, out, err, system, counters,
+        ),
         Request::Ask { policy } => ask(alloc, policy, files, input, out, err),
-        Request::Mux { policy, verbose } => {
-            guard_links(alloc, policy, *verbose, files, input, out, err, system)
-        }
+        Request::Mux {
+            policy,
+            verbose,
+            counts,
+        } => guard_links(
+            alloc, policy, *verbose, *counts, files, input, out, err, system, counters,
+        ),
     }
 }
 
@@ -137,46 +244,88 @@ fn give_digest<F: Files, O: Sink, E: Sink>(
     }
 }
 
-/// Guards the stream that comes in, with notes where they are asked for.
-fn guard_stream<F: Files, S: Source, O: Sink, E: Sink, T: Says>(
+/// Shows the value of one message. As JSON it is shown alone, without the parts before a breach and without its frame.
+fn show_one<F: Files, S: Source, O: Sink, E: Sink>(
+    alloc: Global,
+    question: &Question,
+    files: &mut F,
+    input: &mut S,
+    out: &mut O,
+    err: &mut E,
+) -> u8
+    ensures { (shows : Display) → Meets (F.told files.old) shows (show (question_view question.now))
+        (source_of S.tells S.takes S.has_failed input.old input.new)
+        (device_of O.taken O.has_failed out.old out.new)
+        (device_of E.taken E.has_failed err.old err.new) result }
+{
+    if asks_more_than_json(question) {
+        tell_text(alloc, JSON_NOT_ALONE, 2, err)
+    } else {
+        show_asked(alloc, question, files, input, out, err)
+    }
+}
+
+/// Whether more is asked than the value as JSON.
+fn asks_more_than_json(question: &Question) -> bool
+    ensures { result ≡ asks_more_than_json (question_view question.now) }
+{
+    question.json && (question.explain || question.capture)
+}
+
+/// Guards the stream that comes in, with notes and with counters, where they are asked for.
+fn guard_stream<F: Files, S: Source, O: Sink, E: Sink, T: Says, B: Board>(
     alloc: Global,
     policy: &str,
     verbose: bool,
+    counts: Option<&str>,
     files: &mut F,
     input: &mut S,
     out: &mut O,
     err: &mut E,
     system: &T,
+    counters: &mut Counters<B>,
 ) -> u8
-    ensures { Meets (F.told files.old) (run policy.now verbose)
+    ensures { Meets (F.told files.old) (display_of B.shown counters.old counters.new)
+        (run policy.now verbose (option_map (λ path. path.now) counts.entry))
         (source_of S.tells S.takes S.has_failed input.old input.new)
         (device_of O.taken O.has_failed out.old out.new)
         (device_of E.taken E.has_failed err.old err.new) result }
 {
-    if verbose {
+    if let Some(place) = counts {
+        run_counting(
+            alloc, policy, place, verbose, files, input, out, err, system, counters,
+        )
+    } else if verbose {
         run_verbosely(alloc, policy, files, input, out, err, system)
     } else {
         run(alloc, policy, files, input, out, err)
     }
 }
 
-/// Guards the links of the records that come in, with notes where they are asked for.
-fn guard_links<F: Files, S: Source, O: Sink, E: Sink, T: Says>(
+/// Guards the links of the records that come in, with notes and with counters, where they are asked for.
+fn guard_links<F: Files, S: Source, O: Sink, E: Sink, T: Says, B: Board>(
     alloc: Global,
     policy: &str,
     verbose: bool,
+    counts: Option<&str>,
     files: &mut F,
     input: &mut S,
     out: &mut O,
     err: &mut E,
     system: &T,
+    counters: &mut Counters<B>,
 ) -> u8
-    ensures { Meets (F.told files.old) (mux policy.now verbose)
+    ensures { Meets (F.told files.old) (display_of B.shown counters.old counters.new)
+        (mux policy.now verbose (option_map (λ path. path.now) counts.entry))
         (source_of S.tells S.takes S.has_failed input.old input.new)
         (device_of O.taken O.has_failed out.old out.new)
         (device_of E.taken E.has_failed err.old err.new) result }
 {
-    if verbose {
+    if let Some(place) = counts {
+        mux_counting(
+            alloc, policy, place, verbose, files, input, out, err, system, counters,
+        )
+    } else if verbose {
         mux_verbosely(alloc, policy, files, input, out, err, system)
     } else {
         mux(alloc, policy, files, input, out, err)

@@ -25,15 +25,17 @@ pub enum Request<'a> {
     Test(Trial<'a>),
     /// Which frames that come in have another verdict under a new policy than under an old one.
     Compare(Comparing<'a>),
-    /// What may pass of the frames that come in. Notes may be asked for.
+    /// What may pass of the frames that come in. Notes may be asked for, and a file in which counters are shown.
     Run {
         policy: &'a str,
         verbose: bool,
+        counts: Option<&'a str>,
     },
-    /// What may pass of the frames of many links, whose records come in. Notes may be asked for.
+    /// What may pass of the frames of many links, whose records come in. Notes and counters may be asked for as for one.
     Mux {
         policy: &'a str,
         verbose: bool,
+        counts: Option<&'a str>,
     },
     /// What becomes of each frame that comes in.
     Ask {

@@ -13,6 +13,11 @@ ghost use Rattle.derguard_program.specs.Words.{flag_of, flag_rule, free_option_r
 ghost use Rattle.derguard_program.specs.Words.{mux_shape, option_rule, place_rule, required_rule, run_shape};
 ghost use Rattle.derguard_program.specs.Words.{show_shape, test_shape, the_app};
 
+use crate::help::{
+    ABOUT, ASK_EXAMPLE, BY_PLACE, CHECK_EXAMPLE, COMPARE_EXAMPLE, COUNTS, DECIDE_EXAMPLE,
+    ENCODE_EXAMPLE, EXAMPLE, IN_FILE, IN_FRAME, IN_LINK, JSON, MESSAGE_NAME, MUX_EXAMPLE, OF_LINK,
+    RUN_EXAMPLE, SHOW_EXAMPLE, SUMMARY, TEST_EXAMPLE, VALUE_AS_JSON, VERBOSE,
+};
 use crate::request::Request;
 use clap::{Arg, ArgAction, ArgMatches, Command, Error};
 use guard_authors::{Comparing, Encoding, Trial};
@@ -22,70 +27,25 @@ use std::alloc::{AllocError, Global};
 /// The program's version. Nothing else of the code says it.
 pub const VERSION: &str = "0.1.0";
 
-const ABOUT: &str =
-    "Lets through the DER messages that a policy over ASN.1 types allows, and says why it stops others. Without \
-        words it decides four messages that are built in.";
-
-const EXAMPLE: &str = "Example:\n  derguard check examples/orders.toml\n\n\
-        Statuses: 0 all passed, was accepted, shown or encoded; 1 something was stopped, remarked or differs, show \
-        has no value, or encode's value is outside its type or its message isn't declared; 2 bad words, policy, \
-        modules, digits or text of a value, a file that can't be read, a message that is too long, a frame or link \
-        that isn't there, or a frame that can't be made; 3 a stream, link, record or device failed, or no memory.";
-
-const CHECK_EXAMPLE: &str = "Example:\n  derguard check examples/orders.toml --explain";
-
-const DECIDE_EXAMPLE: &str =
-    "Example:\n  derguard decide examples/orders.toml --from north --to south --message order \
-        300B800105810101A403020107";
-
-const SHOW_EXAMPLE: &str =
-    "Example:\n  derguard show examples/orders.toml --message order 300B800105810101A403020107";
-
-const ENCODE_EXAMPLE: &str =
-    "Example:\n  derguard encode examples/orders.toml --message order '{id 5, kind sell, lines {7}}'";
-
-const TEST_EXAMPLE: &str = "Example:\n  derguard test examples/orders.toml";
-
-const COMPARE_EXAMPLE: &str =
-    "Example:\n  derguard compare examples/orders.toml examples/orders.toml < examples/orders.frames";
-
-const BY_PLACE: &str =
-    "Verdicts differ too where only the place of a constraint in its module does.";
-
-const SUMMARY: &str =
-    "In place of the lines: how many frames each rule let through or stopped, under each policy.";
-
-const OF_LINK: &str =
-    "The number of a link, 0 to 15, whose frames are compared; standard input is records.";
-
-const RUN_EXAMPLE: &str = "Example:\n  derguard run examples/orders.toml < examples/orders.frames";
-
-const VERBOSE: &str =
-    "Says on standard error at the end how many frames there were and how many lines give each reason.";
-
-const ASK_EXAMPLE: &str = "Example:\n  derguard ask examples/orders.toml < examples/orders.frames";
-
-const MUX_EXAMPLE: &str =
-    "Example:\n  derguard mux examples/payments/payments.toml < examples/payments/payments.mux";
-
-const MESSAGE_NAME: &str = "The message's name in the policy.";
-
-const IN_FILE: &str = "In place of HEX: a file that has the octets; - is standard input.";
-
-const IN_FRAME: &str =
-    "In place of HEX and of all names: the number of a frame from standard input, from 1.";
-
-const IN_LINK: &str =
-    "With --frame: the number of the frame's link, 0 to 15, where standard input is records.";
-
-/// What the words ask for, in which the options of a message are joined with their values; the first word is the
-/// program's name. Help is an error of `clap` too, of its own kind.
-pub fn request_in<'a>(alloc: Global, words: &'a [String]) -> Result<Request<'a>, Error>
-    ensures asked { IfOk result (λ request. AreFound (map string_bytes words.now) (request_view request)) }
+/// What the words ask for, in which the options of a message are joined with their values, and whether lines are to be
+/// JSON; the first word is the program's name. Help is an error of `clap` too, of its own kind.
+pub fn request_in<'a>(alloc: Global, words: &'a [String]) -> Result<(Request<'a>, bool), Error>
+    ensures asked { IfOk result (λ p. AreFound (map string_bytes words.now) (request_view p.0) p.1) }
     ensures refused { IfErr result (HasKind (fault_of the_app (map string_bytes words.now))) }
 {
     let matches = command(alloc)?.try_get_matches_from(words)?;
-    Ok(request_of(&matches))
+    Ok((request_of(&matches), asks_json(&matches)))
+}
+
+/// Whether lines are to be JSON.
+fn asks_json(matches: &ArgMatches) -> bool
+    ensures { (name : Text) (rows : List Row) → subcommand_rows_of matches.now ≡ Some (name, rows)
+        → result ≡ flag_of (codes "json") rows }
+{
+    match matches.subcommand() {
+        Some((_, found)) => flag(found, "json"),
+        None => false,
+    }
 }
 
 /// What was matched. A command and its policy are required, so they are there.
@@ -109,6 +69,7 @@ fn request_of<'a>(matches: &ArgMatches<'a>) -> Request<'a>
         Some(("run", found)) => Request::Run {
             policy: text(found, "policy"),
             verbose: flag(found, "verbose"),
+            counts: given(found, "counts"),
         },
         Some(("ask", found)) => Request::Ask {
             policy: text(found, "policy"),
@@ -116,6 +77,7 @@ fn request_of<'a>(matches: &ArgMatches<'a>) -> Request<'a>
         Some(("mux", found)) => Request::Mux {
             policy: text(found, "policy"),
             verbose: flag(found, "verbose"),
+            counts: given(found, "counts"),
         },
         Some((_, found)) => Request::Decide(question_to_decide(found)),
         None => unreachable!(),
@@ -135,6 +97,7 @@ fn question_to_decide<'a>(found: &ArgMatches<'a>) -> Question<'a>
     ensures link { (question_view result).link ≡ first_of (codes "link") (rows_of (found_of found.now)) }
     ensures explain { (question_view result).explain ≡ flag_of (codes "explain") (rows_of (found_of found.now)) }
     ensures capture { (question_view result).capture ≡ false }
+    ensures json { (question_view result).json ≡ false }
 {
     Question {
         policy: text(found, "policy"),
@@ -147,6 +110,7 @@ fn question_to_decide<'a>(found: &ArgMatches<'a>) -> Question<'a>
         link: given(found, "link"),
         explain: flag(found, "explain"),
         capture: false,
+        json: false,
     }
 }
 
@@ -163,6 +127,7 @@ fn question_to_show<'a>(found: &ArgMatches<'a>) -> Question<'a>
     ensures link { (question_view result).link ≡ first_of (codes "link") (rows_of (found_of found.now)) }
     ensures explain { (question_view result).explain ≡ flag_of (codes "explain") (rows_of (found_of found.now)) }
     ensures capture { (question_view result).capture ≡ flag_of (codes "capture") (rows_of (found_of found.now)) }
+    ensures json { (question_view result).json ≡ flag_of (codes "json") (rows_of (found_of found.now)) }
 {
     Question {
         policy: text(found, "policy"),
@@ -175,6 +140,7 @@ fn question_to_show<'a>(found: &ArgMatches<'a>) -> Question<'a>
         link: given(found, "link"),
         explain: flag(found, "explain"),
         capture: flag(found, "capture"),
+        json: flag(found, "json"),
     }
 }
 
@@ -297,7 +263,8 @@ fn check<'a>(alloc: Global) -> Result<Command<'a>, AllocError>
             alloc,
             "digest",
             "Shows SHA-256 over the policy and its modules too; without the other options.",
-        ))
+        ))?
+        .arg(switch(alloc, "json", JSON))
 }
 
 fn decide<'a>(alloc: Global) -> Result<Command<'a>, AllocError>
@@ -318,7 +285,8 @@ fn decide<'a>(alloc: Global) -> Result<Command<'a>, AllocError>
             alloc,
             "explain",
             "Shows the constraint or the place of a fault, and what to do.",
-        ))
+        ))?
+        .arg(switch(alloc, "json", JSON))
 }
 
 fn show<'a>(alloc: Global) -> Result<Command<'a>, AllocError>
@@ -342,7 +310,8 @@ fn show<'a>(alloc: Global) -> Result<Command<'a>, AllocError>
             alloc,
             "explain",
             "Shows the parts before what is wrong with the octets.",
-        ))
+        ))?
+        .arg(switch(alloc, "json", VALUE_AS_JSON))
 }
 
 fn encode<'a>(alloc: Global) -> Result<Command<'a>, AllocError>
@@ -380,7 +349,8 @@ fn test<'a>(alloc: Global) -> Result<Command<'a>, AllocError>
             alloc,
             "explain",
             "Shows where a file of cases is no TOML document, and what to do.",
-        ))
+        ))?
+        .arg(switch(alloc, "json", JSON))
 }
 
 fn compare<'a>(alloc: Global) -> Result<Command<'a>, AllocError>
@@ -396,7 +366,8 @@ fn compare<'a>(alloc: Global) -> Result<Command<'a>, AllocError>
         .arg(place(alloc, "new", "NEW", "The file of the new policy."))?
         .arg(switch(alloc, "by-place", BY_PLACE))?
         .arg(switch(alloc, "summary", SUMMARY))?
-        .arg(free_option(alloc, "link", OF_LINK))
+        .arg(free_option(alloc, "link", OF_LINK))?
+        .arg(switch(alloc, "json", JSON))
 }
 
 fn run<'a>(alloc: Global) -> Result<Command<'a>, AllocError>
@@ -409,7 +380,9 @@ fn run<'a>(alloc: Global) -> Result<Command<'a>, AllocError>
         )
         .after_help(RUN_EXAMPLE)
         .arg(policy(alloc))?
-        .arg(switch(alloc, "verbose", VERBOSE))
+        .arg(switch(alloc, "verbose", VERBOSE))?
+        .arg(free_option(alloc, "counts", COUNTS))?
+        .arg(switch(alloc, "json", JSON))
 }
 
 fn ask<'a>(alloc: Global) -> Result<Command<'a>, AllocError>
@@ -421,7 +394,8 @@ fn ask<'a>(alloc: Global) -> Result<Command<'a>, AllocError>
                 before the next is read.",
         )
         .after_help(ASK_EXAMPLE)
-        .arg(policy(alloc))
+        .arg(policy(alloc))?
+        .arg(switch(alloc, "json", JSON))
 }
 
 fn mux<'a>(alloc: Global) -> Result<Command<'a>, AllocError>
@@ -434,7 +408,9 @@ fn mux<'a>(alloc: Global) -> Result<Command<'a>, AllocError>
         )
         .after_help(MUX_EXAMPLE)
         .arg(policy(alloc))?
-        .arg(switch(alloc, "verbose", VERBOSE))
+        .arg(switch(alloc, "verbose", VERBOSE))?
+        .arg(free_option(alloc, "counts", COUNTS))?
+        .arg(switch(alloc, "json", JSON))
 }
 
 fn policy<'a>(alloc: Global) -> Arg<'a>

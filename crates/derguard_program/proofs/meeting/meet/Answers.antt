@@ -2,6 +2,7 @@ use Rattle.std.proofs.Common.{Bool, false, refl, subst, sym}
 use Rattle.guard_files.specs.Devices.{input_of, device}
 use Rattle.guard_files.specs.Reading.{IsNoPolicyAt}
 use Rattle.guard_files.specs.Explaining.{IsExplained}
+use Rattle.guard_streams.specs.Counting.{display_of}
 use Rattle.guard_messages.specs.FirstRun.{IsFirst, IsNoFirst}
 use Rattle.guard_authors.specs.Checked.{IsChecked, IsCheckedExplained}
 use Rattle.derguard_program.specs.declared.request.Request.{Request}
@@ -13,20 +14,22 @@ use Rattle.derguard_program.proofs.meeting.meet.Goals as goal
 pub returns-in-First : goal.returns-in-First
 returns-in-First g c =
     let told = g.F.Files.told c.args.files.now in
+    let shows = display_of g.B.Board.shown c.args.counters.now c.args.counters.now in
     let input = input_of (g.S.Source.tells c.args.input.now) (g.S.Source.tells c.args.input.now) (g.S.Source.takes c.args.input.now) (g.S.Source.takes c.args.input.now) (g.S.Source.has_failed c.args.input.now) in
     let out = device (g.O.Sink.taken c.args.out.now) (g.O.Sink.taken c.give.new.out) (g.O.Sink.has_failed c.give.new.out) in
     let err = device (g.E.Sink.taken c.args.err.now) (g.E.Sink.taken c.give.new.err) (g.E.Sink.has_failed c.give.new.err) in
-    subst (λ (r : Request). Meets told (request_view r) input out err c.give.result) (sym c.in-First.is)
+    subst (λ (r : Request). Meets told shows (request_view r) input out err c.give.result) (sym c.in-First.is)
     (given IsFirst IsNoFirst input out err c.give.result c.first_run.result (refl, refl) c.first_run.ensures.first c.first_run.ensures.none c.give.ensures.written c.give.ensures.told)
 
 pub returns-then-digest : goal.returns-then-digest
 returns-then-digest g c =
     let told = g.F.Files.told c.args.files.now in
+    let shows = display_of g.B.Board.shown c.args.counters.now c.args.counters.now in
     let input = input_of (g.S.Source.tells c.args.input.now) (g.S.Source.tells c.args.input.now) (g.S.Source.takes c.args.input.now) (g.S.Source.takes c.args.input.now) (g.S.Source.has_failed c.args.input.now) in
     let out = device (g.O.Sink.taken c.args.out.now) (g.O.Sink.taken c.give_digest.new.out) (g.O.Sink.has_failed c.give_digest.new.out) in
     let err = device (g.E.Sink.taken c.args.err.now) (g.E.Sink.taken c.give_digest.new.err) (g.E.Sink.has_failed c.give_digest.new.err) in
-    subst (λ (r : Request). Meets told (request_view r) input out err c.give_digest.result) (sym c.in-Check.is)
-    (subst (λ (b : Bool). Meets told (check c.in-Check.policy.now c.in-Check.explain c.in-Check.strict b) input out err c.give_digest.result) (sym c.if-digest.true) (
+    subst (λ (r : Request). Meets told shows (request_view r) input out err c.give_digest.result) (sym c.in-Check.is)
+    (subst (λ (b : Bool). Meets told shows (check c.in-Check.policy.now c.in-Check.explain c.in-Check.strict b) input out err c.give_digest.result) (sym c.if-digest.true) (
       (refl, refl),
       subst (λ (m : Bool). GivesDigest m told c.in-Check.policy.now out err c.give_digest.result) c.asks_more-more.ensures c.give_digest.ensures,
     ))
@@ -34,74 +37,82 @@ returns-then-digest g c =
 pub returns-then-strict : goal.returns-then-strict
 returns-then-strict g c =
     let told = g.F.Files.told c.args.files.now in
+    let shows = display_of g.B.Board.shown c.args.counters.now c.args.counters.now in
     let input = input_of (g.S.Source.tells c.args.input.now) (g.S.Source.tells c.args.input.now) (g.S.Source.takes c.args.input.now) (g.S.Source.takes c.args.input.now) (g.S.Source.has_failed c.args.input.now) in
     let out = device (g.O.Sink.taken c.args.out.now) (g.O.Sink.taken c.check_strictly.new.out) (g.O.Sink.has_failed c.check_strictly.new.out) in
     let err = device (g.E.Sink.taken c.args.err.now) (g.E.Sink.taken c.check_strictly.new.err) (g.E.Sink.has_failed c.check_strictly.new.err) in
-    subst (λ (r : Request). Meets told (request_view r) input out err c.check_strictly.result) (sym c.in-Check.is)
-    (subst (λ (b : Bool). Meets told (check c.in-Check.policy.now c.in-Check.explain c.in-Check.strict b) input out err c.check_strictly.result) (sym c.if-digest.false)
-    (subst (λ (b : Bool). Meets told (check c.in-Check.policy.now c.in-Check.explain b false) input out err c.check_strictly.result) (sym c.if-strict.true)
+    subst (λ (r : Request). Meets told shows (request_view r) input out err c.check_strictly.result) (sym c.in-Check.is)
+    (subst (λ (b : Bool). Meets told shows (check c.in-Check.policy.now c.in-Check.explain c.in-Check.strict b) input out err c.check_strictly.result) (sym c.if-digest.false)
+    (subst (λ (b : Bool). Meets told shows (check c.in-Check.policy.now c.in-Check.explain b false) input out err c.check_strictly.result) (sym c.if-strict.true)
     ((refl, refl), c.check_strictly.ensures)))
 
 pub returns-then-explain : goal.returns-then-explain
 returns-then-explain g c =
     let told = g.F.Files.told c.args.files.now in
+    let shows = display_of g.B.Board.shown c.args.counters.now c.args.counters.now in
     let input = input_of (g.S.Source.tells c.args.input.now) (g.S.Source.tells c.args.input.now) (g.S.Source.takes c.args.input.now) (g.S.Source.takes c.args.input.now) (g.S.Source.has_failed c.args.input.now) in
     let out = device (g.O.Sink.taken c.args.out.now) (g.O.Sink.taken c.give_explained.new.out) (g.O.Sink.has_failed c.give_explained.new.out) in
     let err = device (g.E.Sink.taken c.args.err.now) (g.E.Sink.taken c.give_explained.new.err) (g.E.Sink.has_failed c.give_explained.new.err) in
-    subst (λ (r : Request). Meets told (request_view r) input out err c.give_explained.result) (sym c.in-Check.is)
-    (subst (λ (b : Bool). Meets told (check c.in-Check.policy.now c.in-Check.explain c.in-Check.strict b) input out err c.give_explained.result) (sym c.if-digest.false)
-    (subst (λ (b : Bool). Meets told (check c.in-Check.policy.now c.in-Check.explain b false) input out err c.give_explained.result) (sym c.if-strict.false)
-    (subst (λ (b : Bool). Meets told (check c.in-Check.policy.now b false false) input out err c.give_explained.result) (sym c.if-explain.true)
+    subst (λ (r : Request). Meets told shows (request_view r) input out err c.give_explained.result) (sym c.in-Check.is)
+    (subst (λ (b : Bool). Meets told shows (check c.in-Check.policy.now c.in-Check.explain c.in-Check.strict b) input out err c.give_explained.result) (sym c.if-digest.false)
+    (subst (λ (b : Bool). Meets told shows (check c.in-Check.policy.now c.in-Check.explain b false) input out err c.give_explained.result) (sym c.if-strict.false)
+    (subst (λ (b : Bool). Meets told shows (check c.in-Check.policy.now b false false) input out err c.give_explained.result) (sym c.if-explain.true)
     (given_explained (IsCheckedExplained told c.in-Check.policy.now) (IsExplained told c.in-Check.policy.now) input out err c.give_explained.result c.check_explained.result (refl, refl) c.check_explained.ensures.checked c.check_explained.ensures.none c.give_explained.ensures.written c.give_explained.ensures.told))))
 
 pub returns-else-explain : goal.returns-else-explain
 returns-else-explain g c =
     let told = g.F.Files.told c.args.files.now in
+    let shows = display_of g.B.Board.shown c.args.counters.now c.args.counters.now in
     let input = input_of (g.S.Source.tells c.args.input.now) (g.S.Source.tells c.args.input.now) (g.S.Source.takes c.args.input.now) (g.S.Source.takes c.args.input.now) (g.S.Source.has_failed c.args.input.now) in
     let out = device (g.O.Sink.taken c.args.out.now) (g.O.Sink.taken c.give-else-explain.new.out) (g.O.Sink.has_failed c.give-else-explain.new.out) in
     let err = device (g.E.Sink.taken c.args.err.now) (g.E.Sink.taken c.give-else-explain.new.err) (g.E.Sink.has_failed c.give-else-explain.new.err) in
-    subst (λ (r : Request). Meets told (request_view r) input out err c.give-else-explain.result) (sym c.in-Check.is)
-    (subst (λ (b : Bool). Meets told (check c.in-Check.policy.now c.in-Check.explain c.in-Check.strict b) input out err c.give-else-explain.result) (sym c.if-digest.false)
-    (subst (λ (b : Bool). Meets told (check c.in-Check.policy.now c.in-Check.explain b false) input out err c.give-else-explain.result) (sym c.if-strict.false)
-    (subst (λ (b : Bool). Meets told (check c.in-Check.policy.now b false false) input out err c.give-else-explain.result) (sym c.if-explain.false)
+    subst (λ (r : Request). Meets told shows (request_view r) input out err c.give-else-explain.result) (sym c.in-Check.is)
+    (subst (λ (b : Bool). Meets told shows (check c.in-Check.policy.now c.in-Check.explain c.in-Check.strict b) input out err c.give-else-explain.result) (sym c.if-digest.false)
+    (subst (λ (b : Bool). Meets told shows (check c.in-Check.policy.now c.in-Check.explain b false) input out err c.give-else-explain.result) (sym c.if-strict.false)
+    (subst (λ (b : Bool). Meets told shows (check c.in-Check.policy.now b false false) input out err c.give-else-explain.result) (sym c.if-explain.false)
     (given (IsChecked told c.in-Check.policy.now) (IsNoPolicyAt told c.in-Check.policy.now) input out err c.give-else-explain.result c.check.result (refl, refl) c.check.ensures.checked c.check.ensures.none c.give-else-explain.ensures.written c.give-else-explain.ensures.told))))
 
 pub returns-in-Decide : goal.returns-in-Decide
 returns-in-Decide g c =
     let told = g.F.Files.told c.args.files.now in
+    let shows = display_of g.B.Board.shown c.args.counters.now c.args.counters.now in
     let input = input_of (g.S.Source.tells c.args.input.now) (g.S.Source.tells c.decide_asked.new.input) (g.S.Source.takes c.args.input.now) (g.S.Source.takes c.decide_asked.new.input) (g.S.Source.has_failed c.decide_asked.new.input) in
     let out = device (g.O.Sink.taken c.args.out.now) (g.O.Sink.taken c.decide_asked.new.out) (g.O.Sink.has_failed c.decide_asked.new.out) in
     let err = device (g.E.Sink.taken c.args.err.now) (g.E.Sink.taken c.decide_asked.new.err) (g.E.Sink.has_failed c.decide_asked.new.err) in
-    subst (λ (r : Request). Meets told (request_view r) input out err c.decide_asked.result) (sym c.in-Decide.is) c.decide_asked.ensures
+    subst (λ (r : Request). Meets told shows (request_view r) input out err c.decide_asked.result) (sym c.in-Decide.is) c.decide_asked.ensures
 
 pub returns-in-Show : goal.returns-in-Show
 returns-in-Show g c =
     let told = g.F.Files.told c.args.files.now in
-    let input = input_of (g.S.Source.tells c.args.input.now) (g.S.Source.tells c.show_asked.new.input) (g.S.Source.takes c.args.input.now) (g.S.Source.takes c.show_asked.new.input) (g.S.Source.has_failed c.show_asked.new.input) in
-    let out = device (g.O.Sink.taken c.args.out.now) (g.O.Sink.taken c.show_asked.new.out) (g.O.Sink.has_failed c.show_asked.new.out) in
-    let err = device (g.E.Sink.taken c.args.err.now) (g.E.Sink.taken c.show_asked.new.err) (g.E.Sink.has_failed c.show_asked.new.err) in
-    subst (λ (r : Request). Meets told (request_view r) input out err c.show_asked.result) (sym c.in-Show.is) c.show_asked.ensures
+    let shows = display_of g.B.Board.shown c.args.counters.now c.args.counters.now in
+    let input = input_of (g.S.Source.tells c.args.input.now) (g.S.Source.tells c.show_one.new.input) (g.S.Source.takes c.args.input.now) (g.S.Source.takes c.show_one.new.input) (g.S.Source.has_failed c.show_one.new.input) in
+    let out = device (g.O.Sink.taken c.args.out.now) (g.O.Sink.taken c.show_one.new.out) (g.O.Sink.has_failed c.show_one.new.out) in
+    let err = device (g.E.Sink.taken c.args.err.now) (g.E.Sink.taken c.show_one.new.err) (g.E.Sink.has_failed c.show_one.new.err) in
+    subst (λ (r : Request). Meets told shows (request_view r) input out err c.show_one.result) (sym c.in-Show.is) (c.show_one.ensures shows)
 
 pub returns-in-Encode : goal.returns-in-Encode
 returns-in-Encode g c =
     let told = g.F.Files.told c.args.files.now in
+    let shows = display_of g.B.Board.shown c.args.counters.now c.args.counters.now in
     let input = input_of (g.S.Source.tells c.args.input.now) (g.S.Source.tells c.encode.new.input) (g.S.Source.takes c.args.input.now) (g.S.Source.takes c.encode.new.input) (g.S.Source.has_failed c.encode.new.input) in
     let out = device (g.O.Sink.taken c.args.out.now) (g.O.Sink.taken c.encode.new.out) (g.O.Sink.has_failed c.encode.new.out) in
     let err = device (g.E.Sink.taken c.args.err.now) (g.E.Sink.taken c.encode.new.err) (g.E.Sink.has_failed c.encode.new.err) in
-    subst (λ (r : Request). Meets told (request_view r) input out err c.encode.result) (sym c.in-Encode.is) c.encode.ensures
+    subst (λ (r : Request). Meets told shows (request_view r) input out err c.encode.result) (sym c.in-Encode.is) c.encode.ensures
 
 pub returns-in-Compare : goal.returns-in-Compare
 returns-in-Compare g c =
     let told = g.F.Files.told c.args.files.now in
+    let shows = display_of g.B.Board.shown c.args.counters.now c.args.counters.now in
     let input = input_of (g.S.Source.tells c.args.input.now) (g.S.Source.tells c.compare.new.input) (g.S.Source.takes c.args.input.now) (g.S.Source.takes c.compare.new.input) (g.S.Source.has_failed c.compare.new.input) in
     let out = device (g.O.Sink.taken c.args.out.now) (g.O.Sink.taken c.compare.new.out) (g.O.Sink.has_failed c.compare.new.out) in
     let err = device (g.E.Sink.taken c.args.err.now) (g.E.Sink.taken c.compare.new.err) (g.E.Sink.has_failed c.compare.new.err) in
-    subst (λ (r : Request). Meets told (request_view r) input out err c.compare.result) (sym c.in-Compare.is) c.compare.ensures
+    subst (λ (r : Request). Meets told shows (request_view r) input out err c.compare.result) (sym c.in-Compare.is) c.compare.ensures
 
 pub returns-in-Test : goal.returns-in-Test
 returns-in-Test g c =
     let told = g.F.Files.told c.args.files.now in
+    let shows = display_of g.B.Board.shown c.args.counters.now c.args.counters.now in
     let input = input_of (g.S.Source.tells c.args.input.now) (g.S.Source.tells c.args.input.now) (g.S.Source.takes c.args.input.now) (g.S.Source.takes c.args.input.now) (g.S.Source.has_failed c.args.input.now) in
     let out = device (g.O.Sink.taken c.args.out.now) (g.O.Sink.taken c.test.new.out) (g.O.Sink.has_failed c.test.new.out) in
     let err = device (g.E.Sink.taken c.args.err.now) (g.E.Sink.taken c.test.new.err) (g.E.Sink.has_failed c.test.new.err) in
-    subst (λ (r : Request). Meets told (request_view r) input out err c.test.result) (sym c.in-Test.is) ((refl, refl), c.test.ensures)
+    subst (λ (r : Request). Meets told shows (request_view r) input out err c.test.result) (sym c.in-Test.is) ((refl, refl), c.test.ensures)

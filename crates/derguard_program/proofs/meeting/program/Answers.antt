@@ -19,5 +19,6 @@ pub returns-in-Ok-request_in-clause-words : goal.returns-in-Ok-request_in-clause
 returns-in-Ok-request_in-clause-words g c behind =
     let words : List Text = joined (map (λ w. w.now) c.args.words.now) in
     let same : map string_bytes c.deref.result.now ≡ words = ap (map string_bytes) c.deref.ensures.value ∙ c.in-Ok.ensures in
-    let request = request_view c.in-Ok-request_in.request in
-    inl (request, subst (λ (ws : List Text). AreFound ws request) same c.in-Ok-request_in.ensures.asked, c.meet-in-Ok-request_in.ensures)
+    let request = request_view c.in-Ok-request_in.asked.0 in
+    let json = c.in-Ok-request_in.asked.1 in
+    inl (request, json, subst (λ (ws : List Text). AreFound ws request json) same c.in-Ok-request_in.ensures.asked, c.meet_by.ensures)

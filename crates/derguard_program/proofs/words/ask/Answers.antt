@@ -7,4 +7,5 @@ use Rattle.derguard_program.proofs.words.ask.Goals as goal
 pub returns : goal.returns
 returns c =
     let start : app_of c.after_help.result ≡ new_app (codes "ask") = ap app_of_fields c.after_help.ensures ∙ ap app_of_fields c.about.ensures ∙ c.new.ensures.app in
-    IfOk-weaker c.arg.result _ _ (λ r added. ap (λ (a : App). a.top) (with_argument _ r _ _ _ added c.policy.ensures.local start c.policy.ensures.rule)) c.arg.ensures
+    let first = with_argument _ _ _ _ _ c.in_ok-arg.ensures c.policy.ensures.local start c.policy.ensures.rule in
+    IfOk-weaker c.arg-2.result _ _ (λ r added. ap (λ (a : App). a.top) (with_argument _ r _ _ _ added c.switch.ensures.local first c.switch.ensures.rule)) c.arg-2.ensures

@@ -10,4 +10,5 @@ returns c =
     let first = with_argument _ _ _ _ _ c.in_ok-arg.ensures c.policy.ensures.local start c.policy.ensures.rule in
     let second = with_argument _ _ _ _ _ c.in_ok-arg-2.ensures c.switch.ensures.local first c.switch.ensures.rule in
     let third = with_argument _ _ _ _ _ c.in_ok-arg-3.ensures c.switch-2.ensures.local second c.switch-2.ensures.rule in
-    IfOk-weaker c.arg-4.result _ _ (λ r added. ap (λ (a : App). a.top) (with_argument _ r _ _ _ added c.switch-3.ensures.local third c.switch-3.ensures.rule)) c.arg-4.ensures
+    let fourth = with_argument _ _ _ _ _ c.in_ok-arg-4.ensures c.switch-3.ensures.local third c.switch-3.ensures.rule in
+    IfOk-weaker c.arg-5.result _ _ (λ r added. ap (λ (a : App). a.top) (with_argument _ r _ _ _ added c.switch-4.ensures.local fourth c.switch-4.ensures.rule)) c.arg-5.ensures

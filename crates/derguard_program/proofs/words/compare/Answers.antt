@@ -11,4 +11,5 @@ returns c =
     let second = with_argument _ _ _ _ _ c.in_ok-arg-2.ensures c.place-2.ensures.local first c.place-2.ensures.rule in
     let third = with_argument _ _ _ _ _ c.in_ok-arg-3.ensures c.switch.ensures.local second c.switch.ensures.rule in
     let fourth = with_argument _ _ _ _ _ c.in_ok-arg-4.ensures c.switch-2.ensures.local third c.switch-2.ensures.rule in
-    IfOk-weaker c.arg-5.result _ _ (λ r added. ap (λ (a : App). a.top) (with_argument _ r _ _ _ added c.free_option.ensures.local fourth c.free_option.ensures.rule)) c.arg-5.ensures
+    let fifth = with_argument _ _ _ _ _ c.in_ok-arg-5.ensures c.free_option.ensures.local fourth c.free_option.ensures.rule in
+    IfOk-weaker c.arg-6.result _ _ (λ r added. ap (λ (a : App). a.top) (with_argument _ r _ _ _ added c.switch-3.ensures.local fifth c.switch-3.ensures.rule)) c.arg-6.ensures

@@ -15,4 +15,5 @@ returns c =
     let sixth = with_argument _ _ _ _ _ c.in_ok-arg-6.ensures c.free_option-4.ensures.local fifth c.free_option-4.ensures.rule in
     let seventh = with_argument _ _ _ _ _ c.in_ok-arg-7.ensures c.free_option-5.ensures.local sixth c.free_option-5.ensures.rule in
     let eighth = with_argument _ _ _ _ _ c.in_ok-arg-8.ensures c.free_option-6.ensures.local seventh c.free_option-6.ensures.rule in
-    IfOk-weaker c.arg-9.result _ _ (λ r added. ap (λ (a : App). a.top) (with_argument _ r _ _ _ added c.switch.ensures.local eighth c.switch.ensures.rule)) c.arg-9.ensures
+    let ninth = with_argument _ _ _ _ _ c.in_ok-arg-9.ensures c.switch.ensures.local eighth c.switch.ensures.rule in
+    IfOk-weaker c.arg-10.result _ _ (λ r added. ap (λ (a : App). a.top) (with_argument _ r _ _ _ added c.switch-2.ensures.local ninth c.switch-2.ensures.rule)) c.arg-10.ensures

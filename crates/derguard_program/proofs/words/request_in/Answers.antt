@@ -12,7 +12,7 @@ returns-clause-asked c =
     let same = ap (λ (a : App). fault_of a words) is_app in
     let no_fault = c.in_ok-matches.ensures.kinds (ap is_simple_and_free is_app ∙ the_app_simple) in
     let found = (c.in_ok-matches.ensures.matches (ap is_simple is_app ∙ refl)).1 ∙ ap (λ (a : App). subcommand_of a words) is_app in
-    answered words _ _ (sym same ∙ no_fault) found c.request_of.ensures
+    answered words _ _ _ (sym same ∙ no_fault) found c.request_of.ensures c.asks_json.ensures
 
 pub request_of-requires : goal.request_of-requires
 request_of-requires c =

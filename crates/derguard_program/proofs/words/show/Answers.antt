@@ -14,4 +14,5 @@ returns c =
     let fifth = with_argument _ _ _ _ _ c.in_ok-arg-5.ensures c.free_option-3.ensures.local fourth c.free_option-3.ensures.rule in
     let sixth = with_argument _ _ _ _ _ c.in_ok-arg-6.ensures c.free_option-4.ensures.local fifth c.free_option-4.ensures.rule in
     let seventh = with_argument _ _ _ _ _ c.in_ok-arg-7.ensures c.switch.ensures.local sixth c.switch.ensures.rule in
-    IfOk-weaker c.arg-8.result _ _ (λ r added. ap (λ (a : App). a.top) (with_argument _ r _ _ _ added c.switch-2.ensures.local seventh c.switch-2.ensures.rule)) c.arg-8.ensures
+    let eighth = with_argument _ _ _ _ _ c.in_ok-arg-8.ensures c.switch-2.ensures.local seventh c.switch-2.ensures.rule in
+    IfOk-weaker c.arg-9.result _ _ (λ r added. ap (λ (a : App). a.top) (with_argument _ r _ _ _ added c.switch-3.ensures.local eighth c.switch-3.ensures.rule)) c.arg-9.ensures

@@ -14,4 +14,5 @@ returns c =
     let local = ap (λ (a : Arg). a.global) c.help.ensures ∙ ap (λ (a : Arg). a.global) c.value_name.ensures ∙ c.free.ensures.local in
     let second = with_argument _ _ _ _ _ c.in_ok-arg-2.ensures local first value_is in
     let third = with_argument _ _ _ _ _ c.in_ok-arg-3.ensures c.switch.ensures.local second c.switch.ensures.rule in
-    IfOk-weaker c.arg-4.result _ _ (λ r added. ap (λ (a : App). a.top) (with_argument _ r _ _ _ added c.switch-2.ensures.local third c.switch-2.ensures.rule)) c.arg-4.ensures
+    let fourth = with_argument _ _ _ _ _ c.in_ok-arg-4.ensures c.switch-2.ensures.local third c.switch-2.ensures.rule in
+    IfOk-weaker c.arg-5.result _ _ (λ r added. ap (λ (a : App). a.top) (with_argument _ r _ _ _ added c.switch-3.ensures.local fourth c.switch-3.ensures.rule)) c.arg-5.ensures

@@ -18,6 +18,7 @@
 
 mod memory;
 mod programs;
+mod shelf;
 mod timing;
 mod walked;
 
@@ -352,6 +353,8 @@ fn try_streams<R: Files + Print + AllocGlobal>(rt: &R, tally: &mut Tally) -> io:
             "program/found.rows",
             "program/many_links.rows",
             "program/verbose.rows",
+            "program/counters.rows",
+            "program/json.rows",
         ],
     )
 }

@@ -1,9 +1,10 @@
 //! What the program does of its words, files and standard input.
 use crate::memory::{Entries, Reads};
+use crate::shelf::Shelf;
 use conformance_decisions::{Pieces, Room};
 use conformance_rows::{Layer, octets_in, text_of};
 use derguard_program::program;
-use guard_streams::{Failing, Says};
+use guard_streams::{Counters, Failing, Says};
 use std::alloc::{AllocError, Global};
 
 /// What is reported of a standard output that fails.
@@ -21,6 +22,10 @@ enum Asked {
     /// How many runs end with 3 where standard error fails after so many octets, for each number. Nothing is said after
     /// what it took.
     EachErr,
+    /// The status, what standard error took, and the text that was shown last.
+    LastText,
+    /// The status, what standard error took, and of each text that was shown what isn't 0.
+    EachText,
 }
 
 #[derive(Drop)]
@@ -36,6 +41,8 @@ pub struct Programs {
     out: usize,
     /// and standard error.
     err: usize,
+    /// How many texts are shown before the board fails.
+    shows: usize,
 }
 
 /// What a system says in the rows.
@@ -60,6 +67,7 @@ struct Ending {
     out: Room,
     err: Room,
     left: usize,
+    counters: Counters<Shelf>,
 }
 
 impl Ending {
@@ -68,6 +76,20 @@ impl Ending {
         let out = shown(alloc, self.out.octets())?;
         let err = shown(alloc, self.err.octets())?;
         format!(in alloc; "{status} <{out}> <{err}> {left}")
+    }
+
+    fn last_text(&self, alloc: Global) -> Result<String, AllocError> {
+        let status = self.status;
+        let err = shown(alloc, self.err.octets())?;
+        let last = self.counters.board().last(alloc)?;
+        format!(in alloc; "{status} <{err}> {last}")
+    }
+
+    fn each_text(&self, alloc: Global) -> Result<String, AllocError> {
+        let status = self.status;
+        let err = shown(alloc, self.err.octets())?;
+        let each = self.counters.board().each(alloc)?;
+        format!(in alloc; "{status} <{err}> {each}")
     }
 
     fn first_lines(&self, alloc: Global) -> Result<String, AllocError> {
@@ -135,8 +157,16 @@ impl Programs {
         let mut input = Pieces::failing(&self.input, self.size, self.reads);
         let mut out = Room::new(alloc, usize::MAX, room);
         let mut err = Room::new(alloc, usize::MAX, err_room);
+        let mut counters = Counters::over(alloc, Shelf::new(alloc, self.shows));
         let status = program(
-            alloc, words, &mut files, &mut input, &mut out, &mut err, &Told,
+            alloc,
+            words,
+            &mut files,
+            &mut input,
+            &mut out,
+            &mut err,
+            &Told,
+            &mut counters,
         );
         let left = input.left().len();
         Ok(Ending {
@@ -144,6 +174,7 @@ impl Programs {
             out,
             err,
             left,
+            counters,
         })
     }
 
@@ -207,6 +238,7 @@ impl Programs {
             "reads" => self.reads = number,
             "out" => self.out = number,
             "err" => self.err = number,
+            "shows" => self.shows = number,
             _ => return false,
         }
         true
@@ -219,6 +251,8 @@ fn asked_by(text: &str) -> Option<Asked> {
         "first lines" => Some(Asked::FirstLines),
         "each out" => Some(Asked::EachOut),
         "each err" => Some(Asked::EachErr),
+        "last text" => Some(Asked::LastText),
+        "each text" => Some(Asked::EachText),
         _ => None,
     }
 }
@@ -233,6 +267,7 @@ impl Layer for Programs {
             reads: usize::MAX,
             out: usize::MAX,
             err: usize::MAX,
+            shows: usize::MAX,
         }
     }
 
@@ -245,11 +280,17 @@ impl Layer for Programs {
                 .first_lines(alloc),
             Asked::EachOut => self.each_out(alloc, &words),
             Asked::EachErr => self.each_err(alloc, &words),
+            Asked::LastText => self
+                .ran(alloc, &words, self.out, self.err)?
+                .last_text(alloc),
+            Asked::EachText => self
+                .ran(alloc, &words, self.out, self.err)?
+                .each_text(alloc),
         }
     }
 
-    /// `@file:PATH TEXT`; `@ask all`, `@ask first lines`, `@ask each out`, `@ask each err`; `@input DIGITS`; and the
-    /// numbers `@since`, `@refuse`, `@pieces`, `@reads`, `@out`, `@err`.
+    /// `@file:PATH TEXT`; `@ask all`, `@ask first lines`, `@ask each out`, `@ask each err`, `@ask last text`, `@ask each
+    /// text`; `@input DIGITS`; and the numbers `@since`, `@refuse`, `@pieces`, `@reads`, `@out`, `@err`, `@shows`.
     fn set(&mut self, alloc: Global, name: &str, text: &[u8]) -> Result<String, AllocError> {
         if let Some(path) = name.strip_prefix("file:") {
             self.files.add(alloc, path, text)?;

@@ -45,16 +45,24 @@ def is_as_said(words, frames, word):
         give_up(f"{' '.join(words)} reports {lines} where {word or 'nothing'} was meant")
 
 
-def notes(work):
-    """The same frames with notes, beside the same without."""
-    say("With `--verbose`, the reports to `/dev/null`:\n")
-    say("| frames | `run`, ns a frame | `run --verbose`, ns a frame | times | aim |")
-    say("|---|---|---|---|---|")
-    for name, frames, status, aim in (("goes", GOES, 0, 1.05), ("not-allowed", NOT_ALLOWED, 1, 1.1)):
-        file = work.put("flood.frames", frames)
-        words = {noted: [GUARD, "run", ORDERS] + noted * ["--verbose"] for noted in (False, True)}
-        times = nanoseconds({noted: Stream(work, file, words[noted], status, False) for noted in words})
-        say(f"| {name} | {times[False]:.0f} | {times[True]:.0f} | {times[True] / times[False]:.2f} | {aim} |")
+# An option that tells more, and what `run` with it may cost at most beside `run` without: for frames that go, and for
+# those that aren't allowed.
+TELLING = [("--verbose", 1.05, 1.1), ("--counts", 1.02, 1.02), ("--json", None, None)]
+
+
+def telling(work):
+    """The same frames with an option that tells more, beside the same without."""
+    say("With an option that tells more, the reports to `/dev/null`:\n")
+    say("| option | frames | `run`, ns a frame | with the option | times | aim |")
+    say("|---|---|---|---|---|---|")
+    for option, going, staying in TELLING:
+        more = [option] + [work.path("counts.prom")] * (option == "--counts")
+        for name, frames, status, aim in (("goes", GOES, 0, going), ("not-allowed", NOT_ALLOWED, 1, staying)):
+            file = work.put("flood.frames", frames)
+            words = {told: [GUARD, "run", ORDERS] + told * more for told in (False, True)}
+            times = nanoseconds({told: Stream(work, file, words[told], status, False) for told in words})
+            share = f"{times[True] / times[False]:.2f}"
+            say(f"| `{option}` | {name} | {times[False]:.0f} | {times[True]:.0f} | {share} | {aim or '-'} |")
     say()
 
 
@@ -73,5 +81,5 @@ def flood(work):
         share = f"{times[False] / goes:.1f}" if len(frames) < 1000 else "-"
         say(f"| {name} | {len(frames)} | {times[False]:.0f} | {times[True]:.0f} | {share} | {aim or '-'} |")
     say()
-    notes(work)
+    telling(work)
     return []

@@ -16,7 +16,7 @@ _derguard() {
     for ((number = 1; number < COMP_CWORD; number++)); do
         word=${COMP_WORDS[number]}
         case $word in
-            --from | --to | --message | --frame | --link) ((number++)) ;;
+            --from | --to | --message | --frame | --link | --counts) ((number++)) ;;
             --der) [ "$command" = encode ] || ((number++)) ;;
             -*) ;;
             *) if [ -z "$command" ]; then command=$word; elif [ -z "$policy" ]; then policy=$word; fi ;;
@@ -29,7 +29,8 @@ _derguard() {
             --to) mapfile -t COMPREPLY < <(compgen -W "$(_derguard_names rule to "$policy")" -- "$current") ;;
         esac
     fi
-    if [ "$before" = --der ] && [[ $command == decide || $command == show ]]; then
+    if [[ $before == --der && ($command == decide || $command == show) ]] ||
+        [[ $before == --counts && ($command == run || $command == mux) ]]; then
         compopt -o filenames 2> /dev/null
         mapfile -t COMPREPLY < <(compgen -f -- "$current")
         return
@@ -43,13 +44,14 @@ _derguard() {
         check | run | ask | mux | decide | show | encode | test | compare)
             if [[ $current == -* ]]; then
                 word=--help
-                if [ "$command" = check ]; then word='--explain --strict --digest --help'; fi
-                if [ "$command" = run ] || [ "$command" = mux ]; then word='--verbose --help'; fi
-                if [ "$command" = decide ]; then word='--from --to --message --der --frame --link --explain --help'; fi
-                if [ "$command" = show ]; then word='--message --der --frame --link --capture --explain --help'; fi
+                if [ "$command" = check ]; then word='--explain --strict --digest --json --help'; fi
+                if [ "$command" = run ] || [ "$command" = mux ]; then word='--verbose --counts --json --help'; fi
+                if [ "$command" = ask ]; then word='--json --help'; fi
+                if [ "$command" = decide ]; then word='--from --to --message --der --frame --link --explain --json --help'; fi
+                if [ "$command" = show ]; then word='--message --der --frame --link --capture --explain --json --help'; fi
                 if [ "$command" = encode ]; then word='--message --from --to --der --help'; fi
-                if [ "$command" = test ]; then word='--cover --explain --help'; fi
-                if [ "$command" = compare ]; then word='--by-place --summary --link --help'; fi
+                if [ "$command" = test ]; then word='--cover --explain --json --help'; fi
+                if [ "$command" = compare ]; then word='--by-place --summary --link --json --help'; fi
                 mapfile -t COMPREPLY < <(compgen -W "$word" -- "$current")
             elif [ -z "$policy" ] || [ "$command" = test ] || [ "$command" = compare ]; then
                 compopt -o filenames 2> /dev/null

@@ -7,7 +7,7 @@ function __derguard_policy
     set -e words[1]
     while set -q words[1]
         switch $words[1]
-            case --from --to --message --frame --link
+            case --from --to --message --frame --link --counts
                 set -e words[1]
             case --der
                 if test "$passed[1]" != encode
@@ -72,4 +72,7 @@ complete -c derguard -n '__fish_seen_subcommand_from encode' -l der -d 'write th
 complete -c derguard -n '__fish_seen_subcommand_from test' -l cover -d 'list the rules that no case reaches'
 complete -c derguard -n '__fish_seen_subcommand_from test' -l explain -d 'show where a file of cases is no TOML document'
 complete -c derguard -n '__fish_seen_subcommand_from check' -l strict -d 'say what is remarked, with status 1 if anything is'
+complete -c derguard -n '__fish_seen_subcommand_from run mux' -l counts -r -F -d 'a file that is kept to what is counted'
 complete -c derguard -n '__fish_seen_subcommand_from run mux' -l verbose -d 'count frames and reasons at the end'
+complete -c derguard -n '__fish_seen_subcommand_from check decide test compare run ask mux' -l json -d 'write each line as JSON'
+complete -c derguard -n '__fish_seen_subcommand_from show' -l json -d 'show the value as JSON'

@@ -1,4 +1,4 @@
--- What modules write is read again.
+-- What modules write, and values alone, is read again.
 use Rattle.std.proofs.Common.{◌≡◌, ℕ, true, false, not, List, [], ◌∷◌, length, Option, Some, None, Ok, refl, ap, arith}
 use Rattle.guard_model.specs.declared.site.Site.{Site}
 use Rattle.guard_lexer.specs.declared.token.TokenKind.TheVariants.{Reserved, Mark}
@@ -11,11 +11,11 @@ use Rattle.guard_syntax.specs.declared.tree.SymbolKind.TheVariants as symbol
 use Rattle.guard_syntax.specs.Lexemes.{Lexeme, word, mark, upper_name}
 use Rattle.guard_syntax.specs.Trees.{WrittenArc, WrittenValue, WrittenType, WrittenIdentifierPart, bare_name, arc_part, WrittenSymbol, WrittenExports, all_exported, exported, WrittenImport, WrittenAssignment, WrittenModule}
 use Rattle.guard_syntax.specs.TokensOf.{each_then, parted_then, comma_before, perhaps_then, arc_form_then, value_then, identifier_part_then, identifier_then, tag_default_then, symbol_lexeme, symbol_then, exports_then, import_then, imports_then, assigned_then, assignment_then, tokens_of}
-use Rattle.guard_syntax.specs.Sites.{past, sited_each, sited_parted, sited_perhaps, sited_arc, sited_type, sited_identifier_part, sited_identifier, past_tag_default, sited_symbol, sited_exports, sited_import, sited_imports, sited_assigned, sited_assignment, sited}
+use Rattle.guard_syntax.specs.Sites.{past, sited_each, sited_parted, sited_perhaps, sited_arc, sited_type, sited_identifier_part, sited_identifier, past_tag_default, sited_symbol, sited_exports, sited_import, sited_imports, sited_assigned, sited_assignment, sited, sited_value}
 use Rattle.guard_syntax.specs.Grammar.{Any, AreEach, AreSome, IsPerhaps, IsImport, most_levels, IsType, IsValue, IsAssignment, IsModule}
 use Rattle.guard_syntax.specs.inside.ReadTokens.{begins_with, read_token, read_spelling, read_each}
 use Rattle.guard_syntax.specs.inside.ReadValues.{does_not_close}
-use Rattle.guard_syntax.specs.inside.ReadModule.{read_identifier_part, read_identifier_parts, read_identifier, read_tag_default, read_symbol, read_exported, read_exports, read_import, goes_on_importing, read_imports, read_type_assignment, read_value_assignment, read_assignment, goes_on_assigning, WrittenHead, read_head, read_end, read_module}
+use Rattle.guard_syntax.specs.inside.ReadModule.{read_identifier_part, read_identifier_parts, read_identifier, read_tag_default, read_symbol, read_exported, read_exports, read_import, goes_on_importing, read_imports, read_type_assignment, read_value_assignment, read_assignment, goes_on_assigning, WrittenHead, read_head, read_end, read_module, read_value_alone}
 use Rattle.guard_syntax.proofs.SoundModule.{identifier_part_sound, symbol_sound, import_sound, assignment_sound}
 use Rattle.guard_syntax.proofs.CompleteLists.{place, Complete, Whatever, NotBefore, arc_complete, each_complete, parted_complete}
 use Rattle.guard_syntax.proofs.CompleteValues.{value_complete}
@@ -189,3 +189,8 @@ module_complete m ss h =
       imports_complete m.imports all behind_exports h.0 (λ ts. (assignments_first m.assignments ts).1),
       assignments_complete m.assignments behind_imports h.1,
     ) refl
+
+-- A value of the grammar is read from its tokens, whatever their sites.
+pub value_alone_complete : (v : WrittenValue) (ss : List Site) → IsValue most_levels v → read_value_alone (place (value_then v []) ss) ≡ Ok (sited_value v ss).0
+unfolding read_value_alone read_end
+value_alone_complete v ss h = rw (value_complete most_levels v [] ss h (λ ts. refl)) refl

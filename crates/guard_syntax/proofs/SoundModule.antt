@@ -1,4 +1,4 @@
--- What is read of modules is what they write.
+-- What is read of modules, and of values alone, is what they write.
 use Rattle.std.proofs.Common.{◌≡◌, ◌≤◌, ◌<◌, cond, not, List, [], ◌∷◌, length, Option, Some, None, Result, Ok, refl, ap, sym, ◌∙◌, arith}
 use Rattle.std.proofs.lemmas.Bool.{cond_both}
 use Rattle.guard_model.specs.Answer.{◌>>=◌}
@@ -10,13 +10,13 @@ use Rattle.guard_syntax.specs.declared.read_error.Failure.{Failure}
 use Rattle.guard_syntax.specs.declared.tree.TagDefault.{TagDefault}
 use Rattle.guard_syntax.specs.declared.tree.TagDefault.TheVariants as tag_default
 use Rattle.guard_syntax.specs.Lexemes.{Lexeme, word, mark, upper_name}
-use Rattle.guard_syntax.specs.Trees.{WrittenArc, WrittenIdentifierPart, arc_part, WrittenExports, WrittenModule}
-use Rattle.guard_syntax.specs.TokensOf.{each_then, perhaps_then, identifier_part_then, identifier_then, tag_default_word, tag_default_then, symbol_then, exports_then, import_then, imports_then, assignment_then, tokens_of}
-use Rattle.guard_syntax.specs.Sites.{past, sited_each, sited_identifier_part, sited_identifier, past_tag_default, sited_symbol, sited_exports, sited_import, sited_imports, sited_assignment, sited}
-use Rattle.guard_syntax.specs.Grammar.{Any, AreEach, IsImport, most_levels, IsAssignment, IsModule}
+use Rattle.guard_syntax.specs.Trees.{WrittenArc, WrittenIdentifierPart, arc_part, WrittenExports, WrittenModule, WrittenValue}
+use Rattle.guard_syntax.specs.TokensOf.{each_then, perhaps_then, identifier_part_then, identifier_then, tag_default_word, tag_default_then, symbol_then, exports_then, import_then, imports_then, assignment_then, tokens_of, value_then}
+use Rattle.guard_syntax.specs.Sites.{past, sited_each, sited_identifier_part, sited_identifier, past_tag_default, sited_symbol, sited_exports, sited_import, sited_imports, sited_assignment, sited, sited_value}
+use Rattle.guard_syntax.specs.Grammar.{Any, AreEach, IsImport, most_levels, IsAssignment, IsModule, IsValue}
 use Rattle.guard_syntax.specs.inside.ReadTokens.{Placed, begins_with, behind, read_token}
 use Rattle.guard_syntax.specs.inside.ReadValues.{is_there, does_not_close}
-use Rattle.guard_syntax.specs.inside.ReadModule.{begins_bare_name, read_identifier_part, read_identifier_parts, read_identifier, tag_default_at, read_tag_default, read_symbol, read_exported, read_exports, read_import, goes_on_importing, read_imports, read_type_assignment, read_value_assignment, read_assignment, goes_on_assigning, WrittenHead, read_head, read_end, read_module}
+use Rattle.guard_syntax.specs.inside.ReadModule.{begins_bare_name, read_identifier_part, read_identifier_parts, read_identifier, tag_default_at, read_tag_default, read_symbol, read_exported, read_exports, read_import, goes_on_importing, read_imports, read_type_assignment, read_value_assignment, read_assignment, goes_on_assigning, WrittenHead, read_head, read_end, read_module, read_value_alone}
 use Rattle.guard_syntax.proofs.SoundSteps.{lexemes, sites, Holds, then_holds, ok_holds, err_holds, if_holds, took, took_mark, took_word, took_spelled, Sound}
 use Rattle.guard_syntax.proofs.SoundLists.{WordRead, word_sound, no_word_sound, PerhapsRead, missing_sound, arc_sound, HasOne, each_sound, each_some, parted_sound}
 use Rattle.guard_syntax.proofs.SoundValues.{value_sound}
@@ -224,3 +224,19 @@ module_sound ps =
       sites_are = rw (head.sites_are, head.identifier_sites, exports.sites_are, imports.sites_are, all.sites_are) refl;
       lawful = (imports.lawful, all.lawful);
     })))))))
+
+-- The value that is read is one of the grammar, is written so, and has its sites.
+pub record ValueRead (ps : List Placed) (v : WrittenValue) : Type 0 where
+  pub lexemes_are : lexemes ps ≡ value_then v []
+  pub sites_are : (sited_value v (sites ps)).0 ≡ v
+  pub lawful : IsValue most_levels v
+
+pub value_alone_sound : (ps : List Placed) → Holds (read_value_alone ps) (λ v. ValueRead ps v)
+unfolding read_value_alone
+value_alone_sound ps =
+    then_holds _ (value_sound most_levels ps) (λ v one.
+    then_holds _ (nothing_left v.1) (λ u nothing. ok_holds _ (record {
+      lexemes_are = rw (one.lexemes_are, nothing) refl;
+      sites_are = rw one.sites_are refl;
+      lawful = one.lawful;
+    })))

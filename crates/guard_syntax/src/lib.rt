@@ -1,15 +1,17 @@
-//! The parser of module texts (X.680): from the tokens of a text to its tree, or the first token where there is none.
+//! The parser of texts (X.680): from the tokens of a module, or of a value alone, to its tree, or the first token where
+//! there is none.
 //!
-//! The one call is [`parse`]. Each reader below takes a [`Cursor`](cursor::Cursor) and answers what it read, with the
-//! cursor after it. What digits write as an integer is [`NumberTree::integer`], where a text ends [`end_of`].
+//! The calls are [`parse`] and, of a value alone, [`parse_value`]. Each reader below takes a [`Cursor`](cursor::Cursor)
+//! and answers what it read, with the cursor after it. What digits write as an integer is [`NumberTree::integer`], where
+//! a text ends [`end_of`].
 //!
 //! | question | file |
 //! |---|---|
-//! | What does `parse` promise? | `parser.rt`, `specs/Parses.antt`, `specs/Faults.antt` |
+//! | What do `parse` and `parse_value` promise? | `parser.rt`, `specs/Parses.antt`, `specs/Faults.antt` |
 //! | What is a tree? | `tree.rt`; for the definitions `specs/Trees.antt`; from one to the other `specs/*Views.antt` |
 //! | Which trees does the grammar allow, and how are they written? | `specs/Grammar.antt`, `specs/TokensOf.antt` |
 //! | Which token is the site of a node? | `specs/Sites.antt` |
-//! | How is a module read? | `module.rt`, `imports.rt`, `module_identifiers.rt`; `specs/inside/ReadModule.antt` |
+//! | How is a module read, or a value alone? | `module.rt`, `imports.rt`, `module_identifiers.rt`; `specs/inside/ReadModule.antt` |
 //! | How is a type read? | `types.rt`, `tags.rt`, `named_numbers.rt`; `specs/inside/ReadTypes.antt` |
 //! | How are constraints and sets read? | `sets.rt`, `join_marks.rt`, `ranges.rt`; `specs/inside/ReadSets.antt` |
 //! | How is a value read? | `values.rt`, `numbers.rt`; `specs/inside/ReadValues.antt` |
@@ -43,7 +45,7 @@ mod values;
 
 pub use fault::{Spelling, SyntaxFault};
 pub use fault_of_failure::end_of;
-pub use parser::parse;
+pub use parser::{parse, parse_value};
 pub use tree::{
     AlternativeTree, ArcTree, Assignment, BaseTree, Collection, CompForm, CompTree,
     ComponentConsTree, ConsTree, DifferenceTree, ElementForm, ElementTree, EndForm, EndTree,

@@ -1,4 +1,4 @@
-//! Modules and their assignments.
+//! Modules and their assignments, and values alone.
 ghost use Rattle.std.specs.Prelude.{◌≡◌, map, length};
 ghost use Rattle.guard_model.specs.Answer.{Gives};
 ghost use Rattle.guard_syntax.specs.inside.ReadTokens as tokens_reading;
@@ -7,12 +7,13 @@ ghost use Rattle.guard_syntax.specs.inside.Cursors.{ahead, Reads, each_view, box
 ghost use Rattle.guard_syntax.specs.Grammar.{most_levels};
 ghost use Rattle.guard_syntax.specs.inside.ReadModule as reading;
 ghost use Rattle.guard_syntax.specs.ModuleViews.{head_view, assignment_view, module_view};
+ghost use Rattle.guard_syntax.specs.Views.{value_view};
 
 use crate::cursor::{Cursor, Read};
 use crate::imports::{exports, imports};
 use crate::module_identifiers::identifier;
 use crate::read_error::ReadError;
-use crate::tree::{Assignment, Module, PartTree, TagDefault};
+use crate::tree::{Assignment, Module, PartTree, TagDefault, ValueTree};
 use crate::types::type_tree;
 use crate::values::value;
 use guard_lexer::{Mark, Reserved, TokenKind};
@@ -171,6 +172,16 @@ fn value_assignment<'a, 't>(alloc: Global, at: Cursor<'a, 't>) -> Read<'a, 't, A
         },
         rest,
     ))
+}
+
+/// A value, and no token after it.
+#[tactic(auto, unfolding(crate::specs::inside::ReadModule::read_value_alone))]
+pub fn value_alone<'a>(alloc: Global, at: Cursor<'a, '_>) -> Result<ValueTree<'a>, ReadError>
+    ensures { Gives value_view failure_of result (reading.read_value_alone (ahead at.entry)) }
+{
+    let (value, rest) = value(alloc, levels(), at)?;
+    ended(rest)?;
+    Ok(value)
 }
 
 /// No token is left.

@@ -1,4 +1,4 @@
--- Reading modules.
+-- Reading modules, and values alone.
 use Rattle.std.specs.Prelude.{ℕ, Bool, false, not, if◌then◌else◌, List, [], ◌∷◌, length, Option, Some, None, Result, Ok}
 use Rattle.guard_model.specs.Answer.{◌>>=◌}
 use Rattle.guard_lexer.specs.declared.token.TokenKind.TheVariants.{Reserved, UpperName, LowerName, Mark}
@@ -8,7 +8,7 @@ use Rattle.guard_syntax.specs.declared.read_error.Failure.{Failure}
 use Rattle.guard_syntax.specs.declared.tree.TagDefault.{TagDefault}
 use Rattle.guard_syntax.specs.declared.tree.TagDefault.TheVariants as tag_default
 use Rattle.guard_syntax.specs.declared.tree.SymbolKind.TheVariants as symbol
-use Rattle.guard_syntax.specs.Trees.{WrittenIdentifierPart, bare_name, arc_part, WrittenSymbol, WrittenExports, all_exported, exported, WrittenImport, WrittenAssignment, WrittenModule}
+use Rattle.guard_syntax.specs.Trees.{WrittenIdentifierPart, bare_name, arc_part, WrittenSymbol, WrittenExports, all_exported, exported, WrittenImport, WrittenAssignment, WrittenModule, WrittenValue}
 use Rattle.guard_syntax.specs.Grammar.{most_levels}
 use Rattle.guard_syntax.specs.inside.ReadTokens.{Placed, Reader, begins_with, behind, site_at, unexpected, read_token, read_spelling, read_each, read_parted, read_arc}
 use Rattle.guard_syntax.specs.inside.ReadValues.{is_there, does_not_close, read_value}
@@ -143,6 +143,13 @@ read_head ps = do
 unfoldable pub read_end : List Placed → Result (Unit {0}) Failure
 read_end [] = Ok tt
 read_end (p ∷ ps) = unexpected (p ∷ ps)
+
+-- a value, and nothing after it
+unfoldable pub read_value_alone : List Placed → Result WrittenValue Failure
+read_value_alone ps = do
+  v ← read_value most_levels ps
+  nothing ← read_end v.1
+  Ok v.0
 
 -- a module, and nothing after it
 unfoldable pub read_module : List Placed → Result WrittenModule Failure

@@ -109,10 +109,10 @@ table_sync = declared_sync table.the_type (kept_types_sync, (nodes_sync, tt))
 -- ---- policies
 
 message_send : IsSend message.the_row
-message_send = declared_send message.the_type (string_send, (string_send, (table_send, (routing.the_send, tt))))
+message_send = declared_send message.the_type (string_send, (string_send, (table_send, (routing.the_send, (search (sendable, crosses), tt)))))
 
 message_sync : IsSync message.the_row
-message_sync = declared_sync message.the_type (string_sync, (string_sync, (table_sync, (routing.the_sync, tt))))
+message_sync = declared_sync message.the_type (string_sync, (string_sync, (table_sync, (routing.the_sync, (search (sendable, crosses), tt)))))
 
 kept_send : IsSend kept.the_row
 kept_send = declared_send kept.the_type (Vec-send message.the_row message_send, (Vec-send rule.the_row rules.the_send, (index.the_send, (leads.the_send, tt))))

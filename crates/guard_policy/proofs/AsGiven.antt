@@ -157,7 +157,7 @@ module _ (policy : Policy) (names : List ℕ) (lead : Lead) (found : found_lead 
       there = at;
     }
 
-    pub given_tells : (octets : List ℕ) (told : Passing) → IsAnswer m.table lead.rules octets told
+    pub given_tells : (octets : List ℕ) (told : Passing) → IsAnswer m lead.rules octets told
         → (x : AbstractRoute) × IsGiven (policy_view policy).rules names x × Tells (policy_view policy) x octets told
     given_tells octets told is = (
       route,

@@ -1,5 +1,5 @@
 -- What the marks of a table say by a route's rules is what the rules say of the value.
-use Rattle.std.proofs.Common.{◌≡◌, ℕ, zero, suc, ◌+◌, List, [], ◌∷◌, map, slice_get, Bool, true, false, ◌&&◌, ◌||◌, not, cond, ◌↔◌, Option, None, Some, option_map, string_bytes, All, refl, ap, sym, ◌∙◌, subst, arith, inl, inr}
+use Rattle.std.proofs.Common.{◌≡◌, ◌≤◌, ℕ, zero, suc, ◌+◌, List, length, [], ◌∷◌, map, slice_get, Bool, true, false, ◌&&◌, ◌||◌, not, cond, ◌↔◌, Option, None, Some, option_map, string_bytes, All, refl, ap, sym, ◌∙◌, subst, arith, inl, inr}
 use Rattle.std.specs.Prelude.{IsTrue, IfSome, bytes_eq}
 use Rattle.std.specs.List.{list_any, list_all}
 use Rattle.std.proofs.lemmas.Option.{same_Some, slice_get-map, slice_get_within, get_or_from_slice_get}
@@ -26,8 +26,8 @@ use Rattle.guard_policy.specs.declared.policy.Effect.TheVariants.{Allow, Deny}
 use Rattle.guard_policy.specs.declared.routing.RouteRules.{RouteRules}
 use Rattle.guard_policy.specs.declared.routing.Routing.{Routing}
 use Rattle.guard_policy.specs.Consistency.{types_for}
-use Rattle.guard_policy.specs.Decisions.{NumberedRule, speaks_of, speaking, is_allowing, allows, denies, first_denying, judged, rules_of as route_rules, Goes, IsReason}
-use Rattle.guard_policy.specs.Verdicts.{AbstractVerdict}
+use Rattle.guard_policy.specs.Decisions.{NumberedRule, speaks_of, speaking, is_allowing, allows, denies, first_where, first_denying, first_allowing, judged, rules_of as route_rules, Goes, IsReason}
+use Rattle.guard_policy.specs.Verdicts.{AbstractVerdict, reason_view}
 use Rattle.guard_policy.specs.KeptView.{kept_message_view}
 use Rattle.guard_policy.specs.Names.{is_meant}
 use Rattle.guard_policy.specs.PolicyView.{policy_view}
@@ -143,7 +143,7 @@ is_false : (b : Bool) → not b ≡ true → b ≡ false
 is_false true e = absurd cc
 is_false false e = refl
 
--- ---- the first rule that denies
+-- ---- the first rule that says something of the value
 
 -- the first number at whose place the list is true
 abbrev first_true : List Bool → List ℕ → Option ℕ
@@ -163,29 +163,41 @@ first_place m k (b ∷ bs) (n ∷ ns) shows =
     ap (λ c. cond c (Some n) (first_in m (suc k) ns)) (shows 0 k (omega arith))
     ∙ ap (λ o. cond b (Some n) o) (first_place m (suc k) bs ns (λ n slot e. shows (suc n) slot (omega (arith, e))))
 
-denying_first : (v : AbstractValue) (b s : Bool) (x : NumberedRule) (xs : List NumberedRule) → b ≡ (s && denies x.rule v)
-    → cond b (Some x.number) (first_denying xs v) ≡ first_denying (cond s (x ∷ xs) xs) v
-denying_first v b true x xs e = ap (λ c. cond c (Some x.number) (first_denying xs v)) e
-denying_first v b false x xs e = ap (λ c. cond c (Some x.number) (first_denying xs v)) e
+test_first : (test : AbstractRule → Bool) (b s : Bool) (x : NumberedRule) (xs : List NumberedRule) → b ≡ (s && test x.rule)
+    → cond b (Some x.number) (first_where test xs) ≡ first_where test (cond s (x ∷ xs) xs)
+test_first test b true x xs e = ap (λ c. cond c (Some x.number) (first_where test xs)) e
+test_first test b false x xs e = ap (λ c. cond c (Some x.number) (first_where test xs)) e
 
-first_speaking : (route : AbstractRoute) (v : AbstractValue) (i : ℕ) (rules : List AbstractRule)
-    → first_true (map (answers Deny route v) (rules_named route.message rules)) (numbers_for route.message i rules) ≡ first_denying (speaking route i rules) v
-first_speaking route v i [] = refl
-first_speaking route v i (r ∷ rs) =
-    let answer : AbstractRule → Bool = answers Deny route v in
-    let more = first_speaking route v (i + 1) rs in
+abbrev said_by : Effect → AbstractValue → AbstractRule → Bool
+said_by effect v r = has_effect effect r && is_member r.ty v
+
+first_speaking : (effect : Effect) (route : AbstractRoute) (v : AbstractValue) (i : ℕ) (rules : List AbstractRule)
+    → first_true (map (answers effect route v) (rules_named route.message rules)) (numbers_for route.message i rules) ≡ first_where (said_by effect v) (speaking route i rules)
+first_speaking effect route v i [] = refl
+first_speaking effect route v i (r ∷ rs) =
+    let answer : AbstractRule → Bool = answers effect route v in
+    let more = first_speaking effect route v (i + 1) rs in
     let x : NumberedRule = record { number = i; rule = r } in
     let xs = speaking route (i + 1) rs in
     let numbers = numbers_for route.message (i + 1) rs in
     (elim (bytes_eq r.message route.message) as (λ (b : Bool). bytes_eq r.message route.message ≡ b
-    → first_true (map answer (cond b (r ∷ rules_named route.message rs) (rules_named route.message rs))) (cond b (i ∷ numbers) numbers) ≡ first_denying (cond (speaks_of route r) (x ∷ xs) xs) v) [
+    → first_true (map answer (cond b (r ∷ rules_named route.message rs) (rules_named route.message rs))) (cond b (i ∷ numbers) numbers) ≡ first_where (said_by effect v) (cond (speaks_of route r) (x ∷ xs) xs)) [
       | true ↦ λ same.
           ap (λ o. cond (answer r) (Some i) o) more
-          ∙ denying_first v (answer r) (speaks_of route r) x xs
-          (grouped (is_meant r.from route.from && is_meant r.to route.to) (has_effect Deny r) (is_member r.ty v)
-          ∙ ap (λ s. s && denies r v) (sym (all_true (is_meant r.from route.from) (is_meant r.to route.to) (bytes_eq r.message route.message) same)))
-      | false ↦ λ other. more ∙ ap (λ b. first_denying (cond b (x ∷ xs) xs) v) (sym (speaks_not route r other))
+          ∙ test_first (said_by effect v) (answer r) (speaks_of route r) x xs
+          (grouped (is_meant r.from route.from && is_meant r.to route.to) (has_effect effect r) (is_member r.ty v)
+          ∙ ap (λ s. s && said_by effect v r) (sym (all_true (is_meant r.from route.from) (is_meant r.to route.to) (bytes_eq r.message route.message) same)))
+      | false ↦ λ other. more ∙ ap (λ b. first_where (said_by effect v) (cond b (x ∷ xs) xs)) (sym (speaks_not route r other))
     ]) refl
+
+as_many : (name : List ℕ) (i : ℕ) (rules : List AbstractRule) → length (numbers_for name i rules) ≡ length (rules_named name rules)
+as_many name i [] = refl
+as_many name i (r ∷ rs) =
+    elim (bytes_eq r.message name) as (λ (b : Bool). length (cond b (i ∷ numbers_for name (i + 1) rs) (numbers_for name (i + 1) rs))
+    ≡ length (cond b (r ∷ rules_named name rs) (rules_named name rs))) [
+      | true ↦ ap suc (as_many name (i + 1) rs)
+      | false ↦ as_many name (i + 1) rs
+    ]
 
 -- ---- the message goes
 
@@ -233,15 +245,23 @@ module _ (p : Kept) (policy : AbstractPolicy) (route : AbstractRoute) (octets : 
       all_not (says_of Deny v) (route_rules policy route)
       ∙ ap not (sym (said Deny) ∙ empty_any (map (answers Deny route v) named) (slots_of m.routing.denying) denied none_denies)
 
+  first_said : (effect : Effect) (own : Slots) → Says (map (answers effect route v) named) (slots_of own) → (numbers : List ℕ) → numbers ≡ numbers_for route.message 0 policy.rules
+      → first_in (slots_of own) 1 numbers ≡ first_where (said_by effect v) (route_rules policy route)
+  first_said effect own says numbers listed =
+      first_place (slots_of own) 1 (map (answers effect route v) named) numbers
+      (λ n slot e. let at : slot ≡ suc n = omega (arith, e) in ap (has (slots_of own)) at ∙ says.others n)
+      ∙ ap (λ (rules : List AbstractRule). first_true (map (answers effect route v) rules) numbers) (ap (λ (n : List ℕ). rules_named n (rules_kept p)) name)
+      ∙ ap (first_true (map (answers effect route v) (rules_named route.message (rules_kept p)))) (listed ∙ ap (numbers_for route.message 0) same_rules)
+      ∙ first_speaking effect route v 0 (rules_kept p)
+      ∙ ap (λ (rules : List AbstractRule). first_where (said_by effect v) (speaking route 0 rules)) (sym same_rules)
+
   first_denied : (numbers : List ℕ) → numbers ≡ numbers_for route.message 0 policy.rules
       → first_in (slots_of m.routing.denying) 1 numbers ≡ first_denying (route_rules policy route) v
-  first_denied numbers listed =
-      first_place (slots_of m.routing.denying) 1 (map (answers Deny route v) named) numbers
-      (λ n slot e. let at : slot ≡ suc n = omega (arith, e) in ap (has (slots_of m.routing.denying)) at ∙ denied.others n)
-      ∙ ap (λ (rules : List AbstractRule). first_true (map (answers Deny route v) rules) numbers) (ap (λ (n : List ℕ). rules_named n (rules_kept p)) name)
-      ∙ ap (first_true (map (answers Deny route v) (rules_named route.message (rules_kept p)))) (listed ∙ ap (numbers_for route.message 0) same_rules)
-      ∙ first_speaking route v 0 (rules_kept p)
-      ∙ ap (λ (rules : List AbstractRule). first_denying (speaking route 0 rules) v) (sym same_rules)
+  first_denied = first_said Deny m.routing.denying denied
+
+  first_allowed : (numbers : List ℕ) → numbers ≡ numbers_for route.message 0 policy.rules
+      → first_in (slots_of m.routing.allowing) 1 numbers ≡ first_allowing (route_rules policy route) v
+  first_allowed = first_said Allow m.routing.allowing allowed
 
   goes : Lets → Goes policy route octets
   goes (of_type, some, none_denies) = (
@@ -279,15 +299,29 @@ unallowing rules route m routed name empty_now =
 
 -- ---- as the code has it
 
+routed_there : (messages : List KeptMessage) (rules : List AbstractRule) (place : ℕ) (m : KeptMessage) → All (IsRouted rules) messages → slice_get messages place ≡ Some m
+    → IsRouted rules m
+routed_there messages rules place m routed there =
+    subst (IsRouted rules) (get_or_from_slice_get messages place m m there) (All-get_or (IsRouted rules) messages place m (slice_get_within messages place m there) routed)
+
 routed_first : (messages : List KeptMessage) (rules : List AbstractRule) (name : List ℕ) (m : KeptMessage) → All (IsRouted rules) messages → IsFirst name messages m
     → IsRouted rules m × (string_bytes m.name ≡ name)
 routed_first messages rules name m routed first =
     let named = first_named (map kept_message_view messages) (map kept_message_view messages) 0 first.place name refl first.first in
     let viewed : slice_get (map kept_message_view messages) first.place ≡ Some (kept_message_view m) = slice_get-map kept_message_view messages first.place ∙ ap (option_map kept_message_view) first.there in (
-      subst (IsRouted rules) (get_or_from_slice_get messages first.place m m first.there)
-          (All-get_or (IsRouted rules) messages first.place m (slice_get_within messages first.place m first.there) routed),
+      routed_there messages rules first.place m routed first.there,
       ap (λ (x : AbstractMessage). x.name) (same_Some _ _ (sym viewed ∙ named.1)) ∙ named.2,
     )
+
+few_routed : (rules : List AbstractRule) (m : KeptMessage) → IsRouted rules m → length m.numbers.items ≤ 255
+few_routed rules m routed =
+    let a : length m.numbers.items ≡ length (numbers_for (string_bytes m.name) 0 rules) = ap (λ (ns : List ℕ). length ns) routed.numbers in
+    let b = as_many (string_bytes m.name) 0 rules in
+    let few = routed.few in
+    omega (arith, a, b, few)
+
+pub few_there : (policy : Policy) (place : ℕ) (m : KeptMessage) → slice_get policy.kept.messages.items place ≡ Some m → length m.numbers.items ≤ 255
+few_there policy place m there = few_routed (rules_kept policy.kept) m (routed_there policy.kept.messages.items (rules_kept policy.kept) place m policy.kept.routed there)
 
 module _ (policy : Policy) (route : AbstractRoute) (octets numbers : List ℕ) (m : KeptMessage)
     (listed : ◌≡◌ {A = Option (AbstractType × List ℕ)} (Some (declared_of m.table, numbers))
@@ -329,10 +363,10 @@ module _ (policy : Policy) (route : AbstractRoute) (octets numbers : List ℕ) (
     marked = λ slot. has_marks slot ∙ same_types v slot;
   }
 
-  marks_in_table : (marks : Marks) → AreMarksOf (policy_view policy) route.message octets marks → AreMarks m.table octets marks
-  marks_in_table marks are =
+  in_table : (marks : Marks) (are : AreMarksOf (policy_view policy) route.message octets marks)
+      → IsTrue (fits (declared_of m.table) are.value) × (der (declared_of m.table) are.value ≡ Some octets) × HasMarks marks (table_types m.table) are.value
+  in_table marks are =
       let is : are.ty ≡ declared_of m.table = same_Some _ _ (sym are.declared ∙ declares) in (
-        are.value,
         subst (λ (t : AbstractType). IsTrue (fits t are.value)) is are.fitting,
         subst (λ (t : AbstractType). der t are.value ≡ Some octets) is are.encoded,
         λ slot.
@@ -341,15 +375,27 @@ module _ (policy : Policy) (route : AbstractRoute) (octets numbers : List ℕ) (
             ∙ sym (same_types are.value slot),
       )
 
-  pub tells : (rules : RouteRules) (answer : Passing) → rules ≡ rules_on m.routing route → IsAnswer m.table rules octets answer
-      → Tells (policy_view policy) route octets answer
-  tells rules passing.Goes are (marks, walked, lets) =
-      (by_marks marks walked).0 (subst (λ (r : RouteRules). LetsGo r marks.members) are lets)
-  tells rules (passing.Stopped (Some marks)) are (walked, stays) = (
-    λ goes. stays (subst (λ (r : RouteRules). LetsGo r marks.members) (sym are) ((by_marks marks walked).1 goes)),
-    marks_of marks walked,
-  )
-  tells rules (passing.Stopped None) are nothing = (λ goes. encoded goes nothing, tt)
+  marks_in_table : (marks : Marks) → AreMarksOf (policy_view policy) route.message octets marks → AreMarks m.table octets marks
+  marks_in_table marks are = let t = in_table marks are in (are.value, t.0, t.1, t.2)
+
+  numbered : numbers ≡ numbers_for route.message 0 (policy_view policy).rules
+  numbered = (declared_pair (policy_view policy).rules route.message (declared_type (policy_view policy) route.message) (declared_of m.table) numbers listed).1
+
+  own_numbers : m.numbers.items ≡ numbers_for route.message 0 (policy_view policy).rules
+  own_numbers = routed.0.numbers ∙ ap (λ (name : List ℕ). numbers_for name 0 (rules_kept policy.kept)) routed.1
+
+  pub few_numbers : length numbers ≤ 255
+  few_numbers =
+      let same : length numbers ≡ length m.numbers.items = ap (λ (ns : List ℕ). length ns) (numbered ∙ sym own_numbers) in
+      let few = few_routed (rules_kept policy.kept) m routed.0 in
+      omega (arith, same, few)
+
+  pub first_allows : (rules : RouteRules) (marks : Marks) → rules ≡ rules_on m.routing route → (are : AreMarksOf (policy_view policy) route.message octets marks)
+      → first_in (common rules.allowing marks.members) 1 numbers ≡ first_allowing (route_rules (policy_view policy) route) are.value
+  first_allows rules marks is are =
+      let (fitting, encoded, has_marks) = in_table marks are in
+      ap (λ (r : RouteRules). first_in (common r.allowing marks.members) 1 numbers) is
+      ∙ first_allowed policy.kept (policy_view policy) route octets m marks are.value refl refl declares routed.0 routed.1 fitting encoded has_marks numbers numbered
 
   -- where no allowing rule speaks of the route, none of its rules allows anything
   unallowed_by : (rules : RouteRules) → rules ≡ rules_on m.routing route → rules.allowing ≡ none
@@ -358,19 +404,19 @@ module _ (policy : Policy) (route : AbstractRoute) (octets numbers : List ℕ) (
       unallowing (rules_kept policy.kept) route m routed.0 routed.1 (ap (λ (r : RouteRules). r.allowing) (sym are) ∙ empty_now)
 
   -- so what the marks tell is the reason
-  told_by_them : (rules : RouteRules) (w : AbstractVerdict) (marks : Marks) → rules ≡ rules_on m.routing route → AreMarks m.table octets marks
-      → IsTrue (has marks.members 0) → IsToldBy rules numbers marks.members w → IsReason (policy_view policy) route octets w
-  told_by_them rules w marks are (v, fitting, encoded, has_marks) of_type told =
+  told_by_them : (own : List ℕ) → own ≡ numbers_for route.message 0 (policy_view policy).rules → (rules : RouteRules) (w : AbstractVerdict) (marks : Marks)
+      → rules ≡ rules_on m.routing route → AreMarks m.table octets marks
+      → IsTrue (has marks.members 0) → IsToldBy rules own marks.members w → IsReason (policy_view policy) route octets w
+  told_by_them own are_own rules w marks are (v, fitting, encoded, has_marks) of_type told =
       let is_in = inside policy.kept (policy_view policy) route octets m marks v refl refl declares routed.0 routed.1 fitting encoded has_marks of_type in
       let rs = route_rules (policy_view policy) route in
       let slots : common rules.denying marks.members ≡ common (rules_on m.routing route).denying marks.members = ap (λ (r : RouteRules). common r.denying marks.members) are in
-      let numbered = (declared_pair (policy_view policy).rules route.message (declared_type (policy_view policy) route.message) (declared_of m.table) numbers listed).1 in
       let judged_so : w ≡ judged (declared_of m.table) rs v = elim told [
         | inl d ↦
             d.2
             ∙ sym (judged_denied (declared_of m.table) rs v d.0 fitting is_in
-            (sym (first_denied policy.kept (policy_view policy) route octets m marks v refl refl declares routed.0 routed.1 fitting encoded has_marks numbers numbered)
-            ∙ ap (λ (k : Slots). first_in k 1 numbers) (sym slots) ∙ d.1))
+            (sym (first_denied policy.kept (policy_view policy) route octets m marks v refl refl declares routed.0 routed.1 fitting encoded has_marks own are_own)
+            ∙ ap (λ (k : Slots). first_in k 1 own) (sym slots) ∙ d.1))
         | inr n ↦
             n.2
             ∙ sym (judged_undenied (declared_of m.table) rs v fitting is_in
@@ -384,5 +430,27 @@ module _ (policy : Policy) (route : AbstractRoute) (octets numbers : List ℕ) (
   told_by_marks rules w None are known (marks, is, of_type, told) = absurd (let e = is in cc)
   told_by_marks rules w (Some found) are known (marks, is, of_type, told) =
       let same : found ≡ marks = same_Some _ _ is in
-      told_by_them rules w marks are
+      told_by_them numbers numbered rules w marks are
       (marks_in_table marks (subst (AreMarksOf (policy_view policy) route.message octets) same known)) of_type told
+
+  stays : (rules : RouteRules) (marks : Marks) → rules ≡ rules_on m.routing route → AreMarks m.table octets marks → (LetsGo rules marks.members → ⊥)
+      → Goes (policy_view policy) route octets → ⊥
+  stays rules marks are walked never goes_so = never (subst (λ (r : RouteRules). LetsGo r marks.members) (sym are) ((by_marks marks walked).1 goes_so))
+
+  pub tells : (rules : RouteRules) (answer : Passing) → rules ≡ rules_on m.routing route → IsAnswer m rules octets answer
+      → Tells (policy_view policy) route octets answer
+  tells rules (passing.Goes marks) are (walked, lets) = (
+    (by_marks marks walked).0 (subst (λ (r : RouteRules). LetsGo r marks.members) are lets),
+    marks_of marks walked,
+  )
+  tells rules (passing.Stopped (Some reason)) are (marks, walked, never, of_type, told) = (
+    stays rules marks are walked never,
+    told_by_them m.numbers.items own_numbers rules (reason_view reason) marks are walked of_type told,
+  )
+  tells rules (passing.Stopped None) are told = (
+    λ goes. elim told [
+      | inl nothing ↦ encoded goes nothing
+      | inr w ↦ stays rules w.0 are w.1 w.2 goes
+    ],
+    tt,
+  )

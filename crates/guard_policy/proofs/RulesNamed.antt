@@ -16,6 +16,7 @@ use Rattle.guard_policy.specs.declared.policy.SaidRule.{SaidRule}
 use Rattle.guard_policy.specs.Consistency.{types_for}
 use Rattle.guard_policy.specs.Policies.{AbstractRule}
 use Rattle.guard_policy.specs.SaidView.{said_view}
+use Rattle.guard_policy.specs.inside.Listings.{numbers_for}
 use Rattle.guard_policy.specs.inside.Said.{rules_view}
 use Rattle.guard_policy.specs.inside.Routing.{rules_named, IsRouting, IsRouted}
 
@@ -41,22 +42,30 @@ abbrev rest_of : List AbstractType → List AbstractType
 rest_of [] = []
 rest_of (t ∷ ts) = ts
 
--- as many as a table of their types has
-pub few_named : (rules : List AbstractRule) (name : List ℕ) (declared : AbstractType) (table : Table) (named : List (Bor SaidRule))
-    → table_types table ≡ declared ∷ types_for name rules → rules_view named ≡ rules_named name rules → length named ≤ 255
-few_named rules name declared table named types is =
+-- those of a table whose types are theirs
+few_of : (rules : List AbstractRule) (name : List ℕ) (declared : AbstractType) (table : Table) → table_types table ≡ declared ∷ types_for name rules
+    → length (rules_named name rules) ≤ 255
+few_of rules name declared table types =
     let few = few_rules (declared_of table) (rules_of table) table.consistent.faultless in
     let a : rules_of table ≡ map (λ r. r.ty) (rules_named name rules) = ap rest_of types ∙ sym (types_named name rules) in
     let b : length (rules_of table) ≡ length (rules_named name rules) = ap (λ (ts : List AbstractType). length ts) a ∙ length-map (rules_named name rules) (λ r. r.ty) in
+    omega (arith, few, b)
+
+pub few_named : (rules : List AbstractRule) (name : List ℕ) (declared : AbstractType) (table : Table) (named : List (Bor SaidRule))
+    → table_types table ≡ declared ∷ types_for name rules → rules_view named ≡ rules_named name rules → length named ≤ 255
+few_named rules name declared table named types is =
+    let few = few_of rules name declared table types in
     let c : length (rules_view named) ≡ length (rules_named name rules) = ap (λ (rs : List AbstractRule). length rs) is in
     let d : length (rules_view named) ≡ length named = length-map named (λ r. said_view r.now) in
-    omega (arith, few, b, c, d)
+    omega (arith, few, c, d)
 
 -- ---- a message with its table and routing
 
 pub routed_here : (rules : List AbstractRule) (name : List ℕ) (m : KeptMessage) (declared : AbstractType) → string_bytes m.name ≡ name
-    → table_types m.table ≡ declared ∷ types_for name rules → IsRouting (rules_named name rules) m.routing → IsRouted rules m
-routed_here rules name m declared named types routing = record {
+    → m.numbers.items ≡ numbers_for name 0 rules → table_types m.table ≡ declared ∷ types_for name rules → IsRouting (rules_named name rules) m.routing → IsRouted rules m
+routed_here rules name m declared named numbers types routing = record {
+  few = subst (λ (n : List ℕ). length (rules_named n rules) ≤ 255) (sym named) (few_of rules name declared m.table types);
+  numbers = numbers ∙ ap (λ (n : List ℕ). numbers_for n 0 rules) (sym named);
   types = λ v place. ap (λ (ts : List AbstractType). is_in (rest_of ts) v place) types ∙ ap (λ (n : List ℕ). is_in (types_for n rules) v place) (sym named);
   routing = subst (λ (n : List ℕ). IsRouting (rules_named n rules) m.routing) (sym named) routing;
 }

@@ -59,10 +59,18 @@ Goes p route octets =
     × IsTrue (list_any (λ r. allows r.rule v) (rules_of p route))
     × IsTrue (list_all (λ r. not (denies r.rule v)) (rules_of p route))
 
+-- the number of the first rule that passes a test
+abbrev pub first_where : (AbstractRule → Bool) → List NumberedRule → Option ℕ
+first_where test [] = None
+first_where test (r ∷ rs) = if test r.rule then Some r.number else first_where test rs
+
 -- the number of the first rule that denies the value
 abbrev pub first_denying : List NumberedRule → AbstractValue → Option ℕ
-first_denying [] v = None
-first_denying (r ∷ rs) v = if denies r.rule v then Some r.number else first_denying rs v
+first_denying rules v = first_where (λ r. denies r v) rules
+
+-- the number of the first rule that allows the value
+abbrev pub first_allowing : List NumberedRule → AbstractValue → Option ℕ
+first_allowing rules v = first_where (λ r. allows r v) rules
 
 -- each allowing rule with its first violation
 abbrev pub shortfalls : List NumberedRule → AbstractValue → List (ℕ × AbstractViolation)

@@ -4,6 +4,8 @@ use Rattle.guard_der.specs.Breach.{AbstractBreach}
 use Rattle.guard_der.specs.Views.{breach_view}
 use Rattle.guard_policy.specs.declared.verdict.Verdict.{Verdict}
 use Rattle.guard_policy.specs.declared.verdict.Verdict.TheVariants as verdict
+use Rattle.guard_policy.specs.declared.verdict.PlainReason.{PlainReason}
+use Rattle.guard_policy.specs.declared.verdict.PlainReason.TheVariants as plain
 use Rattle.guard_eval.specs.Violations.{AbstractViolation, violation_view, shortfall_view}
 
 pub data AbstractVerdict : Type 0 where
@@ -23,3 +25,8 @@ verdict_view (verdict.OutsideType w) = outside_type (violation_view w)
 verdict_view (verdict.DeniedBy i) = denied_by i
 verdict_view (verdict.NotAllowed rules) = not_allowed (map shortfall_view rules.items)
 verdict_view verdict.NoRule = no_rule
+
+abbrev pub reason_view : PlainReason → AbstractVerdict
+reason_view plain.UnknownMessage = unknown_message
+reason_view (plain.DeniedBy i) = denied_by i
+reason_view plain.NoRule = no_rule

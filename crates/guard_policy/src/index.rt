@@ -4,6 +4,7 @@ ghost use Rattle.guard_policy.specs.inside.Listings.{IsIndex, found_in, listed_v
 ghost use Rattle.guard_policy.specs.SaidView.{said_message_view, said_view};
 
 use super::policy::SaidRule;
+use super::route_octets::{NameOctets, OctetsOf};
 use super::said::SaidMessage;
 use indexmap::IndexMap;
 use std::alloc::{AllocError, Global};
@@ -20,7 +21,7 @@ pub(crate) struct Listed {
 /// What each name of a message leads to.
 #[derive(Drop)]
 pub(crate) struct Index {
-    listed: IndexMap<Vec<u8>, Listed>,
+    listed: IndexMap<NameOctets, Listed>,
 }
 
 impl Index {
@@ -35,9 +36,9 @@ impl Index {
         let mut listed = IndexMap::new(alloc);
         for (place, message) in messages.iter().enumerate() {
             let name = message.name.as_bytes();
-            if !listed.contains_key(name) {
+            if !listed.contains_key(OctetsOf { octets: name }) {
                 let rules = numbers_for(alloc, name, rules)?;
-                listed.insert(Vec::from_slice(alloc, name)?, Listed { place, rules })?;
+                listed.insert(NameOctets::of_name(alloc, name)?, Listed { place, rules })?;
             }
         }
         Ok(Index { listed })
@@ -47,12 +48,16 @@ impl Index {
     pub fn find(&self, name: &[u8]) -> Option<&Listed>
         ensures { option_map (λ listed. listed_view listed.now) result ≡ found_in self.now name.now }
     {
-        self.listed.get(name)
+        self.listed.get(OctetsOf { octets: name })
     }
 }
 
 /// The numbers of the rules that speak of the message of this name, in order.
-fn numbers_for(alloc: Global, name: &[u8], rules: &[SaidRule]) -> Result<Vec<usize>, AllocError>
+pub(crate) fn numbers_for(
+    alloc: Global,
+    name: &[u8],
+    rules: &[SaidRule],
+) -> Result<Vec<usize>, AllocError>
     ensures { IfOk result (λ numbers. numbers.items ≡ numbers_for name.now 0 (map said_view rules.now)) }
 {
     let mut numbers = Vec::new(alloc);

@@ -20,14 +20,15 @@ use guard_model::{OutOfMemory, Ty};
 use guard_tables::Table;
 use std::alloc::{AllocError, Global};
 
-/// A message, with the name of its declared type's module, the table of this type and those of its rules, and how
-/// routes lead to these.
+/// A message, with the name of its declared type's module, the table of this type and those of its rules, how routes
+/// lead to these, and the numbers of these rules.
 #[derive(Drop)]
 pub(crate) struct KeptMessage {
     pub name: String,
     pub home: String,
     pub table: Table,
     pub routing: Routing,
+    pub numbers: Vec<usize>,
 }
 
 /// Where the type of a rule is: in the table of the message at a place, at a place among its rules.

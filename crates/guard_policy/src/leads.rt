@@ -9,7 +9,7 @@ use super::index::Index;
 use super::kept::KeptMessage;
 use super::policy::SaidRule;
 use super::route::Route;
-use super::route_octets::{OctetsOf, RouteOctets};
+use super::route_octets::{NameOctets, OctetsOf};
 use super::routing::RouteRules;
 use indexmap::IndexMap;
 use std::alloc::{AllocError, Global};
@@ -27,7 +27,7 @@ pub(crate) struct Lead {
 /// octets of its names, each after its length.
 #[derive(Drop)]
 pub(crate) struct Leads {
-    routes: IndexMap<RouteOctets, Lead>,
+    routes: IndexMap<NameOctets, Lead>,
 }
 
 impl Leads {
@@ -44,7 +44,7 @@ impl Leads {
         for rule in rules {
             let route = rule.route();
             if let Some(lead) = lead_of(index, messages, &route) {
-                routes.insert(RouteOctets::of(alloc, &route)?, lead)?;
+                routes.insert(NameOctets::of(alloc, &route)?, lead)?;
             }
         }
         Ok(Leads { routes })

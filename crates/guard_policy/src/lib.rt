@@ -10,7 +10,8 @@
 //! | Which rules speak of a route? | `speaking.rt` | `specs/Decisions.antt` |
 //! | Which verdicts are there? | `verdict.rt` | `specs/Verdicts.antt` |
 //! | When does a message go? | `passing.rt` (`passes`) | `specs/Decisions.antt` |
-//! | What is told of one that stays? | `passing.rt` (`look_at`) | `specs/Told.antt` |
+//! | What is told of it, whether it goes or stays? | `passing.rt` (`look_at`) | `specs/Told.antt` |
+//! | Which rule let it go? | `passing.rt` (`allowing_rule`) | `specs/Decisions.antt` |
 //! | How does a route lead to its rules? | `routing.rt` | `specs/inside/Routing.antt` |
 //! | Which routes do rules give by names? | `leads.rt`, `route_octets.rt` | `specs/NamedRoutes.antt` |
 //! | Where is a route looked for first? | `last_route.rt`, `passing.rt` (`passes_as_last`) | `specs/NamedRoutes.antt` |
@@ -67,4 +68,4 @@ pub use passing::Passing;
 pub use policy::{Effect, Policy, SaidRule};
 pub use route::{Route, is_anyone, is_name};
 pub use said::SaidMessage;
-pub use verdict::Verdict;
+pub use verdict::{PlainReason, Verdict};

@@ -1,6 +1,6 @@
 //! Whether a message goes: one pass over its octets, without memory. What it costs grows neither with rules nor with
 //! messages nor with names.
-ghost use Rattle.std.specs.Prelude.{◌≡◌, ◌≢◌, ◌↔◌, IsTrue};
+ghost use Rattle.std.specs.Prelude.{◌≡◌, ◌≢◌, ◌↔◌, ◌≤◌, length, IsTrue};
 ghost use Rattle.guard_tables.specs.Slots.{none};
 ghost use Rattle.guard_policy.specs.inside.Passing.{IsAnswer};
 ghost use Rattle.guard_policy.specs.inside.Routing.{common};
@@ -8,19 +8,20 @@ ghost use Rattle.guard_policy.specs.inside.Routing.{common};
 use super::kept::KeptMessage;
 use super::last_route::LastRoute;
 use super::policy::Policy;
+use super::reason::{first_in, told_by};
 use super::route::Route;
-use super::routing::{RouteRules, meets};
+use super::routing::{RouteRules, common, meets};
+use super::verdict::PlainReason;
 use guard_reader::{Marks, walk};
 use guard_tables::Slots;
 
-/// Whether a message goes, and what the pass over its octets told of one that is stopped.
+/// Whether a message goes, and what the pass over its octets told of it.
 #[derive(Clone, Copy)]
 pub enum Passing {
-    /// The octets encode a value that some rule of the route allows and none denies.
-    Goes,
-    /// The message is stopped. Marks are told only where its octets encode a value of the declared type, and are that
-    /// value's.
-    Stopped(Option<Marks>),
+    /// The octets encode a value that some rule of the route allows and none denies, with the marks of this value.
+    Goes(Marks),
+    /// The message is stopped, for this reason; none is told where a value has to be made of the octets to find it.
+    Stopped(Option<PlainReason>),
 }
 
 impl Passing {
@@ -32,7 +33,7 @@ impl Passing {
         ensures { result ≡ is_going self }
     {
         match self {
-            Passing::Goes => true,
+            Passing::Goes(_) => true,
             Passing::Stopped(_) => false,
         }
     }
@@ -42,9 +43,9 @@ impl Policy {
     ghost use Rattle.std.specs.Prelude.{◌≡◌, ◌↔◌, ◌++◌, ℕ, List, IsTrue, IfSome, None};
     ghost use Rattle.guard_policy.specs.PolicyView.{policy_view, route_view};
     ghost use Rattle.guard_policy.specs.Policies.{AbstractRoute};
-    ghost use Rattle.guard_policy.specs.Decisions.{Goes};
+    ghost use Rattle.guard_policy.specs.Decisions.{Goes, rules_of, first_allowing};
     ghost use Rattle.guard_policy.specs.NamedRoutes.{IsGiven};
-    ghost use Rattle.guard_policy.specs.Told.{Tells};
+    ghost use Rattle.guard_policy.specs.Told.{AreMarksOf, Tells};
 
     /// Whether a message goes on its route: its octets are the encoding of a value of its declared type that some rule
     /// of the route allows and none denies. No memory is taken.
@@ -60,10 +61,23 @@ impl Policy {
         ensures { Tells (policy_view self.now) (route_view route.now) octets.now result }
     {
         let Some((message, _)) = self.found(route.message) else {
-            return Passing::Stopped(None);
+            return Passing::Stopped(Some(PlainReason::UnknownMessage));
         };
         let rules = message.routing.rules(route);
         told_by_walk(message, &rules, octets)
+    }
+
+    /// The number, from 0, of the first rule in file order that speaks of the route and allows the value of a message
+    /// whose marks these are; None where no rule does. So it tells which rule let a message go, by the marks that
+    /// `look_at` told with it. No memory is taken, and no pass is made over the message's octets.
+    pub fn allowing_rule(&self, route: &Route, marks: &Marks) -> Option<usize>
+        ensures { (octets : List ℕ)
+            (are : AreMarksOf (policy_view self.now) (route_view route.now).message octets marks.now)
+            → result ≡ first_allowing (rules_of (policy_view self.now) (route_view route.now)) are.value }
+    {
+        let (message, numbers) = self.found(route.message)?;
+        let rules = message.routing.rules(route);
+        first_in(&common(&rules.allowing, &marks.members), numbers)
     }
 
     /// Whether a message goes on the route that these octets are: three names, each after one octet with its length, as
@@ -117,17 +131,21 @@ impl Policy {
 }
 
 /// Whether the octets are the encoding of a value of the message's declared type that some of these rules allows and
-/// none denies; and the marks, where they are the encoding of another one.
+/// none denies; its marks where it is, and else the reason that marks tell. Condition: there are at most 255 rules.
 fn told_by_walk(message: &KeptMessage, rules: &RouteRules, octets: &[u8]) -> Passing
-    ensures { IsAnswer message.now.table rules.now octets.now result }
+    requires few { length message.now.numbers.items ≤ 255 }
+    ensures { IsAnswer message.now rules.now octets.now result }
 {
     let Some(marks) = walk(&message.table, octets) else {
         return Passing::Stopped(None);
     };
-    if marks.of_type() && lets_go(rules, &marks.members) {
-        return Passing::Goes;
+    if !marks.of_type() {
+        return Passing::Stopped(None);
     }
-    Passing::Stopped(Some(marks))
+    if lets_go(rules, &marks.members) {
+        return Passing::Goes(marks);
+    }
+    Passing::Stopped(told_by(rules, &message.numbers, &marks.members))
 }
 
 /// Whether some allowing rule and no denying one is among those that have the value.

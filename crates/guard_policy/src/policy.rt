@@ -206,8 +206,8 @@ impl Policy {
             ↔ Goes (policy_view self.now) (route_view route.now) octets.now) }
     {
         match self.look_at(route, octets) {
-            Passing::Goes => Ok(Verdict::Pass),
-            Passing::Stopped(marks) => self.reason(alloc, route, octets, marks),
+            Passing::Goes(_) => Ok(Verdict::Pass),
+            Passing::Stopped(told) => self.reason_as_told(alloc, route, octets, told),
         }
     }
 }

@@ -1,5 +1,5 @@
-//! The octets of a route's names, by which it is found. They are hashed all at once; a list of octets would be hashed
-//! one after another.
+//! The octets of names, by which a route, a message or a party is found. They are hashed all at once; a list of octets
+//! would be hashed one after another.
 ghost use Rattle.std.specs.Prelude.{◌≡◌, ◌++◌, ◌∷◌, [], List, ℕ, IfOk, IfSome, OnOk, IsTrue, bytes_eq};
 ghost use Rattle.std.specs.Cmp.Lexicographic.{nat_list_eq_equiv};
 ghost use Rattle.std.proofs.Common.{ap};
@@ -13,21 +13,21 @@ use indexmap::Equivalent;
 use std::alloc::{AllocError, Global};
 use std::hash::{Hash, Hasher};
 
-/// The three names of a route, each after its length.
+/// The three names of a route, each after its length, or one name.
 #[derive(Drop, PartialEq, Eq)]
-pub(crate) struct RouteOctets {
+pub(crate) struct NameOctets {
     octets: Vec<u8>,
 }
 
-/// Octets that may be those of a route.
+/// Octets that may be those of a route, or a name.
 #[derive(Clone, Copy, PartialEq, Eq)]
 pub(crate) struct OctetsOf<'a> {
     pub octets: &'a [u8],
 }
 
-impl RouteOctets {
+impl NameOctets {
     /// The octets of this route. Condition: all three are names.
-    pub fn of(alloc: Global, route: &Route) -> Result<RouteOctets, AllocError>
+    pub fn of(alloc: Global, route: &Route) -> Result<NameOctets, AllocError>
         requires { IsTrue (is_plain (route_view route.now)) }
         ensures { IfOk result (λ names. names.octets.items ≡ route_octets (route_view route.now)) }
     {
@@ -35,7 +35,16 @@ impl RouteOctets {
         push_name(&mut octets, route.from)?;
         push_name(&mut octets, route.to)?;
         push_name(&mut octets, route.message)?;
-        Ok(RouteOctets { octets })
+        Ok(NameOctets { octets })
+    }
+
+    /// The octets of one name.
+    pub fn of_name(alloc: Global, name: &[u8]) -> Result<NameOctets, AllocError>
+        ensures { IfOk result (λ key. key.octets.items ≡ name.now) }
+    {
+        Ok(NameOctets {
+            octets: Vec::from_slice(alloc, name)?,
+        })
     }
 
     /// What comes after these octets, if the others begin with them; else None.
@@ -46,7 +55,7 @@ impl RouteOctets {
     }
 }
 
-impl Hash for RouteOctets {
+impl Hash for NameOctets {
     ghost hash_input = { λ names. names.octets.items ∷ [] };
 
     ghost respects_eq = { λ x y same. ap (λ (octets : List ℕ). octets ∷ [])
@@ -68,7 +77,7 @@ impl Hash for OctetsOf<'_> {
     }
 }
 
-impl Equivalent<RouteOctets> for OctetsOf<'_> {
+impl Equivalent<NameOctets> for OctetsOf<'_> {
     ghost equivalent = { λ names key. bytes_eq names.octets.now key.octets.items };
 
     ghost respects_hash = { λ names key same. ap (λ (octets : List ℕ). octets ∷ [])
@@ -76,7 +85,7 @@ impl Equivalent<RouteOctets> for OctetsOf<'_> {
 
     ghost respects_eq = { λ names x y. nat_list_eq_equiv.congr names.octets.now x.octets.items y.octets.items };
 
-    fn equivalent(&self, key: &RouteOctets) -> bool {
+    fn equivalent(&self, key: &NameOctets) -> bool {
         self.octets == key.octets.as_slice()
     }
 }

@@ -10,6 +10,7 @@ ghost use Rattle.guard_policy.specs.inside.Said.{rules_view};
 
 use super::policy::{Effect, SaidRule};
 use super::route::{ANYONE, Route};
+use super::route_octets::{NameOctets, OctetsOf};
 use super::speaking::is_meant;
 use guard_tables::Slots;
 use indexmap::IndexMap;
@@ -26,7 +27,7 @@ pub(crate) enum Side {
 /// set.
 #[derive(Drop)]
 pub(crate) struct Parties {
-    named: IndexMap<Vec<u8>, Slots>,
+    named: IndexMap<NameOctets, Slots>,
     /// The rules for those parties that no rule names.
     others: Slots,
 }
@@ -57,7 +58,7 @@ impl Parties {
         for rule in rules {
             let name = given_by(side, rule).as_bytes();
             let slots = meant(side, name, rules);
-            named.insert(Vec::from_slice(alloc, name)?, slots)?;
+            named.insert(NameOctets::of_name(alloc, name)?, slots)?;
         }
         Ok(Parties {
             named,
@@ -69,7 +70,7 @@ impl Parties {
     fn rules(&self, name: &[u8]) -> Slots
         ensures { result ≡ slots_for self.now name.now }
     {
-        match self.named.get(name) {
+        match self.named.get(OctetsOf { octets: name }) {
             Some(slots) => *slots,
             None => self.others,
         }

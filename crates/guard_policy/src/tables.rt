@@ -14,6 +14,7 @@ ghost use Rattle.guard_policy.specs.inside.Said.{rules_view};
 ghost use Rattle.guard_policy.specs.PolicyFaults.{bad_table};
 
 use super::fault::PolicyFault;
+use super::index::numbers_for;
 use super::kept::KeptMessage;
 use super::policy::SaidRule;
 use super::routing::Routing;
@@ -68,7 +69,8 @@ fn keep_message(
     }
 }
 
-/// The message with this table, which is that of its type and those of its rules, and with the routing of these.
+/// The message with this table, which is that of its type and those of its rules, and with the routing and the numbers
+/// of these.
 fn keep_table(
     alloc: Global,
     message: &SaidMessage,
@@ -85,11 +87,13 @@ fn keep_table(
     let routing = Routing::of(alloc, &named)?;
     let name = String::from_str(alloc, message.name)?;
     let home = String::from_str(alloc, message.home)?;
+    let numbers = numbers_for(alloc, message.name.as_bytes(), rules)?;
     Ok(KeptMessage {
         name,
         home,
         table,
         routing,
+        numbers,
     })
 }
 

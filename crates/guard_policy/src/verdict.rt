@@ -1,4 +1,7 @@
 //! What becomes of a message, and why.
+ghost use Rattle.std.specs.Prelude.{◌≡◌};
+ghost use Rattle.guard_policy.specs.Verdicts.{verdict_view, reason_view};
+
 use guard_der::Breach;
 use guard_eval::Violation;
 
@@ -20,4 +23,28 @@ pub enum Verdict {
     NotAllowed(Vec<(usize, Violation)>),
     /// The route has no allowing rule.
     NoRule,
+}
+
+/// A reason for which a message stays that names no part of its value: the verdicts that are found without making one.
+#[derive(Clone, Copy, Debug, PartialEq, Eq)]
+pub enum PlainReason {
+    /// The policy declares no message of this name.
+    UnknownMessage,
+    /// This denying rule has the value; it is the first one of the route.
+    DeniedBy(usize),
+    /// The route has no allowing rule.
+    NoRule,
+}
+
+impl PlainReason {
+    /// The verdict with this reason.
+    pub fn verdict(self) -> Verdict
+        ensures { verdict_view result ≡ reason_view self }
+    {
+        match self {
+            PlainReason::UnknownMessage => Verdict::UnknownMessage,
+            PlainReason::DeniedBy(rule) => Verdict::DeniedBy(rule),
+            PlainReason::NoRule => Verdict::NoRule,
+        }
+    }
 }

@@ -33,7 +33,7 @@ abbrev pub listed_view : Listed → AbstractListed
 listed_view l = record { place = l.place; numbers = l.rules.items }
 
 abbrev pub found_in : Index → List ℕ → Option AbstractListed
-found_in index name = option_map listed_view (lookup (λ key. bytes_eq name key.items) index.listed.entries)
+found_in index name = option_map listed_view (lookup (λ key. bytes_eq name key.octets.items) index.listed.entries)
 
 abbrev pub IsIndex : List AbstractMessage → List AbstractRule → Index → Type 0
 IsIndex messages rules index = (name : List ℕ) → found_in index name ≡ listing messages rules name

@@ -9,10 +9,11 @@ use Rattle.guard_tables.specs.declared.slots.Slots.{Slots}
 use Rattle.guard_tables.specs.declared.table.Table.{Table}
 use Rattle.guard_tables.specs.Slots.{none, has}
 use Rattle.guard_tables.specs.TableView.{declared_of, table_types}
+use Rattle.guard_policy.specs.declared.kept.KeptMessage.{KeptMessage}
 use Rattle.guard_policy.specs.declared.passing.Passing.{Passing}
 use Rattle.guard_policy.specs.declared.passing.Passing.TheVariants as passing
 use Rattle.guard_policy.specs.declared.routing.RouteRules.{RouteRules}
-use Rattle.guard_policy.specs.Verdicts.{AbstractVerdict, denied_by, no_rule}
+use Rattle.guard_policy.specs.Verdicts.{AbstractVerdict, reason_view, denied_by, no_rule}
 use Rattle.guard_policy.specs.inside.Routing.{common}
 
 -- Of a value that the types in these slots have: the declared type has it, some allowing rule has and no denying one.
@@ -31,13 +32,6 @@ abbrev pub EncodeNothing : Table → List ℕ → Type 0
 EncodeNothing table octets =
     (v : AbstractValue) → IsTrue (fits (declared_of table) v) → der (declared_of table) v ≡ Some octets → ⊥
 
--- what is told of the octets under these rules
-abbrev pub IsAnswer : Table → RouteRules → List ℕ → Passing → Type 0
-IsAnswer table rules octets passing.Goes = (marks : Marks) × AreMarks table octets marks × LetsGo rules marks.members
-IsAnswer table rules octets (passing.Stopped (Some marks)) =
-    AreMarks table octets marks × (LetsGo rules marks.members → ⊥)
-IsAnswer table rules octets (passing.Stopped None) = EncodeNothing table octets
-
 -- of the rules of these numbers, the first of which has this slot, the first whose slot is in the set
 abbrev pub first_in : Slots → ℕ → List ℕ → Option ℕ
 first_in m slot [] = None
@@ -54,3 +48,13 @@ IsToldBy rules numbers members w =
 abbrev pub IsMarked : RouteRules → List ℕ → Option Marks → AbstractVerdict → Type 0
 IsMarked rules numbers told w =
     (marks : Marks) × (told ≡ Some marks) × IsTrue (has marks.members 0) × IsToldBy rules numbers marks.members w
+
+-- what is told of the octets of the message under these rules
+abbrev pub IsAnswer : KeptMessage → RouteRules → List ℕ → Passing → Type 0
+IsAnswer m rules octets (passing.Goes marks) = AreMarks m.table octets marks × LetsGo rules marks.members
+IsAnswer m rules octets (passing.Stopped (Some reason)) =
+    (marks : Marks) × AreMarks m.table octets marks × (LetsGo rules marks.members → ⊥)
+    × IsTrue (has marks.members 0) × IsToldBy rules m.numbers.items marks.members (reason_view reason)
+IsAnswer m rules octets (passing.Stopped None) =
+    EncodeNothing m.table octets
+    ⊎ ((marks : Marks) × AreMarks m.table octets marks × (LetsGo rules marks.members → ⊥))

@@ -1,6 +1,6 @@
 -- Which rules of a message speak of a route, as sets of the slots that their types have in the message's table. The
 -- first rule has slot 1, since slot 0 is that of the declared type.
-use Rattle.std.specs.Prelude.{◌≡◌, ℕ, suc, Bool, not, List, [], ◌∷◌, map, bytes_eq, string_bytes, unwrap_or, if◌then◌else◌}
+use Rattle.std.specs.Prelude.{◌≡◌, ◌≤◌, ℕ, suc, Bool, not, List, [], ◌∷◌, length, map, bytes_eq, string_bytes, unwrap_or, if◌then◌else◌}
 use Rattle.std.specs.Map.{lookup}
 use Rattle.guard_model.specs.AbstractValue.{AbstractValue}
 use Rattle.guard_reader.specs.Marking.{is_in}
@@ -19,6 +19,7 @@ use Rattle.guard_policy.specs.Consistency.{types_for}
 use Rattle.guard_policy.specs.Decisions.{is_allowing}
 use Rattle.guard_policy.specs.Names.{is_meant}
 use Rattle.guard_policy.specs.Policies.{AbstractRule, AbstractRoute}
+use Rattle.guard_policy.specs.inside.Listings.{numbers_for}
 
 -- the rules that speak of the message of this name, in order
 abbrev pub rules_named : List ℕ → List AbstractRule → List AbstractRule
@@ -53,7 +54,7 @@ slots_meant side name rules = slots_where (λ r. is_meant (given_by side r) name
 
 -- what a look-up of a name finds
 abbrev pub slots_for : Parties → List ℕ → Slots
-slots_for parties name = unwrap_or (lookup (λ key. bytes_eq name key.items) parties.named.entries) parties.others
+slots_for parties name = unwrap_or (lookup (λ key. bytes_eq name key.octets.items) parties.named.entries) parties.others
 
 abbrev pub AreParties : Side → List AbstractRule → Parties → Type 0
 AreParties side rules parties = (name : List ℕ) → slots_for parties name ≡ slots_meant side name rules
@@ -82,9 +83,11 @@ route_rules r route = record {
   denying = common (speaking_slots r route) r.denying;
 }
 
--- Each type of its table but the declared one has the values that the type of the rule at its place has, and its
--- routing leads to the rules.
+-- No more than 255 rules speak of the message, which has their numbers. Each type of its table but the declared one has
+-- the values that the type of the rule at its place has, and its routing leads to the rules.
 pub record IsRouted (rules : List AbstractRule) (m : KeptMessage) : Type 0 where
+  pub few : length (rules_named (string_bytes m.name) rules) ≤ 255
+  pub numbers : m.numbers.items ≡ numbers_for (string_bytes m.name) 0 rules
   pub types : (v : AbstractValue) (place : ℕ)
       → is_in (rules_of m.table) v place ≡ is_in (types_for (string_bytes m.name) rules) v place
   pub routing : IsRouting (rules_named (string_bytes m.name) rules) m.routing

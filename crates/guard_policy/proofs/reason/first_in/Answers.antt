@@ -1,4 +1,5 @@
 use Rattle.std.proofs.Common.{◌≡◌, ℕ, suc, ◌+◌, ◌<◌, List, ◌∷◌, Bool, true, false, cond, Some, length, get_or, drop, drop-cons, add-one, ap, sym, ◌∙◌}
+use Rattle.std.proofs.lemmas.List.{drop_all}
 use Rattle.guard_tables.specs.declared.slots.Slots.{Slots}
 use Rattle.guard_tables.specs.Slots.{has}
 use Rattle.guard_policy.specs.inside.Passing.{first_in}
@@ -16,8 +17,13 @@ one_looked_at m numbers place b lt is =
 
 pub returns-then-has : goal.returns-then-has
 returns-then-has c =
-    sym c.loop-place.invariant
-    ∙ one_looked_at c.args.slots.now c.args.numbers.now c.loop-place.place true c.loop-place-test.true (sym c.has.ensures ∙ c.if-has.true)
+    sym (one_looked_at c.args.slots.now c.args.numbers.now c.loop-place.place true c.loop-place-test.true (sym c.has.ensures ∙ c.if-has.true))
+    ∙ c.loop-place.invariant
+
+pub returns : goal.returns
+returns c =
+    sym (ap (first_in c.args.slots.now (c.loop-place.place + 1)) (drop_all c.loop-place.place c.args.numbers.now c.loop-place-test.false))
+    ∙ c.loop-place.invariant
 
 pub loop-place-preserved : goal.loop-place-preserved
 loop-place-preserved c =

@@ -7,4 +7,4 @@ use Rattle.guard_policy.proofs.index.Index.of.Given as goal
 
 abbrev pub invariant-loop-place : goal.invariant-loop-place
 invariant-loop-place l =
-    (name : List ℕ) → option_map listed_view (lookup (λ key. bytes_eq name key.items) l.listed.entries) ≡ listing (map said_message_view (take l.place l.messages)) (map said_view l.rules) name
+    (name : List ℕ) → option_map listed_view (lookup (λ key. bytes_eq name key.octets.items) l.listed.entries) ≡ listing (map said_message_view (take l.place l.messages)) (map said_view l.rules) name

@@ -1,11 +1,12 @@
 -- What a run leaves in its link where that is closed.
 use Rattle.std.proofs.Common.{◌≡◌, ◌<◌, ◌+◌, ◌⊎◌, inl, inr, ap, sym, refl, subst, ℕ, Bool, true, List, ◌∙◌, length}
-use Rattle.std.specs.Prelude.{Result, Ok, Err}
+use Rattle.std.specs.Prelude.{Option, Result, Ok, Err}
 use Rattle.guard_frames.specs.declared.totals.Totals.{Totals}
 use Rattle.guard_frames.specs.declared.running.RunFault.{RunFault}
 use Rattle.guard_frames.specs.declared.running.RunFault.TheVariants as run
 use Rattle.guard_frames.specs.declared.link.Closing.{Closing}
 use Rattle.guard_frames.specs.declared.link.Closing.TheVariants.{FrameTooLong, OutFailed, ReportsFailed, TornFrame}
+use Rattle.guard_frames.specs.Bodies.{AbstractBody}
 use Rattle.guard_frames.specs.Frames.{IsTooLong, ConsistsOf}
 use Rattle.guard_frames.specs.LinkView.{AbstractLink}
 use Rattle.guard_frames.specs.Totals.{no_frames}
@@ -42,18 +43,18 @@ leaves_closed d l read held ReportsFailed a Ended o r soon h left failed = (h, i
 leaves_closed d l read held (TornFrame count) a Ended o r soon h left failed = absurd h
 
 -- what a watch was told then
-pub watched_closed : {W : Type 0} (Gives : Reason → List ℕ → Type 0) (notes : W → Told → W → Type 0) (d : Decision) (old last new : W)
-    (closing : Closing) (read : List ℕ) (front back : Added) (o r : Bool) → HasFailed closing o r → Watched d Gives notes old read front last →
-    NotedBy (Err closing) (λ z. Noted Gives notes last z new) back → IsWatched (Err (run_fault closing))
-    (Watched d Gives notes old read (joined front back) new) (WatchedInPart (r ≡ true) d Gives notes old read (joined front back) new)
-watched_closed {W} Gives notes d old last new (FrameTooLong size) read front back o r failed p h =
-    watched_on W Gives notes d old last new read front back p h
-watched_closed {W} Gives notes d old last new OutFailed read front back o r failed p h =
+pub watched_closed : {W : Type 0} (Gives : Reason → List ℕ → Type 0) (Lets : AbstractBody → Option ℕ → Type 0) (notes : W → Told → W → Type 0) (d : Decision) (old last new : W)
+    (closing : Closing) (read : List ℕ) (front back : Added) (o r : Bool) → HasFailed closing o r → Watched d Gives Lets notes old read front last →
+    NotedBy (Err closing) (λ z. Noted Gives Lets notes last z new) back → IsWatched (Err (run_fault closing))
+    (Watched d Gives Lets notes old read (joined front back) new) (WatchedInPart (r ≡ true) d Gives Lets notes old read (joined front back) new)
+watched_closed {W} Gives Lets notes d old last new (FrameTooLong size) read front back o r failed p h =
+    watched_on W Gives Lets notes d old last new read front back p h
+watched_closed {W} Gives Lets notes d old last new OutFailed read front back o r failed p h =
     record { front = front; back = back; split = refl; last = last; before = p; told = sent_more back h.0; ahead = h.1; known = inr (h.0, refl) }
-watched_closed {W} Gives notes d old last new ReportsFailed read front back o r failed p h =
+watched_closed {W} Gives Lets notes d old last new ReportsFailed read front back o r failed p h =
     record { front = front; back = back; split = refl; last = last; before = p; told = h.0; ahead = h.1; known = inl failed }
-watched_closed {W} Gives notes d old last new (TornFrame count) read front back o r failed p h =
-    watched_on W Gives notes d old last new read front back p h
+watched_closed {W} Gives Lets notes d old last new (TornFrame count) read front back o r failed p h =
+    watched_on W Gives Lets notes d old last new read front back p h
 
 pub write_failed : (closing : Closing) (o r : Bool) → HasFailed closing o r
     → ◌≡◌ {A = Result (Unit {0}) RunFault} (Err (run_fault closing)) (Err run.WriteFailed) → (o ≡ true) ⊎ (r ≡ true)

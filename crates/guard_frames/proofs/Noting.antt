@@ -1,6 +1,6 @@
 -- What a watch is told, part by part.
-use Rattle.std.proofs.Common.{◌≡◌, ℕ, List, [], ◌∷◌, ◌++◌, ◌∙◌, ap, sym, refl, subst, length, append_assoc}
-use Rattle.std.specs.Prelude.{Result, Ok, Err}
+use Rattle.std.proofs.Common.{◌≡◌, ℕ, List, [], ◌∷◌, ◌++◌, ◌∙◌, ap, sym, refl, subst, drop, length, append_assoc}
+use Rattle.std.specs.Prelude.{Option, Result, Ok, Err}
 use Rattle.std.proofs.lemmas.List.{append-nil}
 use Rattle.guard_frames.specs.declared.totals.Totals.{Totals}
 use Rattle.guard_frames.specs.declared.why.Reason.{Reason}
@@ -11,9 +11,10 @@ use Rattle.guard_frames.specs.declared.link.Closing.{Closing}
 use Rattle.guard_frames.specs.declared.link.Closing.TheVariants.{FrameTooLong, OutFailed, ReportsFailed, TornFrame}
 use Rattle.guard_frames.specs.inside.Closing.{NotedBy}
 use Rattle.guard_frames.specs.Added.{Added, nothing, joined, sent_more, reported_more}
+use Rattle.guard_frames.specs.Bodies.{AbstractBody}
 use Rattle.guard_frames.specs.Frames.{IsFrame}
 use Rattle.guard_frames.specs.inside.Judged.{report_line, why_of, ReportGives}
-use Rattle.guard_frames.specs.Outcomes.{Decision}
+use Rattle.guard_frames.specs.Outcomes.{Decision, GoesBy}
 use Rattle.guard_frames.specs.Reasons.{Says, Told, IsPaused, Tells, IsTold, Noted}
 use Rattle.guard_frames.specs.Reasons.Told.{pauses, reads, goes, stays}
 use Rattle.guard_frames.specs.Leaving.{AllDecided, Watched}
@@ -41,81 +42,82 @@ abbrev Never : List ℕ → Added → Totals → Type 0
 Never read front t = ⊥
 
 -- no piece came where there was no pause
-none_read : (Gives : Reason → List ℕ → Type 0) (told : List Told) (read : List ℕ) (a : Added) → IsPaused told → Tells Never Gives told read a → ⊥
-none_read Gives [] read a p h = p
-none_read Gives (pauses t ∷ told) read a p h = h.0
-none_read Gives (reads n ∷ told) read a p h = p
-none_read Gives (goes n ∷ told) read a p h = p
-none_read Gives (stays why ∷ told) read a p h = p
+none_read : (Gives : Reason → List ℕ → Type 0) (Lets : AbstractBody → Option ℕ → Type 0) (told : List Told) (read : List ℕ) (a : Added) → IsPaused told → Tells Never Gives Lets told read a → ⊥
+none_read Gives Lets [] read a p h = p
+none_read Gives Lets (pauses t ∷ told) read a p h = h.0
+none_read Gives Lets (reads n ∷ told) read a p h = p
+none_read Gives Lets (goes n rule ∷ told) read a p h = p
+none_read Gives Lets (stays why ∷ told) read a p h = p
 
-tells_on : (At : List ℕ → Added → Totals → Type 0) (Gives : Reason → List ℕ → Type 0) (xs ys : List Told) (read : List ℕ) (a b : Added) →
-    Tells At Gives xs read a → Tells Never Gives ys [] b → Tells At Gives (ys ++ xs) read (joined a b)
-tells_on At Gives xs [] read a b h k =
-    subst (Tells At Gives xs read) (sym (ap (joined a) k.1 ∙ joined_nothing a)) h
-tells_on At Gives xs (pauses t ∷ ys) read a b h k = absurd k.0
-tells_on At Gives xs (reads n ∷ ys) read a b h (first, piece, e, size, paused, k) = absurd (none_read Gives ys first b paused k)
-tells_on At Gives xs (goes n ∷ ys) read a b h (first, frame, e, is, size, k) =
-    (joined a first, frame, ap (joined a) e ∙ joined_sent a first frame, is, size, tells_on At Gives xs ys read a first h k)
-tells_on At Gives xs (stays why ∷ ys) read a b h (first, line, e, says, k) =
-    (joined a first, line, ap (joined a) e ∙ joined_reported a first line, says, tells_on At Gives xs ys read a first h k)
+tells_on : (At : List ℕ → Added → Totals → Type 0) (Gives : Reason → List ℕ → Type 0) (Lets : AbstractBody → Option ℕ → Type 0) (xs ys : List Told) (read : List ℕ) (a b : Added) →
+    Tells At Gives Lets xs read a → Tells Never Gives Lets ys [] b → Tells At Gives Lets (ys ++ xs) read (joined a b)
+tells_on At Gives Lets xs [] read a b h k =
+    subst (Tells At Gives Lets xs read) (sym (ap (joined a) k.1 ∙ joined_nothing a)) h
+tells_on At Gives Lets xs (pauses t ∷ ys) read a b h k = absurd k.0
+tells_on At Gives Lets xs (reads n ∷ ys) read a b h (first, piece, e, size, paused, k) = absurd (none_read Gives Lets ys first b paused k)
+tells_on At Gives Lets xs (goes n rule ∷ ys) read a b h (first, frame, e, is, size, by, k) =
+    (joined a first, frame, ap (joined a) e ∙ joined_sent a first frame, is, size, by, tells_on At Gives Lets xs ys read a first h k)
+tells_on At Gives Lets xs (stays why ∷ ys) read a b h (first, line, e, says, k) =
+    (joined a first, line, ap (joined a) e ∙ joined_reported a first line, says, tells_on At Gives Lets xs ys read a first h k)
 
 module _ (W : Type 0) (notes : W → Told → W → Type 0) where
   is_told_on : (a b c : W) (xs ys : List Told) → IsTold notes a xs b → IsTold notes b ys c → IsTold notes a (ys ++ xs) c
   is_told_on a b c xs [] h k = subst (IsTold notes a xs) (sym k) h
   is_told_on a b c xs (y ∷ ys) h (last, k, noted) = (last, is_told_on a b last xs ys h k, noted)
 
-module _ (W : Type 0) (Gives : Reason → List ℕ → Type 0) (notes : W → Told → W → Type 0) where
-  pub noted_none : (a : W) → Noted Gives notes a nothing a
+module _ (W : Type 0) (Gives : Reason → List ℕ → Type 0) (Lets : AbstractBody → Option ℕ → Type 0) (notes : W → Told → W → Type 0) where
+  pub noted_none : (a : W) → Noted Gives Lets notes a nothing a
   noted_none a = ([], (refl, refl), refl)
 
-  pub noted_same : (a b : W) → b ≡ a → Noted Gives notes a nothing b
-  noted_same a b e = subst (λ (w : W). Noted Gives notes a nothing w) (sym e) (noted_none a)
+  pub noted_same : (a b : W) → b ≡ a → Noted Gives Lets notes a nothing b
+  noted_same a b e = subst (λ (w : W). Noted Gives Lets notes a nothing w) (sym e) (noted_none a)
 
-  pub noted_on : (a b c : W) (x y : Added) → Noted Gives notes a x b → Noted Gives notes b y c → Noted Gives notes a (joined x y) c
+  pub noted_on : (a b c : W) (x y : Added) → Noted Gives Lets notes a x b → Noted Gives Lets notes b y c → Noted Gives Lets notes a (joined x y) c
   noted_on a b c x y p q =
-      (q.0 ++ p.0, tells_on Never Gives p.0 q.0 [] x y p.1 q.1, is_told_on W notes a b c p.0 q.0 p.2 q.2)
+      (q.0 ++ p.0, tells_on Never Gives Lets p.0 q.0 [] x y p.1 q.1, is_told_on W notes a b c p.0 q.0 p.2 q.2)
 
   -- one more frame goes
-  pub noted_going : (a b c : W) (n : ℕ) (x : Added) (frame : List ℕ) → Noted Gives notes a x b → IsFrame frame → n ≡ length frame → notes b (goes n) c
-      → Noted Gives notes a (sent_more x frame) c
-  noted_going a b c n x frame p is size noted = (goes n ∷ p.0, (x, frame, refl, is, size, p.1), (b, p.2, noted))
+  pub noted_going : (a b c : W) (x : Added) (frame body : List ℕ) → Noted Gives Lets notes a x b → IsFrame frame → body ≡ drop 4 frame
+      → ((rule : Option ℕ) × GoesBy Lets body rule × notes b (goes (length frame) rule) c) → Noted Gives Lets notes a (sent_more x frame) c
+  noted_going a b c x frame body p is same (rule, by, noted) =
+      (goes (length frame) rule ∷ p.0, (x, frame, refl, is, refl, subst (λ (s : List ℕ). GoesBy Lets s rule) same by, p.1), (b, p.2, noted))
 
   -- one more stays
-  pub noted_staying : (a b c : W) (n : ℕ) (r : Report) (x : Added) (line : List ℕ) → Noted Gives notes a x b → line ≡ report_line n r → ReportGives Gives r
-      → notes b (stays (why_of r)) c → Noted Gives notes a (reported_more x line) c
+  pub noted_staying : (a b c : W) (n : ℕ) (r : Report) (x : Added) (line : List ℕ) → Noted Gives Lets notes a x b → line ≡ report_line n r → ReportGives Gives r
+      → notes b (stays (why_of r)) c → Noted Gives Lets notes a (reported_more x line) c
   noted_staying a b c n r x line p is gives noted =
       let says : Says Gives (why_of r) line = subst (Says Gives (why_of r)) (sym is) (says_why Gives n r gives) in
       (stays (why_of r) ∷ p.0, (x, line, refl, says, p.1), (b, p.2, noted))
 
   -- what a piece adds, after what was added before it
-  pub noted_by_on : (result : Result (Unit {0}) Closing) (a b c : W) (x y : Added) → Noted Gives notes a x b →
-      NotedBy result (λ z. Noted Gives notes b z c) y → NotedBy result (λ z. Noted Gives notes a z c) (joined x y)
+  pub noted_by_on : (result : Result (Unit {0}) Closing) (a b c : W) (x y : Added) → Noted Gives Lets notes a x b →
+      NotedBy result (λ z. Noted Gives Lets notes b z c) y → NotedBy result (λ z. Noted Gives Lets notes a z c) (joined x y)
   noted_by_on (Ok done) a b c x y p q = noted_on a b c x y p q
   noted_by_on (Err (FrameTooLong size)) a b c x y p q = noted_on a b c x y p q
   noted_by_on (Err OutFailed) a b c x y p q =
-      (q.0, subst (λ (z : Added). Noted Gives notes a z c) (joined_sent x y q.0) (noted_on a b c x (sent_more y q.0) p q.1))
+      (q.0, subst (λ (z : Added). Noted Gives Lets notes a z c) (joined_sent x y q.0) (noted_on a b c x (sent_more y q.0) p q.1))
   noted_by_on (Err ReportsFailed) a b c x y p q = (joined x q.0, noted_on a b c x q.0 p q.1)
   noted_by_on (Err (TornFrame count)) a b c x y p q = noted_on a b c x y p q
 
   -- ---- a run
 
-  pub watched_none : (d : Decision) (a : W) → Watched d Gives notes a [] nothing a
+  pub watched_none : (d : Decision) (a : W) → Watched d Gives Lets notes a [] nothing a
   watched_none d a = ([], (refl, refl), refl)
 
-  pub watched_pause : (d : Decision) (a b c : W) (t : Totals) (read : List ℕ) (x : Added) → Watched d Gives notes a read x b → AllDecided d read x t →
-      notes b (pauses t) c → Watched d Gives notes a read x c
+  pub watched_pause : (d : Decision) (a b c : W) (t : Totals) (read : List ℕ) (x : Added) → Watched d Gives Lets notes a read x b → AllDecided d read x t →
+      notes b (pauses t) c → Watched d Gives Lets notes a read x c
   watched_pause d a b c t read x p decided noted = (pauses t ∷ p.0, (decided, p.1), (b, p.2, noted))
 
   -- a piece comes after a pause
-  pub watched_piece : (d : Decision) (a b c e : W) (t : Totals) (n : ℕ) (read piece : List ℕ) (x : Added) → Watched d Gives notes a read x b →
-      AllDecided d read x t → notes b (pauses t) c → n ≡ length piece → notes c (reads n) e → Watched d Gives notes a (read ++ piece) x e
+  pub watched_piece : (d : Decision) (a b c e : W) (t : Totals) (n : ℕ) (read piece : List ℕ) (x : Added) → Watched d Gives Lets notes a read x b →
+      AllDecided d read x t → notes b (pauses t) c → n ≡ length piece → notes c (reads n) e → Watched d Gives Lets notes a (read ++ piece) x e
   watched_piece d a b c e t n read piece x p decided paused size noted = (
     reads n ∷ pauses t ∷ p.0,
     (read, piece, refl, size, tt, (decided, p.1)),
     (c, (b, p.2, paused), noted),
   )
 
-  pub watched_on : (d : Decision) (a b c : W) (read : List ℕ) (x y : Added) → Watched d Gives notes a read x b → Noted Gives notes b y c →
-      Watched d Gives notes a read (joined x y) c
+  pub watched_on : (d : Decision) (a b c : W) (read : List ℕ) (x y : Added) → Watched d Gives Lets notes a read x b → Noted Gives Lets notes b y c →
+      Watched d Gives Lets notes a read (joined x y) c
   watched_on d a b c read x y p q =
-      (q.0 ++ p.0, tells_on (AllDecided d) Gives p.0 q.0 read x y p.1 q.1, is_told_on W notes a b c p.0 q.0 p.2 q.2)
+      (q.0 ++ p.0, tells_on (AllDecided d) Gives Lets p.0 q.0 read x y p.1 q.1, is_told_on W notes a b c p.0 q.0 p.2 q.2)

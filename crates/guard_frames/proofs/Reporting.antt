@@ -1,7 +1,7 @@
 -- What becomes of a frame, by its body.
 use Rattle.std.proofs.Common.{◌≡◌, ◌⊎◌, ℕ, List, ◌++◌, sym, refl, subst, inl, inr, drop}
 use Rattle.std.specs.Prelude.{Option, Some, None, IfSome, codes, decimal}
-use Rattle.guard_reader.specs.declared.marks.Marks.{Marks}
+use Rattle.guard_policy.specs.declared.verdict.PlainReason.{PlainReason}
 use Rattle.guard_frames.specs.Bodies.{AbstractBody, IsBody, HasNames, body_in}
 use Rattle.guard_frames.specs.Outcomes.{Decision, BodyGoes, FrameGoes, staying}
 use Rattle.guard_frames.specs.Guarding.{Adds}
@@ -30,11 +30,11 @@ goes_as_body d frame octets same go = subst (BodyGoes d) same go
 pub stays_there : (d : Decision) (octets : List ℕ) (b : AbstractBody) → (BodyGoes d octets → ⊥) → Some b ≡ body_in octets → d.LetsGo b → ⊥
 stays_there d octets b stays is go = stays (record { body = b; is = body_takes octets b (sym is); decided = go })
 
--- marks that are told are those of the body that is there
-pub marks_there : (MarksOf : AbstractBody → Marks → Type 0) (octets : List ℕ) (b : AbstractBody) (marks : Option Marks)
-    → IfSome marks (λ m. (x : AbstractBody) → IsBody octets x → MarksOf x m) → Some b ≡ body_in octets → IfSome marks (MarksOf b)
-marks_there MarksOf octets b None told is = tt
-marks_there MarksOf octets b (Some m) told is = told b (body_takes octets b (sym is))
+-- a reason that is told is that of the body that is there
+pub reason_there : (ReasonsOf : AbstractBody → PlainReason → Type 0) (octets : List ℕ) (b : AbstractBody) (reason : Option PlainReason)
+    → IfSome reason (λ r. (x : AbstractBody) → IsBody octets x → ReasonsOf x r) → Some b ≡ body_in octets → IfSome reason (ReasonsOf b)
+reason_there ReasonsOf octets b None told is = tt
+reason_there ReasonsOf octets b (Some r) told is = told b (body_takes octets b (sym is))
 
 reported : (d : Decision) (n : ℕ) (b : AbstractBody) (report : Report) → IsReportOf d n b report
     → d.Reports n b (report_line n report) ⊎ (report_line n report ≡ decimal n ++ codes " no-memory\n")

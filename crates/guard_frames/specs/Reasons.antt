@@ -1,12 +1,14 @@
 -- Why frames stay, and what a watch is told: of each frame what becomes of it.
-use Rattle.std.specs.Prelude.{◌≡◌, ℕ, List, [], ◌∷◌, ◌++◌, length, codes, decimal, Option, Some, None}
+use Rattle.std.specs.Prelude.{◌≡◌, ℕ, List, [], ◌∷◌, ◌++◌, drop, length, codes, decimal, Option, Some, None}
 use Rattle.guard_policy.specs.Verdicts.{AbstractVerdict, pass, unknown_message, undecodable, outside_type, denied_by, not_allowed, no_rule}
 use Rattle.guard_frames.specs.declared.totals.Totals.{Totals}
 use Rattle.guard_frames.specs.declared.why.Reason.{Reason}
 use Rattle.guard_frames.specs.declared.why.Reason.TheVariants.{UnknownMessage, Undecodable, OutsideType, DeniedBy, NotAllowed, NoRule}
 use Rattle.guard_frames.specs.declared.why.Why.{Why}
 use Rattle.guard_frames.specs.declared.why.Why.TheVariants.{BadHeader, NoMemory, Decided}
+use Rattle.guard_frames.specs.Bodies.{AbstractBody}
 use Rattle.guard_frames.specs.Frames.{IsFrame}
+use Rattle.guard_frames.specs.Outcomes.{GoesBy}
 use Rattle.guard_frames.specs.Added.{Added, nothing, sent_more, reported_more}
 
 -- the reason of a verdict that isn't to pass
@@ -30,8 +32,8 @@ pub data Told : Type 0 where
   pauses : Totals → Told
   -- so many octets came
   reads : ℕ → Told
-  -- the next frame goes, with so many octets
-  goes : ℕ → Told
+  -- the next frame goes, with so many octets, by the rule of this number
+  goes : ℕ → Option ℕ → Told
   -- the next frame stays, for this reason
   stays : Why → Told
 
@@ -40,24 +42,25 @@ abbrev pub IsPaused : List Told → Type 0
 IsPaused [] = ⊥
 IsPaused (pauses t ∷ before) = Unit {0}
 IsPaused (reads n ∷ before) = ⊥
-IsPaused (goes n ∷ before) = ⊥
+IsPaused (goes n rule ∷ before) = ⊥
 IsPaused (stays why ∷ before) = ⊥
 
 -- All this, the last first, was told of what was read and added: of each piece, which came after a pause, how many octets
--- it has, of each frame that goes out how many it has, and of each line that is reported what it says. At each pause this
--- holds of what was read and added before it, and of its totals.
-abbrev pub Tells : (List ℕ → Added → Totals → Type 0) → (Reason → List ℕ → Type 0) → List Told → List ℕ → Added → Type 0
-Tells At Gives [] read added = (read ≡ []) × (added ≡ nothing)
-Tells At Gives (pauses t ∷ before) read added = At read added t × Tells At Gives before read added
-Tells At Gives (reads n ∷ before) read added =
+-- it has, of each frame that goes out how many it has and by which rule it goes, as `Lets` says, and of each line that is
+-- reported what it says. At each pause this holds of what was read and added before it, and of its totals.
+abbrev pub Tells : (List ℕ → Added → Totals → Type 0) → (Reason → List ℕ → Type 0) → (AbstractBody → Option ℕ → Type 0) →
+    List Told → List ℕ → Added → Type 0
+Tells At Gives Lets [] read added = (read ≡ []) × (added ≡ nothing)
+Tells At Gives Lets (pauses t ∷ before) read added = At read added t × Tells At Gives Lets before read added
+Tells At Gives Lets (reads n ∷ before) read added =
     (first : List ℕ) × (piece : List ℕ) × (read ≡ first ++ piece) × (n ≡ length piece) × IsPaused before
-    × Tells At Gives before first added
-Tells At Gives (goes n ∷ before) read added =
+    × Tells At Gives Lets before first added
+Tells At Gives Lets (goes n rule ∷ before) read added =
     (first : Added) × (frame : List ℕ) × (added ≡ sent_more first frame) × IsFrame frame × (n ≡ length frame)
-    × Tells At Gives before read first
-Tells At Gives (stays why ∷ before) read added =
+    × GoesBy Lets (drop 4 frame) rule × Tells At Gives Lets before read first
+Tells At Gives Lets (stays why ∷ before) read added =
     (first : Added) × (line : List ℕ) × (added ≡ reported_more first line) × Says Gives why line
-    × Tells At Gives before read first
+    × Tells At Gives Lets before read first
 
 -- A watch was told all this, the last first; `notes` says what each changes.
 abbrev pub IsTold : {W : Type 0} → (W → Told → W → Type 0) → W → List Told → W → Type 0
@@ -65,6 +68,7 @@ IsTold {W} notes old [] new = new ≡ old
 IsTold {W} notes old (told ∷ before) new = (last : W) × IsTold notes old before last × notes last told new
 
 -- A watch was told of all frames of which this was added. There was no pause.
-abbrev pub Noted : {W : Type 0} → (Reason → List ℕ → Type 0) → (W → Told → W → Type 0) → W → Added → W → Type 0
-Noted Gives notes old added new =
-    (told : List Told) × Tells (λ read front t. ⊥) Gives told [] added × IsTold notes old told new
+abbrev pub Noted : {W : Type 0} → (Reason → List ℕ → Type 0) → (AbstractBody → Option ℕ → Type 0) → (W → Told → W → Type 0) →
+    W → Added → W → Type 0
+Noted Gives Lets notes old added new =
+    (told : List Told) × Tells (λ read front t. ⊥) Gives Lets told [] added × IsTold notes old told new

@@ -45,7 +45,7 @@ pub fn answer<D: Decide, S: Sink>(
 {
     let frame = frame_of(frame);
     match judge(alloc, policy, number, &frame, &mut LastRoute::none()) {
-        Ruling::Goes => {
+        Ruling::Goes(_) => {
             let Some(body) = read_body(frame.body) else {
                 unreachable!()
             };

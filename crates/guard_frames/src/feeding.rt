@@ -50,7 +50,7 @@ impl Link {
             (link_view self.new) result added
             × BothAppend (O.taken out.old, O.taken out.new) (R.taken reports.old, R.taken reports.new) added
             × ((result ≡ Err WriteFailed → ⊥) →
-            Noted (D.gives policy.now) W.notes watch.old added watch.new) }
+            Noted (D.gives policy.now) (D.lets policy.now) W.notes watch.old added watch.new) }
         ensures shut { (link_view self.old).closed ≡ true → (result ≡ Err Closed) × (self.new ≡ self.old)
             × (out.new ≡ out.old) × (reports.new ≡ reports.old) × (watch.new ≡ watch.old) }
         ensures failed { IsErrOf result WriteFailed →
@@ -79,7 +79,8 @@ impl Link {
             × Puts (D.decides policy.now) self.old.totals (self.old.held.items ++ piece.now) self.new.held.items
             self.new.totals result added
             × BothAppend (O.taken out.old, O.taken out.new) (R.taken reports.old, R.taken reports.new) added
-            × NotedBy result (λ told. Noted (D.gives policy.now) W.notes watch.old told watch.new) added }
+            × NotedBy result
+            (λ told. Noted (D.gives policy.now) (D.lets policy.now) W.notes watch.old told watch.new) added }
         ensures open { OnOk result (self.new.closed ≡ false) }
         ensures closes { OnErr result (IsShut (link_view self.new)) }
         ensures left { IfErr result (λ c. self.new.left ≡ left_by c) }
@@ -115,7 +116,8 @@ fn put_piece<D: Decide, O: Sink, R: Sink, W: Watch>(
     ensures puts { (added : Added)
         × Puts (D.decides policy.now) totals.old (held.old.items ++ piece.now) held.new.items totals.new result added
         × BothAppend (O.taken out.old, O.taken out.new) (R.taken reports.old, R.taken reports.new) added
-        × NotedBy result (λ told. Noted (D.gives policy.now) W.notes watch.old told watch.new) added }
+        × NotedBy result
+        (λ told. Noted (D.gives policy.now) (D.lets policy.now) W.notes watch.old told watch.new) added }
     ensures failed { IfErr result (λ c. HasFailed c (O.has_failed out.new) (R.has_failed reports.new)) }
     ensures lines { AsksLines (R.asked reports.old) (R.asked reports.new) }
 {
@@ -164,7 +166,8 @@ fn put_rest<D: Decide, O: Sink, R: Sink, W: Watch>(
     ensures puts { (added : Added)
         × Puts (D.decides policy.now) totals.old piece.now held.new.items totals.new result added
         × BothAppend (O.taken out.old, O.taken out.new) (R.taken reports.old, R.taken reports.new) added
-        × NotedBy result (λ told. Noted (D.gives policy.now) W.notes watch.old told watch.new) added }
+        × NotedBy result
+        (λ told. Noted (D.gives policy.now) (D.lets policy.now) W.notes watch.old told watch.new) added }
     ensures failed { IfErr result (λ c. HasFailed c (O.has_failed out.new) (R.has_failed reports.new)) }
     ensures lines { AsksLines (R.asked reports.old) (R.asked reports.new) }
 {

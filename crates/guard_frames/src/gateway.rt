@@ -5,7 +5,7 @@ ghost use Rattle.std.specs.Borrow.{sem};
 ghost use Rattle.std.specs.Option.{option_copied_mut, option_map};
 ghost use Rattle.guard_frames.specs.Lending.{lends_ends};
 ghost use Rattle.guard_frames.specs.GatewayView.{gateway_view, gateway_ends, IsStepOf};
-ghost use Rattle.guard_frames.specs.OfPolicy.{gives_of};
+ghost use Rattle.guard_frames.specs.OfPolicy.{gives_of, lets_of};
 ghost use Rattle.guard_frames.specs.Reasons.{Noted};
 ghost use Rattle.guard_frames.specs.LinkView.{link_view, new_link};
 ghost use Rattle.guard_policy.specs.PolicyView.{policy_view};
@@ -102,7 +102,8 @@ impl<S: Sink> Gateway<S> {
         watch: &mut W,
     ) -> Result<(), StepFault>
         ensures { IsStepOf S.taken S.has_failed
-            (λ told. Noted (gives_of (gateway_view self.old).policy) W.notes watch.old told watch.new)
+            (λ told. Noted (gives_of (gateway_view self.old).policy) (lets_of (gateway_view self.old).policy) W.notes
+            watch.old told watch.new)
             self.old event.entry result self.new }
     {
         match event {

@@ -1,17 +1,20 @@
 //! A policy decides which bodies go: those whose message goes.
 
-ghost use Rattle.std.specs.Prelude.{◌≡◌};
+ghost use Rattle.std.specs.Prelude.{◌≡◌, Some, IfOk};
 ghost use Rattle.guard_policy.specs.PolicyView.{policy_view, route_view};
+ghost use Rattle.guard_policy.specs.Verdicts.{verdict_view, pass};
+ghost use Rattle.guard_report.specs.Lines.{line_octets};
 ghost use Rattle.guard_frames.specs.Bodies.{body_view};
-ghost use Rattle.guard_frames.specs.OfPolicy.{route_of, decision_of, marks_of, gives_of};
+ghost use Rattle.guard_frames.specs.OfPolicy.{route_of, decision_of, marks_of, lets_of, reasons_of, gives_of};
 ghost use Rattle.guard_frames.specs.Outcomes.{IsDecided};
+ghost use Rattle.guard_frames.specs.Reasons.{reason_of};
 
 use crate::body::Body;
 use crate::decision::Decide;
 use crate::header::{cut_body, has_names};
 use crate::why::{Reason, reason_of};
 use guard_model::OutOfMemory;
-use guard_policy::{LastRoute, Marks, Passing, Policy, Route};
+use guard_policy::{LastRoute, Marks, Passing, PlainReason, Policy, Route, Verdict};
 use guard_report::line;
 use std::alloc::Global;
 
@@ -19,6 +22,10 @@ impl Decide for Policy {
     ghost decides = { λ policy. decision_of (policy_view policy) };
 
     ghost marks_of = { λ policy. marks_of (policy_view policy) };
+
+    ghost lets = { λ policy. lets_of (policy_view policy) };
+
+    ghost reasons_of = { λ policy. reasons_of (policy_view policy) };
 
     ghost gives = { λ policy. gives_of (policy_view policy) };
 
@@ -29,24 +36,50 @@ impl Decide for Policy {
         }
     }
 
+    fn allowing(&self, octets: &[u8], marks: &Marks) -> Option<usize> {
+        let body = cut_body(octets)?;
+        self.allowing_rule(&route_of(&body), marks)
+    }
+
     fn line(
         &self,
         alloc: Global,
         number: u64,
         body: &Body,
-        marks: Option<Marks>,
+        told: Option<PlainReason>,
     ) -> Result<(Vec<u8>, Reason), OutOfMemory> {
         let route = route_of(body);
-        let verdict = self.reason(alloc, &route, body.message_octets, marks)?;
-        let line = line(alloc, number, &route, &verdict, self)?;
-        Ok((line, reason_of(&verdict)))
+        // A verdict is large: one that is told isn't handed up.
+        if let Some(reason) = told {
+            return line_of(alloc, number, &route, &reason.verdict(), self);
+        }
+        let verdict = self.reason(alloc, &route, body.message_octets, None)?;
+        line_of(alloc, number, &route, &verdict, self)
     }
+}
+
+/// The line of a verdict, and the reason that it gives. Condition: the verdict isn't to pass.
+fn line_of(
+    alloc: Global,
+    number: u64,
+    route: &Route,
+    verdict: &Verdict,
+    policy: &Policy,
+) -> Result<(Vec<u8>, Reason), OutOfMemory>
+    requires { verdict_view verdict.now ≡ pass → ⊥ }
+    ensures { IfOk result (λ said.
+        (said.0.items ≡ line_octets (policy_view policy.now) (route_view route.now) number (verdict_view verdict.now))
+        × (reason_of (verdict_view verdict.now) ≡ Some said.1)) }
+{
+    let line = line(alloc, number, route, verdict, policy)?;
+    Ok((line, reason_of(verdict)))
 }
 
 /// Whether a frame goes, whose names are read and looked up. Where no rule gives them, whether they are names is asked
 /// last, and not of a frame whose message stays: its report asks it.
 fn goes_as_read(policy: &Policy, octets: &[u8], last: &mut LastRoute) -> Passing
-    ensures { IsDecided (decision_of (policy_view policy.now)) (marks_of (policy_view policy.now)) octets.now result }
+    ensures { IsDecided (decision_of (policy_view policy.now)) (marks_of (policy_view policy.now))
+        (lets_of (policy_view policy.now)) (reasons_of (policy_view policy.now)) octets.now result }
 {
     let Some(body) = cut_body(octets) else {
         return Passing::Stopped(None);

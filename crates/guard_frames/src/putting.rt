@@ -9,6 +9,7 @@ ghost use Rattle.guard_frames.specs.inside.Putting.{ArePut, IsBroken, SinkFailed
 use crate::cut::{Cut, Rest, first_cut};
 use crate::decision::Decide;
 use crate::devices::Sink;
+use crate::last_rule::asked;
 use crate::report::{Ruling, judge, line_of};
 use crate::sending::{Broken, put_going};
 use crate::short_line::ShortLine;
@@ -46,10 +47,10 @@ pub fn put_frames<D: Decide, O: Sink, R: Sink, W: Watch>(
     ensures whole { IfOk result (λ whole. (added : Added)
         × ArePut (D.decides policy.now) totals octets.now whole added
         × BothAppend (O.taken out.old, O.taken out.new) (R.taken reports.old, R.taken reports.new) added
-        × Noted (D.gives policy.now) W.notes watch.old added watch.new) }
+        × Noted (D.gives policy.now) (D.lets policy.now) W.notes watch.old added watch.new) }
     ensures failure { IfErr result (λ b. (added : Added)
         × IsBroken (D.decides policy.now) totals octets.now b added
-        (λ told. Noted (D.gives policy.now) W.notes watch.old told watch.new)
+        (λ told. Noted (D.gives policy.now) (D.lets policy.now) W.notes watch.old told watch.new)
         × BothAppend (O.taken out.old, O.taken out.new) (R.taken reports.old, R.taken reports.new) added) }
     ensures failed { IfErr result (λ b. SinkFailed b (O.has_failed out.new) (R.has_failed reports.new)) }
     ensures lines { AsksLines (R.asked reports.old) (R.asked reports.new) }
@@ -59,6 +60,7 @@ pub fn put_frames<D: Decide, O: Sink, R: Sink, W: Watch>(
     let mut sent = 0;
     let mut end = 0;
     let mut last = LastRoute::none();
+    let mut rule_before = None;
     let mut waiting = Waiting::none(alloc);
     loop {
         let frame = match first_cut(&octets[end..]) {
@@ -71,9 +73,10 @@ pub fn put_frames<D: Decide, O: Sink, R: Sink, W: Watch>(
         };
         let number = totals.next_number();
         match judge(alloc, policy, number, &frame, &mut last) {
-            Ruling::Goes => {
+            Ruling::Goes(marks) => {
                 waiting.put(reports)?;
-                watch.goes(frame.octets.len());
+                let rule = asked(policy, watch, frame.body, &marks, &mut rule_before);
+                watch.goes(frame.octets.len(), rule);
                 end += frame.octets.len();
                 totals = totals.after_going();
             }

@@ -5,7 +5,7 @@ ghost use Rattle.std.specs.Io.KnownBytes.{Appends};
 ghost use Rattle.guard_frames.specs.Calls.{EndsLine, AsksLines};
 ghost use Rattle.guard_frames.specs.Prefix.{IsProperPrefix};
 ghost use Rattle.guard_frames.specs.inside.Judged.{IsJudged, IsReportOf, ReportEnds, RulingEnds, report_line};
-ghost use Rattle.guard_frames.specs.inside.Judged.{ReportGives, RulingGives};
+ghost use Rattle.guard_frames.specs.inside.Judged.{ReportGives, RulingGives, RulingMarks};
 ghost use Rattle.guard_frames.specs.Bodies.{body_view, HasNames};
 
 use crate::body::Body;
@@ -15,15 +15,15 @@ use crate::devices::{Failed, Sink, put_all};
 use crate::header::read_body;
 use crate::short_line::{ShortLine, append};
 use crate::why::{Reason, Why};
-use guard_policy::{LastRoute, Marks, Passing};
+use guard_policy::{LastRoute, Marks, Passing, PlainReason};
 use itoa::Buffer;
 use std::alloc::Global;
 
 /// What becomes of a frame.
 #[derive(Drop)]
 pub enum Ruling {
-    /// The frame goes out.
-    Goes,
+    /// The frame goes out, and its body has these marks.
+    Goes(Marks),
     /// The frame stays, and this is reported of it.
     Stopped(Report),
 }
@@ -68,32 +68,34 @@ pub fn judge<D: Decide>(
     ensures judged { IsJudged (D.decides policy.now) number frame.now.octets.now result }
     ensures ends { RulingEnds result }
     ensures gives { RulingGives (D.gives policy.now) result }
+    ensures marks { RulingMarks (D.marks_of policy.now) (D.lets policy.now) frame.now.body.now result }
 {
-    let Passing::Stopped(marks) = policy.goes(frame.body, last) else {
-        return Ruling::Goes;
+    let told = match policy.goes(frame.body, last) {
+        Passing::Goes(marks) => return Ruling::Goes(marks),
+        Passing::Stopped(told) => told,
     };
     match read_body(frame.body) {
-        Some(body) => Ruling::Stopped(report_of(alloc, policy, number, &body, marks)),
+        Some(body) => Ruling::Stopped(report_of(alloc, policy, number, &body, told)),
         None => Ruling::Stopped(Report::BadHeader),
     }
 }
 
-/// What is reported of the frame of this number and with this body, which stays and has these marks.
+/// What is reported of the frame of this number and with this body, which stays, for this reason where one is told.
 fn report_of<D: Decide>(
     alloc: Global,
     policy: &D,
     number: u64,
     body: &Body,
-    marks: Option<Marks>,
+    told: Option<PlainReason>,
 ) -> Report
     requires names { HasNames (body_view body.now) }
     requires stays { (D.decides policy.now).LetsGo (body_view body.now) → ⊥ }
-    requires told { IfSome marks (D.marks_of policy.now (body_view body.now)) }
+    requires told { IfSome told (D.reasons_of policy.now (body_view body.now)) }
     ensures reports { IsReportOf (D.decides policy.now) number (body_view body.now) result }
     ensures ends { ReportEnds result }
     ensures gives { ReportGives (D.gives policy.now) result }
 {
-    match policy.line(alloc, number, body, marks) {
+    match policy.line(alloc, number, body, told) {
         Ok((line, reason)) => Report::Line(line, reason),
         Err(_) => Report::NoMemory,
     }

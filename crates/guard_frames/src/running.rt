@@ -105,9 +105,9 @@ pub fn decide_link<S: Source, D: Decide, O: Sink, R: Sink, W: Watch>(
         (λ read added. Leaves (D.decides policy.now) read (IsAtEnd (S.tells source.new))
         (R.has_failed reports.new ≡ true) result (link_view link.new) added
         × IsWatched result
-        (Watched (D.decides policy.now) (D.gives policy.now) W.notes watch.old read added watch.new)
-        (WatchedInPart (R.has_failed reports.new ≡ true) (D.decides policy.now) (D.gives policy.now) W.notes watch.old
-        read added watch.new)) }
+        (Watched (D.decides policy.now) (D.gives policy.now) (D.lets policy.now) W.notes watch.old read added watch.new)
+        (WatchedInPart (R.has_failed reports.new ≡ true) (D.decides policy.now) (D.gives policy.now)
+        (D.lets policy.now) W.notes watch.old read added watch.new)) }
     ensures failed { IsErrOf result WriteFailed → (O.has_failed out.new ≡ true) ⊎ (R.has_failed reports.new ≡ true) }
     ensures unread { IsErrOf result ReadFailed → (S.has_failed source.new ≡ true)
         ⊎ ReadToLimit (S.takes source.old) (S.takes source.new) (S.tells source.old) (S.tells source.new) }

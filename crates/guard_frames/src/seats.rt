@@ -37,7 +37,7 @@ fn feed_seat<D: Decide, S: Sink, W: Watch>(
     watch: &mut W,
 ) -> Result<(), LinkFault>
     ensures { IsFed (D.decides policy.now) S.taken S.has_failed
-        (λ told. Noted (D.gives policy.now) W.notes watch.old told watch.new)
+        (λ told. Noted (D.gives policy.now) (D.lets policy.now) W.notes watch.old told watch.new)
         seat.old octets.now result seat.new }
 {
     seat.link.feed(
@@ -60,7 +60,7 @@ pub(crate) fn feed_at<D: Decide, S: Sink, W: Watch>(
     watch: &mut W,
 ) -> Result<(), StepFault>
     ensures { IsFedAt (D.decides policy.now) S.taken S.has_failed
-        (λ told. Noted (D.gives policy.now) W.notes watch.old told watch.new)
+        (λ told. Noted (D.gives policy.now) (D.lets policy.now) W.notes watch.old told watch.new)
         seats.old.items at octets.now result seats.new.items }
 {
     if at >= seats.len() {

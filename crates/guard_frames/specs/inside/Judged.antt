@@ -1,7 +1,8 @@
 -- What becomes of one frame, and its line.
-use Rattle.std.specs.Prelude.{ℕ, List, ◌++◌, codes, decimal}
+use Rattle.std.specs.Prelude.{ℕ, List, ◌++◌, Option, codes, decimal}
 use Rattle.guard_frames.specs.Bodies.{AbstractBody}
-use Rattle.guard_frames.specs.Outcomes.{Decision, FrameGoes, staying}
+use Rattle.guard_reader.specs.declared.marks.Marks.{Marks}
+use Rattle.guard_frames.specs.Outcomes.{Decision, FrameGoes, GoesMarked, staying}
 use Rattle.guard_frames.specs.Guarding.{Adds}
 use Rattle.guard_frames.specs.Calls.{EndsLine}
 use Rattle.guard_frames.specs.declared.why.Reason.{Reason}
@@ -37,7 +38,7 @@ ReportEnds NoMemory = Unit {0}
 ReportEnds BadHeader = Unit {0}
 
 abbrev pub RulingEnds : Ruling → Type 0
-RulingEnds ruling.Goes = Unit {0}
+RulingEnds (ruling.Goes marks) = Unit {0}
 RulingEnds (ruling.Stopped report) = ReportEnds report
 
 -- the line of a report, where it has one, gives its reason
@@ -47,10 +48,15 @@ ReportGives Gives NoMemory = Unit {0}
 ReportGives Gives BadHeader = Unit {0}
 
 abbrev pub RulingGives : (Reason → List ℕ → Type 0) → Ruling → Type 0
-RulingGives Gives ruling.Goes = Unit {0}
+RulingGives Gives (ruling.Goes marks) = Unit {0}
 RulingGives Gives (ruling.Stopped report) = ReportGives Gives report
+
+-- the octets of a body that goes have these marks, and it goes by some rule
+abbrev pub RulingMarks : (AbstractBody → Marks → Type 0) → (AbstractBody → Option ℕ → Type 0) → List ℕ → Ruling → Type 0
+RulingMarks MarksOf Lets octets (ruling.Goes marks) = GoesMarked MarksOf Lets octets marks
+RulingMarks MarksOf Lets octets (ruling.Stopped report) = Unit {0}
 
 -- the frame of this number goes, or stays and adds this report
 abbrev pub IsJudged : Decision → ℕ → List ℕ → Ruling → Type 0
-IsJudged d n frame ruling.Goes = FrameGoes d frame
+IsJudged d n frame (ruling.Goes marks) = FrameGoes d frame
 IsJudged d n frame (ruling.Stopped report) = Adds d n (staying frame) (report_line n report)

@@ -21,7 +21,7 @@ use Rattle.guard_policy.specs.Verdicts.{AbstractVerdict, not_allowed}
 use Rattle.guard_frames.specs.Added.{nothing}
 use Rattle.guard_frames.specs.Bodies.{AbstractBody}
 use Rattle.guard_frames.specs.Headline.{MayGo, IsLineOf}
-use Rattle.guard_frames.specs.OfPolicy.{gives_of}
+use Rattle.guard_frames.specs.OfPolicy.{gives_of, lets_of}
 use Rattle.guard_frames.specs.Reasons.{Noted}
 use Rattle.guard_frames.specs.Reasons.Told.{stays}
 use Rattle.guard_frames.specs.declared.why.Reason.TheVariants.{NotAllowed}
@@ -116,7 +116,7 @@ fifty_gives = (
 )
 
 -- two lines, and a watch that counts was told of both
-two_noted : Noted (gives_of policy) (λ n told m. m ≡ suc n) 0 (record { out = []; reports = codes "1 bad-header\n" ++ line }) 2
+two_noted : Noted (gives_of policy) (lets_of policy) (λ n told m. m ≡ suc n) 0 (record { out = []; reports = codes "1 bad-header\n" ++ line }) 2
 unfolding digits
 two_noted = (
   stays (Decided NotAllowed) ∷ stays BadHeader ∷ [],

@@ -28,7 +28,7 @@ returns-in-Err-clause-puts g c =
     let d = g.D.Decide.decides c.args.policy.now in
     let x = rw c.as_slice.ensures.value at c.in-Err.ensures.failure in
     let so : Added → Type 0 =
-    λ added. Noted (g.D.Decide.gives c.args.policy.now) g.W.Watch.notes c.args.watch.now added c.put_frames.new.watch in
+    λ added. Noted (g.D.Decide.gives c.args.policy.now) (g.D.Decide.lets c.args.policy.now) g.W.Watch.notes c.args.watch.now added c.put_frames.new.watch in
     let y = broken_longer d c.args.totals.now c.args.held.now.items c.args.piece.now c.complete-used.new.held.items c.complete-used.result
     c.in-Err.broken x.0 so c.complete-used.ensures.held x.1 in (
       x.0,
@@ -72,7 +72,7 @@ returns-clause-puts g c =
           c.complete-used.new.held.items c.put_rest-2.new.held.items c.complete-used.result c.put_rest-2.result x.0 y.0
           c.complete-used.ensures.held c.complete-used.ensures.no_more x.1 some y.1,
       both_joined _ _ _ _ _ _ x.0 y.0 x.2 y.2,
-      noted_by_on _ (g.D.Decide.gives c.args.policy.now) g.W.Watch.notes c.put_rest-2.result c.args.watch.now c.put_frames.new.watch c.put_rest-2.new.watch
+      noted_by_on _ (g.D.Decide.gives c.args.policy.now) (g.D.Decide.lets c.args.policy.now) g.W.Watch.notes c.put_rest-2.result c.args.watch.now c.put_frames.new.watch c.put_rest-2.new.watch
           x.0 y.0 x.3 y.3,
     )
 

@@ -13,7 +13,7 @@ pub returns-in-Err-clause-puts : goal.returns-in-Err-clause-puts
 returns-in-Err-clause-puts g c =
     let d = g.D.Decide.decides c.args.policy.now in
     let so : Added → Type 0 =
-    λ added. Noted (g.D.Decide.gives c.args.policy.now) g.W.Watch.notes c.args.watch.now added c.put_frames.new.watch in
+    λ added. Noted (g.D.Decide.gives c.args.policy.now) (g.D.Decide.lets c.args.policy.now) g.W.Watch.notes c.args.watch.now added c.put_frames.new.watch in
     let x = c.in-Err.ensures.failure in (
       x.0,
       broken_puts d c.args.totals.now c.broken_at.new.totals c.args.piece.now c.args.held.now.items c.in-Err.broken c.broken_at.result x.0 so x.1 c.broken_at.ensures,

@@ -1,4 +1,4 @@
-use Rattle.std.proofs.Common.{ℕ, List, ◌+◌, ◌-◌, sym, refl, subst, take, drop, length}
+use Rattle.std.proofs.Common.{ℕ, List, ◌+◌, ◌-◌, sym, subst, take, drop, length}
 use Rattle.std.proofs.lemmas.Result.{err_from_is_err_and}
 use Rattle.guard_frames.specs.Totals.{next_number}
 use Rattle.guard_frames.specs.Added.{Added, nothing}
@@ -18,8 +18,9 @@ loop-frame-init g c = (
   both_none _ _,
   asks_none _,
   no_lines c.none-waiting.result.lines.items c.none-waiting.ensures,
-  subst (λ (x : List ℕ). Noted (g.D.Decide.gives c.args.policy.now) g.W.Watch.notes c.args.watch.now
-      (so_far_told nothing c.args.octets.now x 0 0) c.args.watch.now) (sym c.none-waiting.ensures) (noted_none _ (g.D.Decide.gives c.args.policy.now) g.W.Watch.notes c.args.watch.now),
+  subst (λ (x : List ℕ). Noted (g.D.Decide.gives c.args.policy.now) (g.D.Decide.lets c.args.policy.now) g.W.Watch.notes c.args.watch.now
+      (so_far_told nothing c.args.octets.now x 0 0) c.args.watch.now) (sym c.none-waiting.ensures) (noted_none _ (g.D.Decide.gives c.args.policy.now) (g.D.Decide.lets c.args.policy.now) g.W.Watch.notes c.args.watch.now),
+  tt,
 )
 
 -- ---- no whole frame is left
@@ -34,7 +35,7 @@ returns-in_err-put_going-in-Rest-clause-failure g c =
       sent_more h.0 p.0,
       broken_out d c.args.totals c.loop-frame.totals c.loop-frame.before _ c.args.octets.now c.loop-frame.waiting.lines.items p.0
           c.loop-frame.sent c.loop-frame.end h.0
-          (λ (x : Added). Noted (g.D.Decide.gives c.args.policy.now) g.W.Watch.notes c.args.watch.now x c.loop-frame.watch)
+          (λ (x : Added). Noted (g.D.Decide.gives c.args.policy.now) (g.D.Decide.lets c.args.policy.now) g.W.Watch.notes c.args.watch.now x c.loop-frame.watch)
           h.1 p.1 p.3 h.5,
       both_sent _ _ _ _ _ h.0 p.0 h.2 p.2,
     )
@@ -93,6 +94,7 @@ pub loop-frame-preserved-in-Goes : goal.loop-frame-preserved-in-Goes
 loop-frame-preserved-in-Goes g c =
     let d = g.D.Decide.decides c.args.policy.now in
     let h = c.loop-frame.invariant in
+    let by = c.asked-rule.ensures.rule in
     let s = c.args.octets.now in
     let f = c.in-Frame.frame in
     let at = first_at s c.loop-frame.end f h.1.so_far.within c.in-Frame.ensures in (
@@ -102,11 +104,12 @@ loop-frame-preserved-in-Goes g c =
       both_reported _ _ _ _ _ h.0 c.loop-frame.waiting.lines.items h.2 c.in_ok-put-in-Goes.ensures.all,
       asks_trans _ _ _ h.3 c.in_ok-put-in-Goes.ensures.lines,
       no_lines c.put-in-Goes.new.self.lines.items c.in_ok-put-in-Goes.ensures.none,
-      subst (λ (x : Added). Noted (g.D.Decide.gives c.args.policy.now) g.W.Watch.notes c.args.watch.now x c.goes.new.self)
+      subst (λ (x : Added). Noted (g.D.Decide.gives c.args.policy.now) (g.D.Decide.lets c.args.policy.now) g.W.Watch.notes c.args.watch.now x c.goes.new.self)
           (told_going s f.octets.now c.loop-frame.waiting.lines.items c.put-in-Goes.new.self.lines.items c.loop-frame.sent c.loop-frame.end h.0
           h.1.so_far.ordered at c.in_ok-put-in-Goes.ensures.none)
-          (noted_going _ (g.D.Decide.gives c.args.policy.now) g.W.Watch.notes c.args.watch.now c.loop-frame.watch c.goes.new.self (length f.octets.now)
-          (so_far_told h.0 s c.loop-frame.waiting.lines.items c.loop-frame.sent c.loop-frame.end) f.octets.now h.5 at.frame refl c.goes.ensures),
+          (noted_going _ (g.D.Decide.gives c.args.policy.now) (g.D.Decide.lets c.args.policy.now) g.W.Watch.notes c.args.watch.now c.loop-frame.watch c.goes.new.self
+          (so_far_told h.0 s c.loop-frame.waiting.lines.items c.loop-frame.sent c.loop-frame.end) f.octets.now f.body.now h.5 at.frame c.in-Frame.ensures.body (by.0, by.1, c.goes.ensures by.0 by.2)),
+      c.asked-rule.ensures.kept,
     )
 
 -- ---- a frame stays
@@ -121,7 +124,7 @@ returns-in_err-put_going-in-Stopped-clause-failure g c =
       sent_more h.0 p.0,
       broken_out d c.args.totals c.loop-frame.totals c.loop-frame.before _ c.args.octets.now c.loop-frame.waiting.lines.items p.0
           c.loop-frame.sent c.loop-frame.end h.0
-          (λ (x : Added). Noted (g.D.Decide.gives c.args.policy.now) g.W.Watch.notes c.args.watch.now x c.loop-frame.watch)
+          (λ (x : Added). Noted (g.D.Decide.gives c.args.policy.now) (g.D.Decide.lets c.args.policy.now) g.W.Watch.notes c.args.watch.now x c.loop-frame.watch)
           h.1 p.1 p.3 h.5,
       both_sent _ _ _ _ _ h.0 p.0 h.2 p.2,
     )
@@ -146,7 +149,7 @@ returns-in_err-add-in-Stopped-clause-failure g c =
       (
         line_breaks d c.args.totals c.loop-frame.totals c.loop-frame.before s f.octets.now c.loop-frame.waiting.lines.items c.line_of.result.now p.0 c.loop-frame.sent c.loop-frame.end h.0 h.1 at adds p.1,
         reported_more (so_far_told h.0 s c.loop-frame.waiting.lines.items c.loop-frame.sent c.loop-frame.end) c.line_of.result.now,
-        noted_staying _ (g.D.Decide.gives c.args.policy.now) g.W.Watch.notes c.args.watch.now c.loop-frame.watch c.stays.new.self
+        noted_staying _ (g.D.Decide.gives c.args.policy.now) (g.D.Decide.lets c.args.policy.now) g.W.Watch.notes c.args.watch.now c.loop-frame.watch c.stays.new.self
             c.next_number-number.result c.in-Stopped.report (so_far_told h.0 s c.loop-frame.waiting.lines.items c.loop-frame.sent c.loop-frame.end)
             c.line_of.result.now h.5 c.line_of.ensures.line c.in-Stopped.ensures.gives (rw c.why.ensures at c.stays.ensures),
       ),
@@ -170,12 +173,13 @@ loop-frame-preserved-in_ok-add-in-Stopped g c =
       both_reported _ _ _ _ _ (sent_more h.0 waiting) q.0 (both_sent _ _ _ _ _ h.0 waiting h.2 c.in_ok-put_going-in-Stopped.ensures.all) q.2,
       asks_trans _ _ _ h.3 c.in_ok-add-in-Stopped.ensures.lines,
       c.in_ok-add-in-Stopped.ensures.waiting,
-      subst (λ (x : Added). Noted (g.D.Decide.gives c.args.policy.now) g.W.Watch.notes c.args.watch.now x c.stays.new.self)
+      subst (λ (x : Added). Noted (g.D.Decide.gives c.args.policy.now) (g.D.Decide.lets c.args.policy.now) g.W.Watch.notes c.args.watch.now x c.stays.new.self)
           (told_staying s c.loop-frame.waiting.lines.items c.line_of.result.now q.0 c.add.new.self.lines.items c.loop-frame.sent c.loop-frame.end
           (c.loop-frame.end + length f.octets.now) h.0 q.1)
-          (noted_staying _ (g.D.Decide.gives c.args.policy.now) g.W.Watch.notes c.args.watch.now c.loop-frame.watch c.stays.new.self
+          (noted_staying _ (g.D.Decide.gives c.args.policy.now) (g.D.Decide.lets c.args.policy.now) g.W.Watch.notes c.args.watch.now c.loop-frame.watch c.stays.new.self
           c.next_number-number.result c.in-Stopped.report (so_far_told h.0 s c.loop-frame.waiting.lines.items c.loop-frame.sent c.loop-frame.end)
           c.line_of.result.now h.5 c.line_of.ensures.line c.in-Stopped.ensures.gives (rw c.why.ensures at c.stays.ensures)),
+      h.6,
     )
 
 pub loop-frame-preserved : goal.loop-frame-preserved
@@ -195,12 +199,13 @@ loop-frame-preserved g c =
       both_reported _ _ _ _ _ (sent_more h.0 waiting) q.0 (both_sent _ _ _ _ _ h.0 waiting h.2 c.in_ok-put_going-in-Stopped.ensures.all) q.2,
       asks_trans _ _ _ h.3 c.in_ok-add-in-Stopped.ensures.lines,
       c.in_ok-add-in-Stopped.ensures.waiting,
-      subst (λ (x : Added). Noted (g.D.Decide.gives c.args.policy.now) g.W.Watch.notes c.args.watch.now x c.stays.new.self)
+      subst (λ (x : Added). Noted (g.D.Decide.gives c.args.policy.now) (g.D.Decide.lets c.args.policy.now) g.W.Watch.notes c.args.watch.now x c.stays.new.self)
           (told_staying s c.loop-frame.waiting.lines.items c.line_of.result.now q.0 c.add.new.self.lines.items c.loop-frame.sent c.loop-frame.end
           (c.loop-frame.end + length f.octets.now) h.0 q.1)
-          (noted_staying _ (g.D.Decide.gives c.args.policy.now) g.W.Watch.notes c.args.watch.now c.loop-frame.watch c.stays.new.self
+          (noted_staying _ (g.D.Decide.gives c.args.policy.now) (g.D.Decide.lets c.args.policy.now) g.W.Watch.notes c.args.watch.now c.loop-frame.watch c.stays.new.self
           c.next_number-number.result c.in-Stopped.report (so_far_told h.0 s c.loop-frame.waiting.lines.items c.loop-frame.sent c.loop-frame.end)
           c.line_of.result.now h.5 c.line_of.ensures.line c.in-Stopped.ensures.gives (rw c.why.ensures at c.stays.ensures)),
+      h.6,
     )
 
 -- ---- each call ends a line

@@ -1,10 +1,10 @@
 use Rattle.guard_frames.specs.Bodies.{body_view}
-use Rattle.guard_frames.proofs.Reporting.{names_are, goes_as_body, stays_there, marks_there, stays_by_body, bad_by_body}
+use Rattle.guard_frames.proofs.Reporting.{names_are, goes_as_body, stays_there, reason_there, stays_by_body, bad_by_body}
 use Rattle.guard_frames.proofs.report.judge.Goals as goal
 
-pub returns-in_default-clause-judged : goal.returns-in_default-clause-judged
-returns-in_default-clause-judged g c =
-    goes_as_body (g.D.Decide.decides c.args.policy.now) c.args.frame.now.octets.now c.args.frame.now.body.now c.requires c.in_default.ensures
+pub returns-in-Goes-clause-judged : goal.returns-in-Goes-clause-judged
+returns-in-Goes-clause-judged g c =
+    goes_as_body (g.D.Decide.decides c.args.policy.now) c.args.frame.now.octets.now c.args.frame.now.body.now c.requires c.in-Goes.ensures.0
 
 pub report_of-requires-clause-names : goal.report_of-requires-clause-names
 report_of-requires-clause-names g c = names_are c.args.frame.now.body.now (body_view c.in-Some.body) c.in-Some.ensures
@@ -15,7 +15,7 @@ report_of-requires-clause-stays g c =
 
 pub report_of-requires-clause-told : goal.report_of-requires-clause-told
 report_of-requires-clause-told g c =
-    marks_there (g.D.Decide.marks_of c.args.policy.now) c.args.frame.now.body.now (body_view c.in-Some.body) c.in-Stopped.marks c.in-Stopped.ensures.1 c.in-Some.ensures
+    reason_there (g.D.Decide.reasons_of c.args.policy.now) c.args.frame.now.body.now (body_view c.in-Some.body) c.in-Stopped.told c.in-Stopped.ensures.1 c.in-Some.ensures
 
 pub returns-in-Some-clause-judged : goal.returns-in-Some-clause-judged
 returns-in-Some-clause-judged g c =

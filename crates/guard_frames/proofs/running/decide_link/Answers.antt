@@ -33,7 +33,7 @@ loop-init g c =
         rw (held, ap (λ (l : AbstractLink). l.totals) c.requires.first) start,
         rw held empty_unfinished,
         no_pieces,
-        watched_none _ (g.D.Decide.gives c.args.policy.now) g.W.Watch.notes (g.D.Decide.decides c.args.policy.now) c.args.watch.now,
+        watched_none _ (g.D.Decide.gives c.args.policy.now) (g.D.Decide.lets c.args.policy.now) g.W.Watch.notes (g.D.Decide.decides c.args.policy.now) c.args.watch.now,
       );
       lines = asks_none _;
     }
@@ -55,7 +55,7 @@ returns-then-count-eq0-clause-runs g c =
           },
           c.in-Ok.ensures.end zero,
         ),
-        watched_pause _ (g.D.Decide.gives c.args.policy.now) g.W.Watch.notes (g.D.Decide.decides c.args.policy.now) c.args.watch.now c.loop.watch c.pauses.new.self
+        watched_pause _ (g.D.Decide.gives c.args.policy.now) (g.D.Decide.lets c.args.policy.now) g.W.Watch.notes (g.D.Decide.decides c.args.policy.now) c.args.watch.now c.loop.watch c.pauses.new.self
             c.loop.link.totals h.0 h.1 h.7 (c.loop.link.held.items, h.4) c.pauses.ensures,
       );
     }
@@ -79,7 +79,7 @@ returns-in_err-finish-clause-runs g c =
           rw c.finish.ensures.totals (counts h.4.outcomes c.loop.link.totals h.4.totals),
           c.finish.ensures.left,
         ),
-        watched_pause _ (g.D.Decide.gives c.args.policy.now) g.W.Watch.notes (g.D.Decide.decides c.args.policy.now) c.args.watch.now c.loop.watch c.pauses.new.self
+        watched_pause _ (g.D.Decide.gives c.args.policy.now) (g.D.Decide.lets c.args.policy.now) g.W.Watch.notes (g.D.Decide.decides c.args.policy.now) c.args.watch.now c.loop.watch c.pauses.new.self
             c.loop.link.totals h.0 h.1 h.7 (c.loop.link.held.items, h.4) c.pauses.ensures,
       );
     })
@@ -106,9 +106,9 @@ returns-in_err-take-clause-runs g c =
         leaves_closed _ (link_view c.take.new.self) (h.0 ++ p) c.take.new.self.held.items c.in_err-take.field-0.0 (joined h.1 fed.0) _ _ _
             (λ rest frames split long. let soon = found_soon h.0 c.loop.link.held.items p rest (frames_of h.4.outcomes) frames h.4.split h.5 split long in omega (arith, soon, most))
             puts c.in_err-take.ensures.left c.in_err-take.ensures.failed,
-        watched_closed (g.D.Decide.gives c.args.policy.now) g.W.Watch.notes (g.D.Decide.decides c.args.policy.now) c.args.watch.now c.reads.new.self c.take.new.watch
+        watched_closed (g.D.Decide.gives c.args.policy.now) (g.D.Decide.lets c.args.policy.now) g.W.Watch.notes (g.D.Decide.decides c.args.policy.now) c.args.watch.now c.reads.new.self c.take.new.watch
             c.in_err-take.field-0.0 (h.0 ++ p) h.1 fed.0 _ _ c.in_err-take.ensures.failed
-            (watched_piece _ (g.D.Decide.gives c.args.policy.now) g.W.Watch.notes (g.D.Decide.decides c.args.policy.now) c.args.watch.now c.loop.watch c.pauses.new.self
+            (watched_piece _ (g.D.Decide.gives c.args.policy.now) (g.D.Decide.lets c.args.policy.now) g.W.Watch.notes (g.D.Decide.decides c.args.policy.now) c.args.watch.now c.loop.watch c.pauses.new.self
             c.reads.new.self c.loop.link.totals c.in-Ok.count h.0 p h.1 h.7 (c.loop.link.held.items, h.4) c.pauses.ensures counted c.reads.ensures) fed.3,
       );
     })
@@ -142,9 +142,9 @@ loop-preserved g c =
         x.0,
         x.1,
         one_more_piece c.loop.counter h.0 p h.6 some most,
-        watched_on _ (g.D.Decide.gives c.args.policy.now) g.W.Watch.notes (g.D.Decide.decides c.args.policy.now) c.args.watch.now c.reads.new.self c.take.new.watch
+        watched_on _ (g.D.Decide.gives c.args.policy.now) (g.D.Decide.lets c.args.policy.now) g.W.Watch.notes (g.D.Decide.decides c.args.policy.now) c.args.watch.now c.reads.new.self c.take.new.watch
             (h.0 ++ p) h.1 fed.0
-            (watched_piece _ (g.D.Decide.gives c.args.policy.now) g.W.Watch.notes (g.D.Decide.decides c.args.policy.now) c.args.watch.now c.loop.watch c.pauses.new.self
+            (watched_piece _ (g.D.Decide.gives c.args.policy.now) (g.D.Decide.lets c.args.policy.now) g.W.Watch.notes (g.D.Decide.decides c.args.policy.now) c.args.watch.now c.loop.watch c.pauses.new.self
             c.reads.new.self c.loop.link.totals c.in-Ok.count h.0 p h.1 h.7 (c.loop.link.held.items, h.4) c.pauses.ensures counted c.reads.ensures) fed.3,
       );
       lines = asks_trans _ _ _ c.loop.invariant.lines c.in_ok-take.ensures.lines;
@@ -193,7 +193,7 @@ returns-in_default-clause-runs g c =
           counts h.4.outcomes c.loop.link.totals h.4.totals,
           refl,
         ),
-        watched_pause _ (g.D.Decide.gives c.args.policy.now) g.W.Watch.notes (g.D.Decide.decides c.args.policy.now) c.args.watch.now c.loop.watch c.pauses.new.self
+        watched_pause _ (g.D.Decide.gives c.args.policy.now) (g.D.Decide.lets c.args.policy.now) g.W.Watch.notes (g.D.Decide.decides c.args.policy.now) c.args.watch.now c.loop.watch c.pauses.new.self
             c.loop.link.totals h.0 h.1 h.7 (c.loop.link.held.items, h.4) c.pauses.ensures,
       );
     }

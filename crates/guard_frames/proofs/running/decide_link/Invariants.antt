@@ -19,6 +19,6 @@ invariant-loop g l = record {
       (g.R.Sink.taken l.initial.reports, g.R.Sink.taken l.reports) added
       × Decides (g.D.Decide.decides l.policy) no_frames read l.link.held.items l.link.totals added × IsUnfinished l.link.held.items
       × CameInPieces l.counter read
-      × Watched (g.D.Decide.decides l.policy) (g.D.Decide.gives l.policy) g.W.Watch.notes l.initial.watch read added l.watch;
+      × Watched (g.D.Decide.decides l.policy) (g.D.Decide.gives l.policy) (g.D.Decide.lets l.policy) g.W.Watch.notes l.initial.watch read added l.watch;
   lines : AsksLines (g.R.Sink.asked l.initial.reports) (g.R.Sink.asked l.reports);
 }

@@ -13,10 +13,10 @@ returns g c =
     let w = c.feed in
     let h = w.ensures in
     let so : Added → Type 0 =
-    λ added. Noted (g.D.Decide.gives c.args.policy.now) g.W.Watch.notes c.args.watch.now added w.new.watch in
+    λ added. Noted (g.D.Decide.gives c.args.policy.now) (g.D.Decide.lets c.args.policy.now) g.W.Watch.notes c.args.watch.now added w.new.watch in
     let f = fed_watched (g.D.Decide.decides c.args.policy.now) (link_view old.link) c.args.octets.now w.result (link_view w.new.self)
     (taken old.ends.out) (taken w.new.out) (taken old.ends.reports) (taken w.new.reports) so h.open
-    (λ is. let e = h.shut is in (e.0, ap link_view e.1, ap taken e.2, ap taken e.3, noted_same _ (g.D.Decide.gives c.args.policy.now) g.W.Watch.notes c.args.watch.now w.new.watch e.4)) in
+    (λ is. let e = h.shut is in (e.0, ap link_view e.1, ap taken e.2, ap taken e.3, noted_same _ (g.D.Decide.gives c.args.policy.now) (g.D.Decide.lets c.args.policy.now) g.W.Watch.notes c.args.watch.now w.new.watch e.4)) in
     record {
       added = f.0;
       does = f.1;

@@ -1,66 +1,69 @@
-use Rattle.std.proofs.Common.{◌≡◌, ◌++◌, sym, subst}
-use Rattle.std.specs.Prelude.{IfSome, codes, decimal}
-use Rattle.guard_policy.specs.Policies.{AbstractRoute}
+use Rattle.std.proofs.Common.{◌≡◌, ◌∙◌, List, ℕ, Result, Some, ap, sym, subst}
+use Rattle.std.specs.Prelude.{IfOk}
+use Rattle.guard_policy.specs.Policies.{AbstractPolicy, AbstractRoute}
 use Rattle.guard_policy.specs.PolicyView.{policy_view, route_view}
-use Rattle.guard_policy.specs.Verdicts.{AbstractVerdict, verdict_view}
+use Rattle.guard_policy.specs.Verdicts.{AbstractVerdict, verdict_view, pass}
 use Rattle.guard_policy.specs.Decisions.{IsReason}
-use Rattle.guard_policy.specs.Told.{AreMarksOf}
 use Rattle.guard_policy.proofs.Goes.{goes_from_passes}
-use Rattle.guard_report.specs.Lines.{line_octets, route_text}
-use Rattle.guard_report.specs.Text.{verdict_octets}
-use Rattle.guard_frames.specs.Bodies.{body_view}
-use Rattle.guard_frames.specs.OfPolicy.{route_of}
+use Rattle.guard_policy.proofs.Reasons.{if_ok_map}
+use Rattle.guard_report.specs.Lines.{line_octets}
+use Rattle.guard_frames.specs.Bodies.{AbstractBody, HasNames, body_view}
+use Rattle.guard_frames.specs.OfPolicy.{route_of, decision_of, gives_of}
+use Rattle.guard_frames.specs.Reasons.{reason_of}
+use Rattle.guard_frames.specs.declared.why.Reason.{Reason}
 use Rattle.guard_frames.proofs.policies.PolicyDecide.line.Goals as goal
 
-pub reason-requires : goal.reason-requires
-reason-requires c =
-    let p = policy_view c.args.self.now in
-    let octets = c.args.body.now.message_octets.now in
-    let same : route_view c.route_of-route.result ≡ route_of (body_view c.args.body.now) = c.route_of-route.ensures in
-    subst (λ (r : AbstractRoute). IfSome c.args.marks (AreMarksOf p r.message octets)) (sym same) c.requires.told
+-- a line and the reason that it gives, of a verdict that is the reason of a body
+module _ {A E : Type 0} (items : A → List ℕ) (reason : A → Reason) (p : AbstractPolicy) (b : AbstractBody) (r : AbstractRoute) (n : ℕ) (w : AbstractVerdict) (said : Result A E)
+    (same : r ≡ route_of b) (is : IsReason p (route_of b) b.message_octets w)
+    (lines : IfOk said (λ x. (items x ≡ line_octets p r n w) × (reason_of w ≡ Some (reason x)))) where
+  abbrev IsLine : A → Type 0
+  IsLine x = (items x ≡ line_octets p r n w) × (reason_of w ≡ Some (reason x))
 
-pub reason_of-requires : goal.reason_of-requires
-reason_of-requires c = λ is.
+  reports : IfOk said (λ x. (decision_of p).Reports n b (items x))
+  reports = if_ok_map IsLine (λ x. (decision_of p).Reports n b (items x)) said (λ x l. (w, is, l.0 ∙ ap (λ (y : AbstractRoute). line_octets p y n w) same)) lines
+
+  gives : HasNames b → IfOk said (λ x. gives_of p (reason x) (items x))
+  gives names = if_ok_map IsLine (λ x. gives_of p (reason x) (items x)) said
+      (λ x l. (n, b, w, names, is, l.1, l.0 ∙ ap (λ (y : AbstractRoute). line_octets p y n w) same)) lines
+
+pub line_of-requires : goal.line_of-requires
+line_of-requires c = λ passes.
     let p = policy_view c.args.self.now in
     let b = body_view c.args.body.now in
-    let octets = c.args.body.now.message_octets.now in
-    let same : route_view c.route_of-route.result ≡ route_of b = c.route_of-route.ensures in
-    c.requires.stays (goes_from_passes p (route_of b) octets
-    (subst (λ (w : AbstractVerdict). IsReason p (route_of b) octets w) is
-    (subst (λ (r : AbstractRoute). IsReason p r octets (verdict_view c.in_ok-verdict.verdict)) same c.in_ok-verdict.ensures)))
+    c.requires.stays (goes_from_passes p (route_of b) b.message_octets
+    (subst (λ (w : AbstractVerdict). IsReason p (route_of b) b.message_octets w) (sym c.verdict.ensures ∙ passes) (rw c.in-Some.is at c.requires.told)))
+
+pub returns-in-Some-clause-reports : goal.returns-in-Some-clause-reports
+returns-in-Some-clause-reports c =
+    reports (λ x. x.0.items) (λ x. x.1) (policy_view c.args.self.now) (body_view c.args.body.now) (route_view c.route_of-route.result) c.args.number (verdict_view c.verdict.result)
+    c.line_of.result c.route_of-route.ensures (rw c.verdict.ensures (rw c.in-Some.is at c.requires.told)) c.line_of.ensures
+
+pub returns-in-Some-clause-gives : goal.returns-in-Some-clause-gives
+returns-in-Some-clause-gives c =
+    gives (λ x. x.0.items) (λ x. x.1) (policy_view c.args.self.now) (body_view c.args.body.now) (route_view c.route_of-route.result) c.args.number (verdict_view c.verdict.result)
+    c.line_of.result c.route_of-route.ensures (rw c.verdict.ensures (rw c.in-Some.is at c.requires.told)) c.line_of.ensures c.requires.names
+
+pub line_of-requires-2 : goal.line_of-requires-2
+line_of-requires-2 c = λ passes.
+    let p = policy_view c.args.self.now in
+    let b = body_view c.args.body.now in
+    c.requires.stays (goes_from_passes p (route_of b) b.message_octets
+    (subst (λ (w : AbstractVerdict). IsReason p (route_of b) b.message_octets w) passes
+    (subst (λ (r : AbstractRoute). IsReason p r b.message_octets (verdict_view c.in_ok-verdict.verdict)) c.route_of-route.ensures c.in_ok-verdict.ensures)))
 
 pub returns-clause-reports : goal.returns-clause-reports
 returns-clause-reports c =
     let p = policy_view c.args.self.now in
-    let octets = c.args.body.now.message_octets.now in
+    let b = body_view c.args.body.now in
     let w = verdict_view c.in_ok-verdict.verdict in
-    let same : route_view c.route_of-route.result ≡ route_of (body_view c.args.body.now) = c.route_of-route.ensures in (
-      w,
-      subst (λ (r : AbstractRoute). IsReason p r octets w) same c.in_ok-verdict.ensures,
-      subst (λ (r : AbstractRoute). c.in_ok-line.line.items ≡ line_octets p r c.args.number w) same c.in_ok-line.ensures,
-    )
-
-pub returns-clause-ends : goal.returns-clause-ends
-returns-clause-ends c =
-    let p = policy_view c.args.self.now in
-    let r = route_view c.route_of-route.result in
-    let w = verdict_view c.in_ok-verdict.verdict in
-    record {
-      front = decimal c.args.number ++ codes " " ++ route_text r ++ codes " " ++ verdict_octets p r w;
-      ends = c.in_ok-line.ensures;
-    }
+    reports (λ x. x.0.items) (λ x. x.1) p b (route_view c.route_of-route.result) c.args.number w c.line_of-2.result c.route_of-route.ensures
+    (subst (λ (r : AbstractRoute). IsReason p r b.message_octets w) c.route_of-route.ensures c.in_ok-verdict.ensures) c.line_of-2.ensures
 
 pub returns-clause-gives : goal.returns-clause-gives
 returns-clause-gives c =
     let p = policy_view c.args.self.now in
-    let octets = c.args.body.now.message_octets.now in
+    let b = body_view c.args.body.now in
     let w = verdict_view c.in_ok-verdict.verdict in
-    let same : route_view c.route_of-route.result ≡ route_of (body_view c.args.body.now) = c.route_of-route.ensures in (
-      c.args.number,
-      body_view c.args.body.now,
-      w,
-      c.requires.names,
-      subst (λ (r : AbstractRoute). IsReason p r octets w) same c.in_ok-verdict.ensures,
-      c.reason_of.ensures,
-      subst (λ (r : AbstractRoute). c.in_ok-line.line.items ≡ line_octets p r c.args.number w) same c.in_ok-line.ensures,
-    )
+    gives (λ x. x.0.items) (λ x. x.1) p b (route_view c.route_of-route.result) c.args.number w c.line_of-2.result c.route_of-route.ensures
+    (subst (λ (r : AbstractRoute). IsReason p r b.message_octets w) c.route_of-route.ensures c.in_ok-verdict.ensures) c.line_of-2.ensures c.requires.names

@@ -55,6 +55,10 @@ pub five_new : (x₀ x₁ x₂ x₃ x₄ x₅ a b c d e : List ℕ) → x₀ ≡
     → x₄ ≡ x₃ ++ d → x₅ ≡ x₄ ++ e → x₅ ≡ a ++ b ++ c ++ d ++ e
 five_new x₀ x₁ x₂ x₃ x₄ x₅ a b c d e e₀ e₁ e₂ e₃ e₄ e₅ = rw (e₅, e₄, e₃, e₂, e₁, e₀) refl
 
+pub six_new : (x₀ x₁ x₂ x₃ x₄ x₅ x₆ a b c d e f : List ℕ) → x₀ ≡ [] → x₁ ≡ x₀ ++ a → x₂ ≡ x₁ ++ b → x₃ ≡ x₂ ++ c
+    → x₄ ≡ x₃ ++ d → x₅ ≡ x₄ ++ e → x₆ ≡ x₅ ++ f → x₆ ≡ a ++ b ++ c ++ d ++ e ++ f
+six_new x₀ x₁ x₂ x₃ x₄ x₅ x₆ a b c d e f e₀ e₁ e₂ e₃ e₄ e₅ e₆ = rw (e₆, e₅, e₄, e₃, e₂, e₁, e₀) refl
+
 nine_new : (x₀ x₁ x₂ x₃ x₄ x₅ x₆ x₇ x₈ x₉ a b c d e f g h i : List ℕ) → x₀ ≡ [] → x₁ ≡ x₀ ++ a → x₂ ≡ x₁ ++ b
     → x₃ ≡ x₂ ++ c → x₄ ≡ x₃ ++ d → x₅ ≡ x₄ ++ e → x₆ ≡ x₅ ++ f → x₇ ≡ x₆ ++ g → x₈ ≡ x₇ ++ h → x₉ ≡ x₈ ++ i
     → x₉ ≡ a ++ b ++ c ++ d ++ e ++ f ++ g ++ h ++ i

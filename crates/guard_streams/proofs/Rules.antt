@@ -1,13 +1,16 @@
 -- How often rules decided, one by one.
 use Rattle.std.proofs.Common.{◌≡◌, ◌≤◌, ◌<◌, ◌+◌, ◌∙◌, ℕ, zero, suc, List, [], ◌∷◌, ◌++◌, ap, sym, refl, length, map, take, drop, get_or, slice_set, slice_get, arith}
-use Rattle.std.specs.Prelude.{slice_index_or, min, Some}
+use Rattle.std.specs.Prelude.{slice_index_or, min, Option, None, Some}
 use Rattle.std.proofs.lemmas.List.{map-append}
 use Rattle.std.proofs.lemmas.Option.{same_Some, none-some}
 use Rattle.std.proofs.Math.Numerals.{add-one}
 use Rattle.guard_policy.specs.Policies.{AbstractRule}
 use Rattle.guard_frames.specs.Totals.{later}
 use Rattle.guard_streams.specs.declared.rule_counts.RuleCount.{RuleCount}
-use Rattle.guard_streams.specs.Counters.{AbstractCount, count_view, fresh, one_more}
+use Rattle.guard_frames.specs.declared.why.Reason.TheVariants.{UnknownMessage, Undecodable, OutsideType, DeniedBy, NotAllowed, NoRule}
+use Rattle.guard_frames.specs.declared.why.Why.{Why}
+use Rattle.guard_frames.specs.declared.why.Why.TheVariants.{BadHeader, NoMemory, Decided}
+use Rattle.guard_streams.specs.Counters.{AbstractCount, AbstractForce, count_view, fresh, one_more, deny_one, allow_one, allow_all}
 
 -- none where there is no such rule
 pub none_more : (rules : List RuleCount) (i : ℕ) → length rules ≤ i → one_more (map count_view rules) i ≡ map count_view rules
@@ -23,6 +26,32 @@ counted_once (x ∷ rules) zero r n inside at more =
     ap (λ (c : AbstractCount). c ∷ map count_view rules) here
 counted_once (x ∷ rules) (suc i) r n inside at more =
     ap (λ (xs : List AbstractCount). count_view x ∷ xs) (counted_once rules i r n (omega (arith, inside)) at more)
+
+-- ---- which of two rules decided first is the same
+
+one_more_each : (counts : List AbstractCount) (i j : ℕ) → one_more (one_more counts i) j ≡ one_more (one_more counts j) i
+one_more_each [] i j = refl
+one_more_each (c ∷ counts) zero zero = refl
+one_more_each (c ∷ counts) zero (suc j) = refl
+one_more_each (c ∷ counts) (suc i) zero = refl
+one_more_each (c ∷ counts) (suc i) (suc j) = ap (λ (xs : List AbstractCount). c ∷ xs) (one_more_each counts i j)
+
+deny_allow : (f : AbstractForce) (rule : Option ℕ) (why : Why) → deny_one (allow_one f rule) why ≡ allow_one (deny_one f why) rule
+deny_allow f None why = refl
+deny_allow f (Some i) BadHeader = refl
+deny_allow f (Some i) NoMemory = refl
+deny_allow f (Some i) (Decided UnknownMessage) = refl
+deny_allow f (Some i) (Decided Undecodable) = refl
+deny_allow f (Some i) (Decided OutsideType) = refl
+deny_allow f (Some i) (Decided (DeniedBy j)) =
+    ap (λ (rules : List AbstractCount). record f { rules = rules }) (one_more_each f.rules i j)
+deny_allow f (Some i) (Decided NotAllowed) = refl
+deny_allow f (Some i) (Decided NoRule) = refl
+
+pub deny_allowed : (f : AbstractForce) (rules : List (Option ℕ)) (why : Why) → deny_one (allow_all f rules) why ≡ allow_all (deny_one f why) rules
+deny_allowed f [] why = refl
+deny_allowed f (rule ∷ before) why =
+    deny_allow (allow_all f before) rule why ∙ ap (λ (g : AbstractForce). allow_one g rule) (deny_allowed f before why)
 
 -- ---- the rules of a policy, one by one
 

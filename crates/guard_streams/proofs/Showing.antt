@@ -11,7 +11,7 @@ use Rattle.guard_frames.specs.Added.{Added, joined}
 use Rattle.guard_frames.specs.Guarding.{Counts as Count}
 use Rattle.guard_frames.specs.Leaving.{Leaves, Watched, WatchedInPart, IsWatched}
 use Rattle.guard_frames.specs.LinkView.{AbstractLink}
-use Rattle.guard_frames.specs.OfPolicy.{decision_of, gives_of}
+use Rattle.guard_frames.specs.OfPolicy.{decision_of, gives_of, lets_of}
 use Rattle.guard_frames.specs.Outcomes.{Decision}
 use Rattle.guard_frames.specs.Prefix.{IsProperPrefix}
 use Rattle.guard_frames.specs.Reasons.{Told, Tells, IsTold, Noted}
@@ -53,14 +53,14 @@ unfolding counters_all whys_of
 counts_from c [] = refl
 counts_from c (pauses t ∷ before) = counts_from c before
 counts_from c (reads n ∷ before) = counts_from c before
-counts_from c (goes n ∷ before) = counts_from c before
+counts_from c (goes n rule ∷ before) = counts_from c before
 counts_from c (stays why ∷ before) = ap (λ (x : Counts). count_one x why) (counts_from c before)
 
 module _ (B : Type 0) (shown : B → Shown) (p : AbstractPolicy) (digest path : List ℕ) where
   abbrev pub Tellings : Counters B → Told → Counters B → Type 0
   Tellings = IsTelling shown
 
-  whole_counted : (old new : Counters B) (read : List ℕ) (a : Added) → Watched (decision_of p) (gives_of p) Tellings old read a new →
+  whole_counted : (old new : Counters B) (read : List ℕ) (a : Added) → Watched (decision_of p) (gives_of p) (lets_of p) Tellings old read a new →
       AreCounted p old.counted.tally.counts a.reports new.counted.tally.counts
   whole_counted old new read a h = (
     whys_of h.0,
@@ -68,7 +68,7 @@ module _ (B : Type 0) (shown : B → Shown) (p : AbstractPolicy) (digest path : 
     ap (λ (c : AbstractCounters). c.counted.tally.counts) (counted_as B shown p digest path h.0 old new h.2) ∙ counts_from (counters_view old) h.0,
   )
 
-  more_counted : (old new : Counters B) (a : Added) → Noted (gives_of p) Tellings old a new → AreCounted p old.counted.tally.counts a.reports new.counted.tally.counts
+  more_counted : (old new : Counters B) (a : Added) → Noted (gives_of p) (lets_of p) Tellings old a new → AreCounted p old.counted.tally.counts a.reports new.counted.tally.counts
   more_counted old new a h = (
     whys_of h.0,
     said _ p h.0 [] a h.1,
@@ -77,7 +77,7 @@ module _ (B : Type 0) (shown : B → Shown) (p : AbstractPolicy) (digest path : 
 
   -- in the end, after a failure of an output or of the reports alone
   part_counted : (Broken : Type 0) (old new : Counters B) (read : List ℕ) (a : Added) →
-      WatchedInPart Broken (decision_of p) (gives_of p) Tellings old read a new → Broken ⊎ AreCounted p old.counted.tally.counts a.reports new.counted.tally.counts
+      WatchedInPart Broken (decision_of p) (gives_of p) (lets_of p) Tellings old read a new → Broken ⊎ AreCounted p old.counted.tally.counts a.reports new.counted.tally.counts
   part_counted Broken old new read a h = elim h.known [
     | inl broken ↦ inl broken
     | inr (lost, e) ↦
@@ -98,7 +98,7 @@ module _ (B : Type 0) (shown : B → Shown) (p : AbstractPolicy) (digest path : 
 
   -- what is shown at the end, where all is counted
   last_shown : (b w e : Counters B) (read : List ℕ) (a : Added) (t : Totals) (many : Faults) (x : RunsAll (decision_of p) read a (λ rest. Unit {0})) → Begun b →
-      Watched (decision_of p) (gives_of p) Tellings b read a w → Count x.outcomes t → ShowsEnd shown t many w e →
+      Watched (decision_of p) (gives_of p) (lets_of p) Tellings b read a w → Count x.outcomes t → ShowsEnd shown t many w e →
       ShowsLast (IsLastOf p digest read a many) path e.is_shown (shown w.board) (shown e.board)
   last_shown b w e read a t many x start h count end =
       let here : counters_view e ≡ ended (counters_all (fresh_counters path (force_of p digest)) h.0) t many =
@@ -133,10 +133,10 @@ module _ (B : Type 0) (shown : B → Shown) (p : AbstractPolicy) (digest path : 
   }
 
   abbrev pub Whole : Counters B → List ℕ → Added → Counters B → Type 0
-  Whole b read a w = Watched (decision_of p) (gives_of p) Tellings b read a w
+  Whole b read a w = Watched (decision_of p) (gives_of p) (lets_of p) Tellings b read a w
 
   abbrev pub InPart : Type 0 → Counters B → List ℕ → Added → Counters B → Type 0
-  InPart Broken b read a w = WatchedInPart Broken (decision_of p) (gives_of p) Tellings b read a w
+  InPart Broken b read a w = WatchedInPart Broken (decision_of p) (gives_of p) (lets_of p) Tellings b read a w
 
   whole_showed : (b w : Counters B) (read : List ℕ) (a : Added) → Begun b → Whole b read a w → Showed B shown p digest path (shown b.board) read a (shown w.board)
   whole_showed b w read a start h = showed B shown p digest path b start h.0 read a w h.1 h.2

@@ -1,6 +1,6 @@
 -- What counters have counted and shown, once they were told of what was read and added.
 use Rattle.std.proofs.Common.{◌≡◌, ◌⊎◌, inl, inr, ℕ, ◌+◌, List, [], ◌∷◌, ◌++◌, ◌∙◌, ap, sym, refl, subst, length, append_assoc, length-append, arith}
-use Rattle.std.specs.Prelude.{string_bytes}
+use Rattle.std.specs.Prelude.{string_bytes, Option}
 use Rattle.std.specs.List.{All}
 use Rattle.std.proofs.lemmas.List.{append-nil}
 use Rattle.std.proofs.lemmas.List.Elements.{All-cons, All-nil}
@@ -9,7 +9,7 @@ use Rattle.guard_frames.specs.declared.totals.Totals.{Totals}
 use Rattle.guard_frames.specs.declared.why.Why.{Why}
 use Rattle.guard_frames.specs.Added.{Added, nothing, joined, sent_more, reported_more}
 use Rattle.guard_frames.specs.Leaving.{AllDecided, Watched}
-use Rattle.guard_frames.specs.OfPolicy.{decision_of, gives_of}
+use Rattle.guard_frames.specs.OfPolicy.{decision_of, gives_of, lets_of}
 use Rattle.guard_frames.specs.Reasons.{Told, Tells, IsTold, Noted}
 use Rattle.guard_frames.specs.Reasons.Told.{pauses, reads, goes, stays}
 use Rattle.guard_frames.specs.Guarding.{Counts as Count}
@@ -22,11 +22,12 @@ use Rattle.guard_streams.specs.declared.counters.Counters.{Counters}
 use Rattle.guard_streams.specs.declared.counts.Counts.{Counts}
 use Rattle.guard_streams.specs.declared.faults.Faults.{Faults}
 use Rattle.guard_streams.specs.Counted.{no_counts, count_one, count_all}
-use Rattle.guard_streams.specs.Counters.{AbstractForce, counted_view, force_of, deny_one, deny_all}
+use Rattle.guard_streams.specs.Counters.{AbstractForce, counted_view, force_of, deny_one, deny_all, allow_one, allow_all}
 use Rattle.guard_streams.specs.Faults.{no_faults}
 use Rattle.guard_streams.specs.Counting.{AbstractCounters, counters_view, counters_one, ended, fresh_counters, text_of, IsTelling, IsTally, IsShownOf}
 use Rattle.guard_streams.specs.Shown.{Shown, Shows, ShowsAll}
-use Rattle.guard_streams.proofs.Told.{whys_of, said}
+use Rattle.guard_streams.proofs.Rules.{deny_allowed}
+use Rattle.guard_streams.proofs.Told.{whys_of, rules_in, said, are_let}
 
 -- ---- octets that are added
 
@@ -47,20 +48,20 @@ counters_all c (told ∷ before) = counters_one (counters_all c before) told
 -- ---- what is counted
 
 -- all but the totals
-record Sums (place : List ℕ) (f : AbstractForce) (whys : List Why) (read : List ℕ) (a : Added) (c : AbstractCounters) : Type 0 where
+record Sums (place : List ℕ) (f : AbstractForce) (whys : List Why) (rules : List (Option ℕ)) (read : List ℕ) (a : Added) (c : AbstractCounters) : Type 0 where
   path : c.path ≡ place
   counts : c.counted.tally.counts ≡ count_all no_counts whys
-  force : c.counted.force ≡ deny_all f whys
+  force : c.counted.force ≡ allow_all (deny_all f whys) rules
   came : c.counted.tally.came ≡ later 0 (length read)
   went : c.counted.tally.went ≡ later 0 (length a.out)
   reloads : c.counted.tally.reloads ≡ 0
   faults : c.counted.tally.faults ≡ no_faults
 
 -- the same numbers, where more was read or added
-sums_as : (path : List ℕ) (f : AbstractForce) (whys : List Why) (first read : List ℕ) (a b : Added) (c d : AbstractCounters) → Sums path f whys first a c →
+sums_as : (path : List ℕ) (f : AbstractForce) (whys : List Why) (rules : List (Option ℕ)) (first read : List ℕ) (a b : Added) (c d : AbstractCounters) → Sums path f whys rules first a c →
     d.path ≡ c.path → d.counted.tally.counts ≡ c.counted.tally.counts → d.counted.force ≡ c.counted.force → d.counted.tally.reloads ≡ c.counted.tally.reloads → d.counted.tally.faults ≡ c.counted.tally.faults →
-    d.counted.tally.came ≡ later 0 (length read) → d.counted.tally.went ≡ later 0 (length b.out) → Sums path f whys read b d
-sums_as path f whys first read a b c d h same counts force reloads faults came went = record {
+    d.counted.tally.came ≡ later 0 (length read) → d.counted.tally.went ≡ later 0 (length b.out) → Sums path f whys rules read b d
+sums_as path f whys rules first read a b c d h same counts force reloads faults came went = record {
   path = same ∙ h.path;
   counts = counts ∙ h.counts;
   force = force ∙ h.force;
@@ -74,8 +75,8 @@ later_more : (n k m : ℕ) → m ≡ n + k → later (later 0 n) k ≡ later 0 m
 later_more n k m e = omega (arith, e)
 
 sums : (At : List ℕ → Added → Totals → Type 0) (p : AbstractPolicy) (path : List ℕ) (f : AbstractForce) (told : List Told) (read : List ℕ) (a : Added) →
-    Tells At (gives_of p) told read a → Sums path f (whys_of told) read a (counters_all (fresh_counters path f) told)
-unfolding counters_all whys_of
+    Tells At (gives_of p) (lets_of p) told read a → Sums path f (whys_of told) (rules_in told) read a (counters_all (fresh_counters path f) told)
+unfolding counters_all whys_of rules_in
 sums At p path f [] read a h = record {
   path = refl;
   counts = refl;
@@ -87,24 +88,31 @@ sums At p path f [] read a h = record {
 }
 sums At p path f (pauses t ∷ before) read a h =
     let s = sums At p path f before read a h.1 in
-    sums_as path f (whys_of before) read read a a _ _ s refl refl refl refl refl s.came s.went
+    sums_as path f (whys_of before) (rules_in before) read read a a _ _ s refl refl refl refl refl s.came s.went
 sums At p path f (reads n ∷ before) read a (first, piece, e, size, paused, h) =
     let s = sums At p path f before first a h in
     let more : length read ≡ length first + n = omega (arith, ap length e, length-append first piece, size) in
-    sums_as path f (whys_of before) first read a a _ _ s refl refl refl refl refl
+    sums_as path f (whys_of before) (rules_in before) first read a a _ _ s refl refl refl refl refl
     (ap (λ k. later k n) s.came ∙ later_more (length first) n (length read) more) s.went
-sums At p path f (goes n ∷ before) read a (first, frame, e, is, size, h) =
+sums At p path f (goes n rule ∷ before) read a (first, frame, e, is, size, by, h) =
     let s = sums At p path f before read first h in
     let more : length a.out ≡ length first.out + n =
     omega (arith, ap (λ (x : Added). length x.out) e, length-append first.out frame, size) in
-    sums_as path f (whys_of before) read read first a _ _ s refl refl refl refl refl s.came
-    (ap (λ k. later k n) s.went ∙ later_more (length first.out) n (length a.out) more)
+    record {
+      path = s.path;
+      counts = s.counts;
+      force = ap (λ (g : AbstractForce). allow_one g rule) s.force;
+      came = s.came;
+      went = ap (λ k. later k n) s.went ∙ later_more (length first.out) n (length a.out) more;
+      reloads = s.reloads;
+      faults = s.faults;
+    }
 sums At p path f (stays why ∷ before) read a (first, line, e, says, h) =
     let s = sums At p path f before read first h in
     record {
       path = s.path;
       counts = ap (λ (c : Counts). count_one c why) s.counts;
-      force = ap (λ (g : AbstractForce). deny_one g why) s.force;
+      force = ap (λ (g : AbstractForce). deny_one g why) s.force ∙ deny_allowed (deny_all f (whys_of before)) (rules_in before) why;
       came = s.came;
       went = s.went ∙ ap (λ (x : Added). later 0 (length x.out)) (sym e);
       reloads = s.reloads;
@@ -115,13 +123,13 @@ with_faults : (c : AbstractCounters) (t : Totals) → c.counted.tally.faults ≡
 with_faults c t none = λ i. record { path = c.path; counted = record c.counted { tally = record c.counted.tally { totals = t; faults = none i } } }
 
 pub path_of : (At : List ℕ → Added → Totals → Type 0) (p : AbstractPolicy) (path : List ℕ) (f : AbstractForce) (told : List Told) (read : List ℕ) (a : Added) →
-    Tells At (gives_of p) told read a → (counters_all (fresh_counters path f) told).path ≡ path
+    Tells At (gives_of p) (lets_of p) told read a → (counters_all (fresh_counters path f) told).path ≡ path
 path_of At p path f told read a h = (sums At p path f told read a h).path
 
 -- with totals of all frames it is all that is counted
 pub tally_of : (At : List ℕ → Added → Totals → Type 0) (p : AbstractPolicy) (digest path : List ℕ) (told : List Told) (read : List ℕ) (a : Added)
     (t : Totals) (faults : Faults) (c : AbstractCounters) →
-    Tells At (gives_of p) told read a → c ≡ ended (counters_all (fresh_counters path (force_of p digest)) told) t faults →
+    Tells At (gives_of p) (lets_of p) told read a → c ≡ ended (counters_all (fresh_counters path (force_of p digest)) told) t faults →
     (x : RunsAll (decision_of p) read a (λ rest. Unit {0})) → Count x.outcomes t → IsTally p digest read a faults c.counted
 tally_of At p digest path told read a t faults c h e x count =
     let s = sums At p path (force_of p digest) told read a h in
@@ -131,6 +139,8 @@ tally_of At p digest path told read a t faults c h e x count =
       whys = whys_of told;
       said = said At p told read a h;
       counts = s.counts;
+      rules = rules_in told;
+      by = are_let At p told read a h;
       force = s.force;
       came = s.came;
       went = s.went;
@@ -140,7 +150,7 @@ tally_of At p digest path told read a t faults c h e x count =
 
 -- at a pause its totals are those
 paused_tally : (p : AbstractPolicy) (digest path : List ℕ) (before : List Told) (read : List ℕ) (a : Added) (t : Totals) (c : AbstractCounters) →
-    Tells (AllDecided (decision_of p)) (gives_of p) (pauses t ∷ before) read a →
+    Tells (AllDecided (decision_of p)) (gives_of p) (lets_of p) (pauses t ∷ before) read a →
     c ≡ counters_all (fresh_counters path (force_of p digest)) (pauses t ∷ before) → IsTally p digest read a no_faults c.counted
 unfolding counters_all
 paused_tally p digest path before read a t c h e =
@@ -180,13 +190,13 @@ module _ (B : Type 0) (shown : B → Shown) (p : AbstractPolicy) (digest path : 
       noted.counts ∙ ap (λ (c : AbstractCounters). counters_one c t) (counted_as before old last h)
 
   -- nothing, where there was no pause
-  pub quiet : (told : List Told) (read : List ℕ) (a : Added) (old new : Counters B) → Tells (λ s b t. ⊥) (gives_of p) told read a →
+  pub quiet : (told : List Told) (read : List ℕ) (a : Added) (old new : Counters B) → Tells (λ s b t. ⊥) (gives_of p) (lets_of p) told read a →
       IsTold Telling old told new → shown new.board ≡ shown old.board
   quiet [] read a old new h k = ap (λ (c : Counters B). shown c.board) k
   quiet (pauses t ∷ before) read a old new h k = absurd h.0
   quiet (reads n ∷ before) read a old new (first, piece, e, size, paused, h) (last, k, noted) =
       noted.shows ∙ quiet before first a old last h k
-  quiet (goes n ∷ before) read a old new (first, frame, e, is, size, h) (last, k, noted) =
+  quiet (goes n rule ∷ before) read a old new (first, frame, e, is, size, by, h) (last, k, noted) =
       noted.shows ∙ quiet before read first old last h k
   quiet (stays why ∷ before) read a old new (first, line, e, says, h) (last, k, noted) =
       noted.shows ∙ quiet before read first old last h k
@@ -205,14 +215,14 @@ module _ (B : Type 0) (shown : B → Shown) (p : AbstractPolicy) (digest path : 
   same_shown : (old mid new : Shown) (read : List ℕ) (a : Added) → new ≡ mid → Showed old read a mid → Showed old read a new
   same_shown old mid new read a e h = subst (Showed old read a) (sym e) h
 
-  at_path : (before : List Told) (read : List ℕ) (a : Added) (new : Counters B) → Tells (AllDecided (decision_of p)) (gives_of p) before read a →
+  at_path : (before : List Told) (read : List ℕ) (a : Added) (new : Counters B) → Tells (AllDecided (decision_of p)) (gives_of p) (lets_of p) before read a →
       (t : Totals) → counters_view new ≡ counters_all (fresh_counters path (force_of p digest)) (pauses t ∷ before) → string_bytes new.path ≡ path
   unfolding counters_all
   at_path before read a new h t here =
       ap (λ (c : AbstractCounters). c.path) here ∙ (sums (AllDecided (decision_of p)) p path (force_of p digest) before read a h).path
 
   paused_text : (before : List Told) (read : List ℕ) (a : Added) (t : Totals) (new : Counters B) →
-      Tells (AllDecided (decision_of p)) (gives_of p) (pauses t ∷ before) read a →
+      Tells (AllDecided (decision_of p)) (gives_of p) (lets_of p) (pauses t ∷ before) read a →
       counters_view new ≡ counters_all (fresh_counters path (force_of p digest)) (pauses t ∷ before) → IsShownOf p digest read a (text_of (counters_view new))
   unfolding counters_all
   paused_text before read a t new h here =
@@ -229,7 +239,7 @@ module _ (B : Type 0) (shown : B → Shown) (p : AbstractPolicy) (digest path : 
       }
 
   pub showed : (old : Counters B) → counters_view old ≡ fresh_counters path (force_of p digest) → (told : List Told) (read : List ℕ) (a : Added) (new : Counters B) →
-      Tells (AllDecided (decision_of p)) (gives_of p) told read a → IsTold Telling old told new → Showed (shown old.board) read a (shown new.board)
+      Tells (AllDecided (decision_of p)) (gives_of p) (lets_of p) told read a → IsTold Telling old told new → Showed (shown old.board) read a (shown new.board)
   showed old start [] read a new h k =
       ([], ap (λ (c : Counters B). shown c.board) k, All-nil (IsShownOf p digest read a))
   showed old start (pauses t ∷ before) read a new h (last, k, noted) =
@@ -247,7 +257,7 @@ module _ (B : Type 0) (shown : B → Shown) (p : AbstractPolicy) (digest path : 
   showed old start (reads n ∷ before) read a new (first, piece, e, size, paused, h) (last, k, noted) =
       same_shown (shown old.board) (shown last.board) (shown new.board) read a noted.shows
       (showed_longer (shown old.board) (shown last.board) first piece read a nothing a e (sym (joined_nothing a)) (showed old start before first a last h k))
-  showed old start (goes n ∷ before) read a new (first, frame, e, is, size, h) (last, k, noted) =
+  showed old start (goes n rule ∷ before) read a new (first, frame, e, is, size, by, h) (last, k, noted) =
       same_shown (shown old.board) (shown last.board) (shown new.board) read a noted.shows
       (showed_on (shown old.board) (shown last.board) read first (sent_more nothing frame) a (e ∙ sent_joined first frame) (showed old start before read first last h k))
   showed old start (stays why ∷ before) read a new (first, line, e, says, h) (last, k, noted) =

@@ -1,16 +1,18 @@
--- What follows from what a watch was told: of the lines that were reported what they say, and what a watch that counts has
--- counted.
+-- What follows from what a watch was told: of the lines that were reported what they say, of the frames that went out by
+-- which rules they go, and what a watch that counts has counted.
 use Rattle.std.proofs.Common.{◌≡◌, ◌⊎◌, inl, inr, ℕ, List, [], ◌∷◌, ◌++◌, ◌∙◌, ap, sym, refl, subst, append_assoc}
+use Rattle.std.specs.Prelude.{Option}
 use Rattle.std.proofs.lemmas.List.{append-nil}
 use Rattle.guard_policy.specs.Policies.{AbstractPolicy}
 use Rattle.guard_frames.specs.declared.totals.Totals.{Totals}
 use Rattle.guard_frames.specs.declared.why.Why.{Why}
 use Rattle.guard_frames.specs.Added.{Added}
 use Rattle.guard_frames.specs.Leaving.{Watched, WatchedInPart}
-use Rattle.guard_frames.specs.OfPolicy.{decision_of, gives_of}
+use Rattle.guard_frames.specs.OfPolicy.{decision_of, gives_of, lets_of}
 use Rattle.guard_frames.specs.Reasons.{Told, Tells, IsTold, Noted}
 use Rattle.guard_frames.specs.Reasons.Told.{pauses, reads, goes, stays}
 use Rattle.guard_streams.specs.declared.counts.Counts.{Counts}
+use Rattle.guard_streams.specs.Allowed.{AreLet}
 use Rattle.guard_streams.specs.Counted.{count_one, count_told, count_all, AreSaid, AreCounted}
 
 -- why the frames stay of which a watch was told
@@ -18,19 +20,38 @@ unfoldable pub whys_of : List Told → List Why
 whys_of [] = []
 whys_of (pauses t ∷ before) = whys_of before
 whys_of (reads n ∷ before) = whys_of before
-whys_of (goes n ∷ before) = whys_of before
+whys_of (goes n rule ∷ before) = whys_of before
 whys_of (stays why ∷ before) = why ∷ whys_of before
 
+-- by which rules those go of which it was told
+unfoldable pub rules_in : List Told → List (Option ℕ)
+rules_in [] = []
+rules_in (pauses t ∷ before) = rules_in before
+rules_in (reads n ∷ before) = rules_in before
+rules_in (goes n rule ∷ before) = rule ∷ rules_in before
+rules_in (stays why ∷ before) = rules_in before
+
 pub said : (At : List ℕ → Added → Totals → Type 0) (p : AbstractPolicy) (told : List Told) (read : List ℕ) (a : Added) →
-    Tells At (gives_of p) told read a → AreSaid p (whys_of told) a.reports
+    Tells At (gives_of p) (lets_of p) told read a → AreSaid p (whys_of told) a.reports
 unfolding whys_of
 said At p [] read a h = ap (λ (x : Added). x.reports) h.1
 said At p (pauses t ∷ before) read a h = said At p before read a h.1
 said At p (reads n ∷ before) read a (first, piece, e, size, paused, h) = said At p before first a h
-said At p (goes n ∷ before) read a (first, frame, e, is, size, h) =
+said At p (goes n rule ∷ before) read a (first, frame, e, is, size, by, h) =
     subst (AreSaid p (whys_of before)) (sym (ap (λ (x : Added). x.reports) e)) (said At p before read first h)
 said At p (stays why ∷ before) read a (first, line, e, says, h) =
     (first.reports, line, ap (λ (x : Added). x.reports) e, says, said At p before read first h)
+
+pub are_let : (At : List ℕ → Added → Totals → Type 0) (p : AbstractPolicy) (told : List Told) (read : List ℕ) (a : Added) →
+    Tells At (gives_of p) (lets_of p) told read a → AreLet p (rules_in told) a.out
+unfolding rules_in
+are_let At p [] read a h = ap (λ (x : Added). x.out) h.1
+are_let At p (pauses t ∷ before) read a h = are_let At p before read a h.1
+are_let At p (reads n ∷ before) read a (first, piece, e, size, paused, h) = are_let At p before first a h
+are_let At p (goes n rule ∷ before) read a (first, frame, e, is, size, by, h) =
+    (first.out, frame, ap (λ (x : Added). x.out) e, is, by, are_let At p before read first h)
+are_let At p (stays why ∷ before) read a (first, line, e, says, h) =
+    subst (AreLet p (rules_in before)) (sym (ap (λ (x : Added). x.out) e)) (are_let At p before read first h)
 
 abbrev pub Counting : Counts → Told → Counts → Type 0
 Counting c told d = d ≡ count_told c told
@@ -40,14 +61,14 @@ unfolding whys_of
 counted [] old new h = h
 counted (pauses t ∷ before) old new h = h.2 ∙ counted before old h.0 h.1
 counted (reads n ∷ before) old new h = h.2 ∙ counted before old h.0 h.1
-counted (goes n ∷ before) old new h = h.2 ∙ counted before old h.0 h.1
+counted (goes n rule ∷ before) old new h = h.2 ∙ counted before old h.0 h.1
 counted (stays why ∷ before) old new h = h.2 ∙ ap (λ (c : Counts). count_one c why) (counted before old h.0 h.1)
 
-pub noted_counted : (p : AbstractPolicy) (old new : Counts) (a : Added) → Noted (gives_of p) Counting old a new → AreCounted p old a.reports new
+pub noted_counted : (p : AbstractPolicy) (old new : Counts) (a : Added) → Noted (gives_of p) (lets_of p) Counting old a new → AreCounted p old a.reports new
 noted_counted p old new a h = (whys_of h.0, said _ p h.0 [] a h.1, counted h.0 old new h.2)
 
 pub watched_counted : (p : AbstractPolicy) (old new : Counts) (read : List ℕ) (a : Added) →
-    Watched (decision_of p) (gives_of p) Counting old read a new → AreCounted p old a.reports new
+    Watched (decision_of p) (gives_of p) (lets_of p) Counting old read a new → AreCounted p old a.reports new
 watched_counted p old new read a h = (whys_of h.0, said _ p h.0 read a h.1, counted h.0 old new h.2)
 
 -- ---- lines after lines
@@ -69,7 +90,7 @@ counted_on p a b c s t h k = (
 )
 
 pub part_counted : (Broken : Type 0) (p : AbstractPolicy) (old new : Counts) (read : List ℕ) (a : Added) →
-    WatchedInPart Broken (decision_of p) (gives_of p) Counting old read a new → Broken ⊎ AreCounted p old a.reports new
+    WatchedInPart Broken (decision_of p) (gives_of p) (lets_of p) Counting old read a new → Broken ⊎ AreCounted p old a.reports new
 part_counted Broken p old new read a h = elim h.known [
   | inl broken ↦ inl broken
   | inr (lost, e) ↦

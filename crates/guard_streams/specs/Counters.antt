@@ -1,6 +1,6 @@
 -- The text that shows what is counted, in the format that Prometheus' node exporter reads from its folder of text files:
 -- for each counter a line with its help, one with its type, and its samples, each with a name, labels and a number.
-use Rattle.std.specs.Prelude.{◌≡◌, ℕ, zero, suc, Bool, true, false, List, [], ◌∷◌, ◌++◌, map, string_bytes, codes, decimal, if◌then◌else◌}
+use Rattle.std.specs.Prelude.{◌≡◌, ℕ, zero, suc, Bool, true, false, List, [], ◌∷◌, ◌++◌, map, string_bytes, codes, decimal, if◌then◌else◌, Option, None, Some}
 use Rattle.std.specs.List.{concat}
 use Rattle.hex.specs.Hex.{encode_lower}
 use Rattle.guard_policy.specs.Policies.{AbstractPolicy, AbstractRule}
@@ -89,6 +89,16 @@ abbrev pub deny_all : AbstractForce → List Why → AbstractForce
 deny_all f [] = f
 deny_all f (why ∷ before) = deny_one (deny_all f before) why
 
+-- a frame goes: the rule by which it does has decided
+abbrev pub allow_one : AbstractForce → Option ℕ → AbstractForce
+allow_one f None = f
+allow_one f (Some i) = record f { rules = one_more f.rules i }
+
+-- and where these go, the last first
+abbrev pub allow_all : AbstractForce → List (Option ℕ) → AbstractForce
+allow_all f [] = f
+allow_all f (rule ∷ before) = allow_one (allow_all f before) rule
+
 -- ---- the text
 
 -- what stands before the samples of a name
@@ -140,6 +150,17 @@ denied_lines rules =
     (codes "Frames that a rule denied since the policy in force came into force.")
     ++ concat (map rule_line rules)
 
+-- of a rule that allows
+abbrev pub allowed_line : AbstractCount → List ℕ
+allowed_line c =
+    if c.denies then [] else labelled (codes "derguard_allowed_total") (codes "rule") c.name c.frames
+
+abbrev pub allowed_lines : List AbstractCount → List ℕ
+allowed_lines rules =
+    heading (codes "derguard_allowed_total") (codes "counter")
+    (codes "Frames that a rule let through since the policy in force came into force.")
+    ++ concat (map allowed_line rules)
+
 abbrev pub kind_line : List ℕ → ℕ → List ℕ
 kind_line = labelled (codes "derguard_link_faults_total") (codes "fault")
 
@@ -166,20 +187,20 @@ policy_lines digest =
 abbrev pub counters_text : AbstractCounted → List ℕ
 counters_text c =
     totals_lines c.tally.totals ++ stopped_lines c.tally.counts ++ denied_lines c.force.rules
-    ++ traffic_lines c.tally ++ policy_lines c.force.digest
+    ++ allowed_lines c.force.rules ++ traffic_lines c.tally ++ policy_lines c.force.digest
 
 -- ---- what a watch is told changes
 
 abbrev pub tally_one : Tally → Told → Tally
 tally_one t (pauses totals) = record t { totals = totals }
 tally_one t (reads n) = record t { came = later t.came n }
-tally_one t (goes n) = record t { went = later t.went n }
+tally_one t (goes n rule) = record t { went = later t.went n }
 tally_one t (stays why) = record t { counts = count_one t.counts why }
 
 abbrev pub force_one : AbstractForce → Told → AbstractForce
 force_one f (pauses totals) = f
 force_one f (reads n) = f
-force_one f (goes n) = f
+force_one f (goes n rule) = allow_one f rule
 force_one f (stays why) = deny_one f why
 
 abbrev pub counted_one : AbstractCounted → Told → AbstractCounted

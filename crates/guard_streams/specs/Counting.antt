@@ -30,8 +30,9 @@ use Rattle.guard_streams.specs.declared.counters.Counters.{Counters}
 use Rattle.guard_streams.specs.declared.counts.Counts.{Counts}
 use Rattle.guard_streams.specs.declared.faults.Faults.{Faults}
 use Rattle.guard_streams.specs.declared.seen.Seen.{Seen}
+use Rattle.guard_streams.specs.Allowed.{AreLet}
 use Rattle.guard_streams.specs.Counted.{no_counts, count_all, AreSaid, AreCounted}
-use Rattle.guard_streams.specs.Counters.{AbstractForce, AbstractCounted, counted_view, counted_one, force_of, deny_all, nothing_counted, counters_text}
+use Rattle.guard_streams.specs.Counters.{AbstractForce, AbstractCounted, counted_view, counted_one, force_of, deny_all, allow_all, nothing_counted, counters_text}
 use Rattle.guard_streams.specs.Faults.{no_faults, faulted}
 use Rattle.guard_streams.specs.Saying.{TellsUnread}
 use Rattle.guard_streams.specs.Shown.{Shown, Display, Shows, ShowsAll}
@@ -82,7 +83,7 @@ MayShow shown (pauses t) old new =
     (shown new.board ≡ shown old.board)
     ⊎ Shows (shown old.board) (string_bytes new.path) (text_of (counters_view new)) (shown new.board)
 MayShow shown (reads n) old new = shown new.board ≡ shown old.board
-MayShow shown (goes n) old new = shown new.board ≡ shown old.board
+MayShow shown (goes n rule) old new = shown new.board ≡ shown old.board
 MayShow shown (stays why) old new = shown new.board ≡ shown old.board
 
 -- what counters are told is counted
@@ -93,7 +94,7 @@ pub record IsTelling {B : Type 0} (shown : B → Shown) (old : Counters B) (told
 -- ---- what is counted of a stream
 
 -- All frames of what was read were decided and are out or reported, and this counts them: how many there are, why those
--- stay that do, and which rules denied them; and its link had these faults.
+-- stay that do, which rules denied them, and by which rules the others go; and its link had these faults.
 pub record IsTally (p : AbstractPolicy) (digest read : List ℕ) (added : Added) (faults : Faults) (c : AbstractCounted)
     : Type 0 where
   pub all : RunsAll (decision_of p) read added (λ rest. Unit {0})
@@ -101,7 +102,9 @@ pub record IsTally (p : AbstractPolicy) (digest read : List ℕ) (added : Added)
   pub whys : List Why
   pub said : AreSaid p whys added.reports
   pub counts : c.tally.counts ≡ count_all no_counts whys
-  pub force : c.force ≡ deny_all (force_of p digest) whys
+  pub rules : List (Option ℕ)
+  pub by : AreLet p rules added.out
+  pub force : c.force ≡ allow_all (deny_all (force_of p digest) whys) rules
   pub came : c.tally.came ≡ later 0 (length read)
   pub went : c.tally.went ≡ later 0 (length added.out)
   pub reloads : c.tally.reloads ≡ 0

@@ -6,6 +6,7 @@ pub mod Asking
 pub mod Passing
 pub mod InForce
 pub mod Counted
+pub mod Allowed
 pub mod Tallying
 pub mod AtFault
 pub mod Turns

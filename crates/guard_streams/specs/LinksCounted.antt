@@ -7,8 +7,9 @@ use Rattle.guard_frames.specs.Added.{Added}
 use Rattle.guard_frames.specs.LinkView.{AbstractLink}
 use Rattle.guard_frames.specs.Totals.{later, no_frames}
 use Rattle.guard_streams.specs.declared.counted.Counted.{Counted}
+use Rattle.guard_streams.specs.Allowed.{AreLet}
 use Rattle.guard_streams.specs.Counted.{count_all, AreSaid}
-use Rattle.guard_streams.specs.Counters.{AbstractCounted, AbstractForce, counted_view, force_of, deny_all}
+use Rattle.guard_streams.specs.Counters.{AbstractCounted, AbstractForce, counted_view, force_of, deny_all, allow_all}
 use Rattle.guard_streams.specs.Faults.{faulted}
 use Rattle.guard_streams.specs.Tallying.{with_links}
 
@@ -22,14 +23,17 @@ abbrev pub IsMore : ℕ → ℕ → ℕ → Type 0
 IsMore old n new = later new 0 ≡ later old n
 
 -- The links tell how many frames there were so far. The octets of the piece came, and those that it added went out; why
--- frames of it stay is counted, and which rules denied them; and so is the fault of its link.
+-- frames of it stay is counted, which rules denied them, and by which rules the others go; and so is the fault of its
+-- link.
 pub record CountsPiece (p : AbstractPolicy) (old : AbstractCounted) (answer : Result (Unit {0}) LinkFault) (octets : List ℕ)
     (added : Added) (links : List AbstractLink) (new : AbstractCounted) : Type 0 where
   pub totals : new.tally.totals ≡ with_links no_frames links
   pub whys : List Why
   pub said : AreSaid p whys added.reports
   pub counts : new.tally.counts ≡ count_all old.tally.counts whys
-  pub force : new.force ≡ deny_all old.force whys
+  pub rules : List (Option ℕ)
+  pub by : AreLet p rules added.out
+  pub force : new.force ≡ allow_all (deny_all old.force whys) rules
   pub came : IsMore old.tally.came (length octets) new.tally.came
   pub went : IsMore old.tally.went (length added.out) new.tally.went
   pub reloads : new.tally.reloads ≡ old.tally.reloads
@@ -50,7 +54,7 @@ ended_counted (Some c) answer =
 abbrev pub with_force : AbstractCounted → AbstractForce → AbstractCounted
 with_force c f = record { force = f; tally = record c.tally { reloads = later c.tally.reloads 1 } }
 
--- a new policy, whose texts have this number, is counted, and its rules have denied nothing yet
+-- a new policy, whose texts have this number, is counted, and its rules have decided nothing yet
 abbrev pub renewed_counted : Option AbstractCounted → AbstractPolicy → List ℕ → Option AbstractCounted
 renewed_counted None p digest = None
 renewed_counted (Some c) p digest = Some (with_force c (force_of p digest))

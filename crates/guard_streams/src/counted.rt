@@ -4,7 +4,7 @@ use crate::rule_counts::InForce;
 use crate::tally::Tally;
 use guard_frames::{LinkFault, Totals, Watch, Why};
 
-/// What is counted: how often each rule of the policy in force denied, and all else.
+/// What is counted: how often each rule of the policy in force decided, and all else.
 #[derive(Drop)]
 pub struct Counted {
     pub force: InForce,
@@ -46,10 +46,16 @@ impl Counted {
 }
 
 impl Watch for Counted {
-    ghost use Rattle.std.specs.Prelude.{◌≡◌};
+    ghost use Rattle.std.specs.Prelude.{◌≡◌, true};
     ghost use Rattle.guard_streams.specs.Counters.{counted_view, counted_one};
 
     ghost notes = { λ old told new. counted_view new ≡ counted_one (counted_view old) told };
+
+    ghost wants_rules = { λ counted. true };
+
+    fn asks(&self) -> bool {
+        true
+    }
 
     fn pauses(&mut self, totals: Totals) {
         self.tally.totals = totals;
@@ -59,8 +65,9 @@ impl Watch for Counted {
         self.tally.came = self.tally.came.saturating_add(octets as u64);
     }
 
-    fn goes(&mut self, octets: usize) {
+    fn goes(&mut self, octets: usize, rule: Option<usize>) {
         self.tally.went = self.tally.went.saturating_add(octets as u64);
+        self.force.goes(rule);
     }
 
     fn stays(&mut self, why: Why) {

@@ -1,7 +1,8 @@
 //! The text that shows what is counted.
 ghost use Rattle.std.specs.Prelude.{◌≡◌, ◌++◌, map, IfOk, OnOk};
 ghost use Rattle.guard_streams.specs.Counters.{count_view, counted_view, counter, counters_text, heading, labelled};
-ghost use Rattle.guard_streams.specs.Counters.{denied_lines, faults_lines, kind_line, policy_lines, reason_line};
+ghost use Rattle.guard_streams.specs.Counters.{allowed_line, allowed_lines, denied_lines, faults_lines, kind_line};
+ghost use Rattle.guard_streams.specs.Counters.{policy_lines, reason_line};
 ghost use Rattle.guard_streams.specs.Counters.{rule_line, sample, stopped_lines, totals_lines, traffic_lines};
 
 use crate::counted::Counted;
@@ -24,6 +25,7 @@ pub fn counters_text(alloc: Global, counted: &Counted) -> Result<Vec<u8>, OutOfM
     add_totals(&mut text, counted.tally.totals)?;
     add_stopped(&mut text, &counted.tally.counts)?;
     add_denied(&mut text, &counted.force.rules)?;
+    add_allowed(&mut text, &counted.force.rules)?;
     add_traffic(&mut text, &counted.tally)?;
     add_policy(&mut text, &counted.force.digest)?;
     Ok(text)
@@ -97,6 +99,38 @@ fn add_rule(text: &mut Vec<u8>, rule: &RuleCount) -> Result<(), OutOfMemory>
     add_labelled(
         text,
         b"derguard_denied_total",
+        b"rule",
+        rule.name.as_bytes(),
+        rule.frames,
+    )
+}
+
+/// The rules that allow.
+fn add_allowed(text: &mut Vec<u8>, rules: &[RuleCount]) -> Result<(), OutOfMemory>
+    ensures { OnOk result (text.new.items ≡ text.old.items ++ allowed_lines (map count_view rules.now)) }
+{
+    add_heading(
+        text,
+        b"derguard_allowed_total",
+        b"counter",
+        b"Frames that a rule let through since the policy in force came into force.",
+    )?;
+    for rule in rules {
+        add_allowing(text, rule)?;
+    }
+    Ok(())
+}
+
+/// A rule, where it allows.
+fn add_allowing(text: &mut Vec<u8>, rule: &RuleCount) -> Result<(), OutOfMemory>
+    ensures { OnOk result (text.new.items ≡ text.old.items ++ allowed_line (count_view rule.now)) }
+{
+    if rule.denies {
+        return Ok(());
+    }
+    add_labelled(
+        text,
+        b"derguard_allowed_total",
         b"rule",
         rule.name.as_bytes(),
         rule.frames,

@@ -12,6 +12,7 @@
 //! | What is noted? | `seen.rt`, `counts.rt` | `specs/Verbose.antt`, `specs/Counted.antt` |
 //! | What is counted of a stream, and shown while it runs? | `counting.rt`, `counters.rt` | `specs/Counting.antt` |
 //! | What is counted of many links? | `counting_links.rt`, `following.rt` | `specs/CountingLinks.antt`, `specs/LinksCounted.antt` |
+//! | By which rules do frames go? | `rule_counts.rt` | `specs/Allowed.antt` |
 //! | Where is it shown, and when? | `board.rt` (`Board`) | `specs/Shown.antt` |
 //! | Which text shows it? | `counters_text.rt`, `counted.rt` | `specs/Counters.antt`, `specs/Faults.antt` |
 //! | What is said of a device that failed? | `saying.rt` | `specs/Saying.antt` |

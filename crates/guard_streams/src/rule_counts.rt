@@ -1,4 +1,4 @@
-//! What is counted under one policy: how often each of its rules denied, and which texts it has.
+//! What is counted under one policy: how often each of its rules decided, and which texts it has.
 ghost use Rattle.std.specs.Prelude.{◌≡◌, map, IfOk};
 ghost use Rattle.guard_policy.specs.PolicyView.{policy_view, said_view};
 ghost use Rattle.guard_streams.specs.Counters.{force_of, force_view, count_view, denies, fresh, one_more};
@@ -25,7 +25,7 @@ pub struct InForce {
 
 impl InForce {
     ghost use Rattle.std.specs.Prelude.{◌≡◌, map};
-    ghost use Rattle.guard_streams.specs.Counters.{force_view, count_view, deny_one};
+    ghost use Rattle.guard_streams.specs.Counters.{force_view, count_view, deny_one, allow_one};
 
     /// No policy.
     pub fn none(alloc: Global) -> InForce {
@@ -51,6 +51,16 @@ impl InForce {
         if let Why::Decided(Reason::DeniedBy(rule)) = why {
             count_at(&mut self.rules, rule);
         }
+    }
+
+    /// One more frame goes, by the rule of this number.
+    pub fn goes(&mut self, rule: Option<usize>)
+        ensures { force_view self.new ≡ allow_one (force_view self.old) rule }
+    {
+        let Some(rule) = rule else {
+            return;
+        };
+        count_at(&mut self.rules, rule);
     }
 }
 

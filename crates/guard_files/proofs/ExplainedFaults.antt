@@ -1,18 +1,26 @@
--- Which texts a fault is explained over.
-use Rattle.std.proofs.Common.{◌≡◌, ◌⊎◌, ℕ, List, [], inl, inr, refl, subst, sym}
-use Rattle.guard_notes.specs.Sources.{sources}
+-- What is refused where there is no policy at a path, with the texts over which it is explained.
+use Rattle.std.proofs.Common.{◌≡◌, ℕ, Bool, true, false, List, [], inl, inr, refl, subst, sym}
+use Rattle.guard_notes.specs.Sources.{AbstractSources, sources}
 use Rattle.guard_files.specs.declared.fault.Fault.{Fault}
 use Rattle.guard_files.specs.declared.fault.Fault.TheVariants.{BadHex, CannotRead, TooLarge, Schema, Policy, Run, NoMemory}
-use Rattle.guard_files.specs.Explaining.{AreTextsOf, IsExplained, IsExplanation}
+use Rattle.guard_files.specs.Explaining.{AreTextsOf, IsExplained, IsExplanation, IsNoPolicyWith, IsRefused}
 use Rattle.guard_files.specs.Files.{Told, HasText}
-use Rattle.guard_files.specs.Reading.{IsNoPolicyAt, IsUnreadable, SayNothing}
+use Rattle.guard_files.specs.Reading.{IsNoPolicyAt, IsUnreadable, SayNothing, SayNoneLoaded}
 use Rattle.guard_files.specs.inside.Texts.{IsBeforeModules}
-use Rattle.guard_files.proofs.Refusals.{policy_unread}
+use Rattle.guard_files.proofs.Refusals.{not_said, policy_unread}
 
 module _ (told : Told) (path note : List ℕ) where
   -- nothing is said where memory ran out
-  silent : (r : Fault) → (r ≡ NoMemory) × (note ≡ []) → IsExplained told path r note
-  silent r h = subst (λ (x : Fault). IsExplained told path x note) (sym h.0) (inr (inr refl), h.1)
+  pub silent : (explain : Bool) (f : Fault) → f ≡ NoMemory → note ≡ [] → IsNoPolicyWith explain told path f note
+  silent false f is none = (inr (inr is), none)
+  silent true f is none = subst (λ (x : Fault). IsExplained told path x note) (sym is) (inr (inr refl), none)
+
+  -- a fault that is explained over these texts
+  refused : (explain : Bool) (s : AbstractSources) (text : List ℕ) (f r : Fault) → IsNoPolicyAt told path f → (IsExplanation s text f note → IsExplained told path f note)
+      → IsRefused explain s text f r note → IsNoPolicyWith explain told path r note
+  refused false s text f r none explained e = (subst (IsNoPolicyAt told path) (sym e.0) none, e.1)
+  refused true s text f r none explained (inl e) = subst (λ (x : Fault). IsExplained told path x note) (sym e.0) (explained e.1)
+  refused true s text f r none explained (inr e) = silent true r e.0 e.1
 
   unread : (f : Fault) → IsUnreadable told path f → IsExplanation (sources path [] []) [] f note → IsExplained told path f note
   unread (CannotRead file obstacle) h e = (policy_unread told path (CannotRead file obstacle) h, e)
@@ -24,10 +32,8 @@ module _ (told : Told) (path note : List ℕ) where
   unread (Run f) h e = absurd h
 
   -- the policy's file
-  pub unread_explained : (f r : Fault) → IsUnreadable told path f
-      → ((r ≡ f) × IsExplanation (sources path [] []) [] f note) ⊎ ((r ≡ NoMemory) × (note ≡ [])) → IsExplained told path r note
-  unread_explained f r h (inl e) = subst (λ (x : Fault). IsExplained told path x note) (sym e.0) (unread f h e.1)
-  unread_explained f r h (inr e) = silent r e
+  pub unread_refused : (explain : Bool) (f r : Fault) → IsUnreadable told path f → IsRefused explain (sources path [] []) [] f r note → IsNoPolicyWith explain told path r note
+  unread_refused explain f r h = refused explain (sources path [] []) [] f r (policy_unread told path f h) (unread f h)
 
   module _ (text : List ℕ) (has : HasText told path text) where
     beside : (f : Fault) → IsBeforeModules f → IsNoPolicyAt told path f → IsExplanation (sources path [] []) text f note → IsExplained told path f note
@@ -40,10 +46,8 @@ module _ (told : Told) (path note : List ℕ) where
     beside NoMemory before missing e = (missing, e)
 
     -- the files that its text lists
-    pub beside_explained : (f r : Fault) → IsBeforeModules f → IsNoPolicyAt told path f
-        → ((r ≡ f) × IsExplanation (sources path [] []) text f note) ⊎ ((r ≡ NoMemory) × (note ≡ [])) → IsExplained told path r note
-    beside_explained f r before missing (inl e) = subst (λ (x : Fault). IsExplained told path x note) (sym e.0) (beside f before missing e.1)
-    beside_explained f r before missing (inr e) = silent r e
+    pub beside_refused : (explain : Bool) (f r : Fault) → IsBeforeModules f → IsNoPolicyAt told path f → IsRefused explain (sources path [] []) text f r note → IsNoPolicyWith explain told path r note
+    beside_refused explain f r before missing = refused explain (sources path [] []) text f r missing (beside f before missing)
 
   -- ---- texts that say no policy
 
@@ -57,7 +61,10 @@ module _ (told : Told) (path note : List ℕ) where
     said_none (Run f) none e = absurd none
     said_none NoMemory none e = absurd none
 
-    pub said_explained : (f : Fault) → (SayNothing modules text f × IsExplanation (sources path files modules) text f note) ⊎ ((f ≡ NoMemory) × (note ≡ []))
-        → IsExplained told path f note
-    said_explained f (inl h) = said_none f h.0 h.1
-    said_explained f (inr h) = silent f h
+    explained : (f : Fault) → SayNoneLoaded modules text f → IsExplanation (sources path files modules) text f note → IsExplained told path f note
+    explained f (inl none) e = said_none f none e
+    explained f (inr is) e = silent true f is (subst (λ (x : Fault). IsExplanation (sources path files modules) text x note) is e)
+
+    pub texts_refused : (explain : Bool) (f r : Fault) → SayNoneLoaded modules text f → IsRefused explain (sources path files modules) text f r note → IsNoPolicyWith explain told path r note
+    texts_refused explain f r none =
+        refused explain (sources path files modules) text f r (not_said told path text modules (are.0, (files, are.1, are.2)) f none) (explained f none)

@@ -20,7 +20,7 @@ use Rattle.guard_files.specs.declared.fault.Fault.{Fault}
 use Rattle.guard_files.specs.declared.fault.Fault.TheVariants.{Policy, NoMemory}
 use Rattle.guard_files.specs.Faults.{StandsForPolicy, of_texts}
 use Rattle.guard_files.specs.Files.{Told}
-use Rattle.guard_files.specs.Reading.{AbstractLoaded, AreTexts, IsLoadedAt, IsNoPolicyAt, IsPolicyAt, SayLoaded, SayNothing, SayNoneLoaded}
+use Rattle.guard_files.specs.Reading.{AbstractLoaded, AreTexts, IsLoadedAt, IsNoPolicyAt, IsPolicyAt, SayLoaded, SayNoneLoaded}
 use Rattle.guard_files.proofs.Refusals.{say_nothing}
 
 module _ (texts : List (List ℕ)) (text : List ℕ) where

@@ -1,6 +1,6 @@
 -- What comes after the line of a fault where it is to be explained: the file, the line with a mark under the column,
 -- and what to do.
-use Rattle.std.specs.Prelude.{◌≡◌, ◌⊎◌, ℕ, List, [], ◌++◌, codes}
+use Rattle.std.specs.Prelude.{◌≡◌, ◌⊎◌, ℕ, Bool, true, false, List, [], ◌++◌, codes}
 use Rattle.guard_policy.specs.Loads.{ListsFiles}
 use Rattle.guard_notes.specs.Explaining.{IsSchemaNote, IsPolicyNote}
 use Rattle.guard_notes.specs.Sources.{AbstractSources, sources}
@@ -44,6 +44,12 @@ IsExplanation s text BadHex note = note ≡ hex_note
 IsExplanation s text (Run f) note = note ≡ []
 IsExplanation s text NoMemory note = note ≡ []
 
+-- A fault is refused as it is; or, where that is asked for, with what explains it, if there is memory for that.
+abbrev pub IsRefused : Bool → AbstractSources → List ℕ → Fault → Fault → List ℕ → Type 0
+IsRefused false s text f refused note = (refused ≡ f) × (note ≡ [])
+IsRefused true s text f refused note =
+    ((refused ≡ f) × IsExplanation s text f note) ⊎ ((refused ≡ NoMemory) × (note ≡ []))
+
 -- ---- why there is no policy at the path, with its explanation
 
 -- the policy at the path has this text and lists these files, and the modules beside it have these texts
@@ -65,6 +71,11 @@ IsExplained told path (TooLarge file) note = IsNoPolicyAt told path (TooLarge fi
 IsExplained told path BadHex note = IsNoPolicyAt told path BadHex × (note ≡ hex_note)
 IsExplained told path (Run f) note = IsNoPolicyAt told path (Run f) × (note ≡ [])
 IsExplained told path NoMemory note = IsNoPolicyAt told path NoMemory × (note ≡ [])
+
+-- so it is where that is asked for, and else there is no note
+abbrev pub IsNoPolicyWith : Bool → Told → List ℕ → Fault → List ℕ → Type 0
+IsNoPolicyWith false told path f note = IsNoPolicyAt told path f × (note ≡ [])
+IsNoPolicyWith true told path f note = IsExplained told path f note
 
 -- ---- what is written
 

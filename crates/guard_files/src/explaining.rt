@@ -1,7 +1,7 @@
 //! What comes after the line of a fault where it is to be explained.
-ghost use Rattle.std.specs.Prelude.{◌≡◌, ◌⊎◌, [], map, string_bytes, IfOk};
+ghost use Rattle.std.specs.Prelude.{◌≡◌, [], map, string_bytes, IfOk};
 ghost use Rattle.guard_notes.specs.Sources.{sources, sources_view};
-ghost use Rattle.guard_files.specs.Explaining.{IsExplanation, obstacle_line, unread_note};
+ghost use Rattle.guard_files.specs.Explaining.{IsExplanation, IsRefused, obstacle_line, unread_note};
 ghost use Rattle.guard_files.specs.declared.fault.Fault.TheVariants.{NoMemory};
 
 use crate::fault::Fault;
@@ -42,13 +42,24 @@ pub struct Refusal {
 }
 
 impl Refusal {
-    /// The fault, explained over these texts and that of the policy; or NoMemory without a word, where there is no
-    /// memory for that.
-    pub fn new(alloc: Global, sources: &Sources, policy: &[u8], fault: Fault) -> Refusal
-        ensures { ((result.fault ≡ fault)
-            × IsExplanation (sources_view sources.now) policy.now fault (string_bytes result.note))
-            ⊎ ((result.fault ≡ NoMemory) × (string_bytes result.note ≡ [])) }
+    /// The fault, explained over these texts and that of the policy where that is asked for; or NoMemory without a
+    /// word, where there is no memory to explain it.
+    pub fn new(
+        alloc: Global,
+        explain: bool,
+        sources: &Sources,
+        policy: &[u8],
+        fault: Fault,
+    ) -> Refusal
+        ensures { IsRefused explain (sources_view sources.now) policy.now fault result.fault
+            (string_bytes result.note) }
     {
+        if !explain {
+            return Refusal {
+                fault,
+                note: String::new(alloc),
+            };
+        }
         match explanation(alloc, sources, policy, &fault) {
             Ok(note) => Refusal { fault, note },
             Err(_) => Refusal::no_memory(alloc),

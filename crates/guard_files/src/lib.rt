@@ -41,14 +41,14 @@ mod word;
 pub use allowed::{allowing_octets, pass_note, value_of};
 pub use answer::{Answer, Remarked};
 pub use digest::digest_of;
-pub use explaining::{Refusal, sources_of, sources_of_path};
+pub use explaining::{Refusal, sources_of};
 pub use fault::Fault;
 pub use files::{Files, FilesFault, Obstacle};
 pub use frames::{new_frame_room, next_frame};
 pub use giving::{give, give_explained};
 pub use intake::{Unread, read_all};
 pub use loaded::Loaded;
-pub use loading::{load, load_explained, load_numbered, read_explained, said_by};
+pub use loading::{load, load_noted, load_numbered, read_noted, said_by};
 pub use octets::{add, add_line};
 pub use outputs::{
     FAILED, report, tell, tell_bad_record, tell_failed_read, tell_failed_write, tell_line,

@@ -1,5 +1,5 @@
 -- What is answered to `decide`: the verdict on a message, and what explains it.
-use Rattle.std.specs.Prelude.{◌≡◌, ℕ, List, ◌++◌, codes, Option, Some, None, Ok}
+use Rattle.std.specs.Prelude.{◌≡◌, ℕ, Bool, List, ◌++◌, codes, Option, Some, None, Ok}
 use Rattle.guard_syntax.specs.Trees.{WrittenModule}
 use Rattle.guard_schema.specs.Accepts.{ReadsModules}
 use Rattle.guard_policy.specs.Policies.{AbstractPolicy, AbstractRoute}
@@ -11,11 +11,10 @@ use Rattle.guard_frames.specs.Bodies.{AbstractBody}
 use Rattle.guard_frames.specs.Texts.{SayPolicy}
 use Rattle.guard_files.specs.Explaining.{AreTextsOf}
 use Rattle.guard_files.specs.Files.{Told}
-use Rattle.guard_files.specs.Reading.{IsPolicyAt}
 use Rattle.guard_files.specs.Answers.{AbstractAnswer}
 use Rattle.guard_messages.specs.HeaderNotes.{spot_note}
 use Rattle.guard_messages.specs.Questions.{AbstractSpot}
-use Rattle.guard_messages.specs.Reasons.{ExplainsVerdict}
+use Rattle.guard_messages.specs.Reasons.{NotesVerdict}
 use Rattle.guard_messages.specs.RuleTypes.{AbstractGrounds}
 
 -- 0 where the message passes
@@ -28,11 +27,11 @@ verdict_status (denied_by rule) = 1
 verdict_status (not_allowed rules) = 1
 verdict_status no_rule = 1
 
--- the text of the reason and a line feed
-abbrev pub IsVerdict : AbstractPolicy → AbstractRoute → List ℕ → AbstractAnswer → Type 0
-IsVerdict p route octets a =
-    (w : AbstractVerdict) × IsReason p route octets w × (a.out ≡ verdict_octets p route w ++ codes "\n")
-    × (a.status ≡ verdict_status w)
+-- the text of the reason and a line feed, and what comes below it
+abbrev pub IsVerdict : Bool → AbstractGrounds → AbstractPolicy → AbstractRoute → List ℕ → AbstractAnswer → Type 0
+IsVerdict explain g p route octets a =
+    (w : AbstractVerdict) × (note : List ℕ) × IsReason p route octets w × NotesVerdict explain g p route octets w note
+    × (a.out ≡ verdict_octets p route w ++ codes "\n" ++ note) × (a.status ≡ verdict_status w)
 
 abbrev pub body_route : AbstractBody → AbstractRoute
 body_route b = record { from = b.sender; to = b.receiver; message = b.name }
@@ -43,30 +42,18 @@ abbrev pub OfHeld : (AbstractRoute → List ℕ → AbstractAnswer → Type 0) �
 OfHeld IsAnswer (Some b) a = IsAnswer (body_route b) b.message_octets a
 OfHeld IsAnswer None a = (a.out ≡ codes "bad-header\n") × (a.status ≡ 1)
 
--- the verdict on it, under the policy at the path
-abbrev pub IsHeldDecided : Told → List ℕ → Option AbstractBody → AbstractAnswer → Type 0
-IsHeldDecided told path held a = (p : AbstractPolicy) × IsPolicyAt told path p × OfHeld (IsVerdict p) held a
-
--- the text of the reason and a line feed, and what explains it below
-abbrev pub IsExplainedVerdict : AbstractGrounds → AbstractPolicy → AbstractRoute → List ℕ → AbstractAnswer → Type 0
-IsExplainedVerdict g p route octets a =
-    (w : AbstractVerdict) × (note : List ℕ) × IsReason p route octets w × ExplainsVerdict g p route octets w note
-    × (a.out ≡ verdict_octets p route w ++ codes "\n" ++ note) × (a.status ≡ verdict_status w)
-
--- under the policy that these texts say, over the trees that those of the modules are
-abbrev pub IsExplainedOver : AbstractSources → List ℕ → Option AbstractBody → AbstractAnswer → Type 0
-IsExplainedOver s text held a =
-    (p : AbstractPolicy) × (ms : List WrittenModule) × SayPolicy s.modules text p × ReadsModules s.modules (Ok ms)
-    × OfHeld (IsExplainedVerdict (record { sources = s; modules = ms }) p) held a
+-- the verdict on it, under the policy that these texts say, over the trees that those of the modules are; and below it
+-- the names in the octets of a frame, or why they aren't there
+abbrev pub IsDecidedOver : Bool → AbstractSources → List ℕ → AbstractSpot → Option AbstractBody → List ℕ → AbstractAnswer
+    → Type 0
+IsDecidedOver explain s text spot held octets a =
+    (p : AbstractPolicy) × (ms : List WrittenModule) × (verdict : AbstractAnswer) × SayPolicy s.modules text p
+    × ReadsModules s.modules (Ok ms)
+    × OfHeld (IsVerdict explain (record { sources = s; modules = ms }) p) held verdict
+    × (a.out ≡ verdict.out ++ spot_note explain spot held octets) × (a.status ≡ verdict.status)
 
 -- under the policy at the path, over the texts that say it
-abbrev pub IsHeldExplained : Told → List ℕ → Option AbstractBody → AbstractAnswer → Type 0
-IsHeldExplained told path held a =
+abbrev pub IsHeldDecided : Bool → Told → List ℕ → AbstractSpot → Option AbstractBody → List ℕ → AbstractAnswer → Type 0
+IsHeldDecided explain told path spot held octets a =
     (text : List ℕ) × (files : List (List ℕ)) × (modules : List (List ℕ)) × AreTextsOf told path text files modules
-    × IsExplainedOver (sources path files modules) text held a
-
--- and below that the names in the octets of a frame, or why they aren't there
-abbrev pub IsFoundExplained : Told → List ℕ → AbstractSpot → Option AbstractBody → List ℕ → AbstractAnswer → Type 0
-IsFoundExplained told path spot held octets a =
-    (shown : AbstractAnswer) × IsHeldExplained told path held shown × (a.out ≡ shown.out ++ spot_note spot held octets)
-    × (a.status ≡ shown.status)
+    × IsDecidedOver explain (sources path files modules) text spot held octets a

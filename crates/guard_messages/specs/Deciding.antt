@@ -4,15 +4,15 @@ use Rattle.guard_policy.specs.Policies.{AbstractPolicy, AbstractRoute}
 use Rattle.guard_frames.specs.Bodies.{AbstractBody, body_in}
 use Rattle.guard_files.specs.Answers.{AbstractAnswer, Gives, GivesExplained}
 use Rattle.guard_files.specs.Devices.{Input, Device, IsUnread, IsUntouched}
-use Rattle.guard_files.specs.Explaining.{IsExplained}
+use Rattle.guard_files.specs.Explaining.{IsNoPolicyWith}
 use Rattle.guard_files.specs.Files.{Told}
 use Rattle.guard_files.specs.Bodies.{route_body}
 use Rattle.guard_files.specs.Reading.{IsPolicyAt, IsNoPolicyAt}
 use Rattle.guard_files.specs.Writing.{TellsText}
-use Rattle.guard_messages.specs.Decided.{IsHeldDecided, IsFoundExplained, OfHeld}
+use Rattle.guard_messages.specs.Decided.{IsHeldDecided}
 use Rattle.guard_messages.specs.Finding.{AnswersFound, CapturesFrame}
 use Rattle.guard_messages.specs.Questions.{AbstractQuestion, AbstractSpot, written, kept, framed, linked, asked_route, decide_spot, show_spot}
-use Rattle.guard_messages.specs.Shown.{ShowsIn}
+use Rattle.guard_messages.specs.Shown.{ShowsHeld}
 
 -- the message that the octets at a spot are on this route, or that they hold as the body of a frame
 abbrev pub held_in : AbstractRoute → AbstractSpot → List ℕ → Option AbstractBody
@@ -35,9 +35,8 @@ TellsUnasked input out err status = IsUnread input × IsUntouched out × TellsTe
 -- of the message that these octets hold, by whether it is to be explained
 abbrev pub GivesHeld : Bool → Told → List ℕ → AbstractSpot → Option AbstractBody → List ℕ → Device → Device → ℕ
     → Type 0
-GivesHeld false told path spot held octets = Gives (IsHeldDecided told path held) (IsNoPolicyAt told path)
-GivesHeld true told path spot held octets =
-    GivesExplained (IsFoundExplained told path spot held octets) (IsExplained told path)
+GivesHeld explain told path spot held octets =
+    GivesExplained (IsHeldDecided explain told path spot held octets) (IsNoPolicyWith explain told path)
 
 abbrev pub DecidesAt : Option AbstractSpot → Told → AbstractQuestion → Input → Device → Device → ℕ → Type 0
 DecidesAt (Some spot) told q input out err status =
@@ -54,7 +53,7 @@ Decides told q input out err status = DecidesAt (decide_spot q) told q input out
 -- under the policy at the path
 abbrev pub IsHeldShown : AbstractQuestion → Told → Option AbstractBody → AbstractAnswer → Type 0
 IsHeldShown q told held a =
-    (p : AbstractPolicy) × IsPolicyAt told q.policy p × OfHeld (ShowsIn q.json q.explain p) held a
+    (p : AbstractPolicy) × IsPolicyAt told q.policy p × ShowsHeld q.json q.explain p held a
 
 abbrev pub ShowsAt : Option AbstractSpot → Told → AbstractQuestion → Input → Device → Device → ℕ → Type 0
 ShowsAt (Some spot) told q input out err status =

@@ -1,6 +1,6 @@
 -- What is shown of the body of a frame: each name that stands in its place; and where it isn't three names and a message,
 -- why the next one is none, and the first octets.
-use Rattle.std.specs.Prelude.{ℕ, ◌||◌, List, [], ◌∷◌, ◌++◌, codes, decimal, length, take, drop, nat_eq, nat_lt, if◌then◌else◌, Option, Some, None, option_map}
+use Rattle.std.specs.Prelude.{ℕ, Bool, true, false, ◌||◌, List, [], ◌∷◌, ◌++◌, codes, decimal, length, take, drop, nat_eq, nat_lt, if◌then◌else◌, Option, Some, None, option_map}
 use Rattle.hex.specs.Hex.{encode_upper}
 use Rattle.guard_policy.specs.Names.{is_name}
 use Rattle.guard_frames.specs.Bodies.{AbstractBody}
@@ -76,9 +76,10 @@ abbrev pub frame_note : Option AbstractBody → List ℕ → List ℕ
 frame_note (Some b) body = name_lines parts body
 frame_note None body = header_note body
 
--- what is shown of the octets at a spot: those of digits or a file are no frame
-abbrev pub spot_note : AbstractSpot → Option AbstractBody → List ℕ → List ℕ
-spot_note (written digits) held octets = []
-spot_note (kept path) held octets = []
-spot_note (framed number) held octets = frame_note held octets
-spot_note (linked link number) held octets = frame_note held octets
+-- what is shown of the octets at a spot, to explain them: those of digits or a file are no frame
+abbrev pub spot_note : Bool → AbstractSpot → Option AbstractBody → List ℕ → List ℕ
+spot_note false spot held octets = []
+spot_note true (written digits) held octets = []
+spot_note true (kept path) held octets = []
+spot_note true (framed number) held octets = frame_note held octets
+spot_note true (linked link number) held octets = frame_note held octets

@@ -2,7 +2,7 @@
 -- with a mark, and the part that fails it; of a denying rule its type, where that is assigned, the lines of its
 -- constraints, and the value; of any other verdict that stops a message a sentence, and where no rule allows anything
 -- the rules that the message has; of a message that passes each rule that allows it.
-use Rattle.std.specs.Prelude.{◌≡◌, ℕ, List, [], ◌∷◌, ◌++◌, bytes_eq, codes, option_map, slice_get, Option, Some, None, if◌then◌else◌}
+use Rattle.std.specs.Prelude.{◌≡◌, ℕ, Bool, true, false, List, [], ◌∷◌, ◌++◌, bytes_eq, codes, option_map, slice_get, Option, Some, None, if◌then◌else◌}
 use Rattle.guard_model.specs.declared.site.Site.{Site}
 use Rattle.guard_model.specs.declared.site.Step.{Step}
 use Rattle.guard_model.specs.declared.site.Step.TheVariants.{Component, Element}
@@ -100,3 +100,9 @@ ExplainsVerdict g p route octets (not_allowed rs) note =
     OfValue p route.message octets (λ t v. note ≡ shortfall_lines g.sources t v rs)
 ExplainsVerdict g p route octets no_rule note =
     note ≡ codes "  No rule of the policy allows anything on this route.\n" ++ message_rules route.message p.rules
+
+-- so it is where that is asked for, and else there is no note
+abbrev pub NotesVerdict : Bool → AbstractGrounds → AbstractPolicy → AbstractRoute → List ℕ → AbstractVerdict → List ℕ
+    → Type 0
+NotesVerdict false g p route octets w note = note ≡ []
+NotesVerdict true g p route octets w note = ExplainsVerdict g p route octets w note

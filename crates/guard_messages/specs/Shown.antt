@@ -1,6 +1,6 @@
 -- What is answered to `show`: the value that the octets of a message encode, as ASN.1 writes it, or how far they are an
 -- encoding; or that value as JSON.
-use Rattle.std.specs.Prelude.{◌≡◌, ◌⊎◌, ℕ, Bool, true, false, List, [], ◌++◌, codes, IsTrue, Some, None}
+use Rattle.std.specs.Prelude.{◌≡◌, ◌⊎◌, ℕ, Bool, true, false, List, [], ◌++◌, codes, IsTrue, Option, Some, None}
 use Rattle.guard_model.specs.AbstractType.{AbstractType}
 use Rattle.guard_model.specs.AbstractValue.{AbstractValue}
 use Rattle.guard_der.specs.Breach.{AbstractBreach, IsBreach}
@@ -10,9 +10,12 @@ use Rattle.json.specs.Print.{print}
 use Rattle.guard_policy.specs.Policies.{AbstractPolicy, AbstractRoute, declared_type}
 use Rattle.guard_policy.specs.Verdicts.{AbstractVerdict, unknown_message, undecodable}
 use Rattle.guard_report.specs.Text.{verdict_octets}
+use Rattle.guard_frames.specs.Bodies.{AbstractBody}
+use Rattle.guard_json.specs.Objects.{json_line}
 use Rattle.guard_report.specs.Shown.{AbstractShown, shown_value, shown_undecodable, value_shown, breach_shown}
 use Rattle.guard_files.specs.Allowed.{OfValue}
 use Rattle.guard_files.specs.Answers.{AbstractAnswer}
+use Rattle.guard_messages.specs.Decided.{OfHeld, body_route}
 use Rattle.guard_messages.specs.PartsBefore.{AreLinesBefore}
 use Rattle.guard_messages.specs.ValueJson.{value_json}
 
@@ -55,15 +58,24 @@ HasNoValue p message octets w =
     ⊎ ((t : AbstractType) × (b : AbstractBreach) × (declared_type p message ≡ Some t) × IsBreach t octets b
     × (w ≡ undecodable b))
 
+-- a line of its own, as an object with the fields of the line
+abbrev pub on_a_line : List ℕ → List ℕ
+on_a_line line = json_line line ++ codes "\n"
+
 -- the value on a line; where there is none, the text of the verdict, as `decide` has it
 abbrev pub ShowsJson : AbstractPolicy → AbstractRoute → List ℕ → AbstractAnswer → Type 0
 ShowsJson p route octets a =
     OfValue p route.message octets
     (λ t v. (a.out ≡ print (value_json (Some t) v) ++ codes "\n") × (a.status ≡ 0))
-    ⊎ ((w : AbstractVerdict) × HasNoValue p route.message octets w × (a.out ≡ verdict_octets p route w ++ codes "\n")
+    ⊎ ((w : AbstractVerdict) × HasNoValue p route.message octets w × (a.out ≡ on_a_line (verdict_octets p route w))
     × (a.status ≡ 1))
 
+-- of what is held, where a frame that isn't three names and a message is said to be none
+abbrev pub ShowsHeldJson : AbstractPolicy → Option AbstractBody → AbstractAnswer → Type 0
+ShowsHeldJson p (Some b) a = ShowsJson p (body_route b) b.message_octets a
+ShowsHeldJson p None a = (a.out ≡ on_a_line (codes "bad-header")) × (a.status ≡ 1)
+
 -- by whether that is asked for, and whether octets that break the rules are to be explained
-abbrev pub ShowsIn : Bool → Bool → AbstractPolicy → AbstractRoute → List ℕ → AbstractAnswer → Type 0
-ShowsIn true explain p route octets = ShowsJson p route octets
-ShowsIn false explain p route octets = ShowsMessage explain p route.message octets
+abbrev pub ShowsHeld : Bool → Bool → AbstractPolicy → Option AbstractBody → AbstractAnswer → Type 0
+ShowsHeld true explain p held = ShowsHeldJson p held
+ShowsHeld false explain p held = OfHeld (λ route octets. ShowsMessage explain p route.message octets) held

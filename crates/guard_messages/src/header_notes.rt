@@ -20,16 +20,21 @@ const LONGEST: usize = 63;
 /// How many octets of a body are shown.
 const SHOWN: usize = 59;
 
-/// What is shown of the octets at the spot: of those in digits or a file nothing, since they are no frame.
+/// What is shown of the octets at the spot, to explain them: of those in digits or a file nothing, since they are no
+/// frame.
 pub fn spot_note(
     alloc: Global,
+    explain: bool,
     spot: &Spot,
     held: Option<Body>,
     octets: &[u8],
 ) -> Result<Vec<u8>, OutOfMemory>
     ensures { IfOk result (λ note. note.items
-        ≡ spot_note (spot_view spot.now) (option_map body_view held.entry) octets.now) }
+        ≡ spot_note explain (spot_view spot.now) (option_map body_view held.entry) octets.now) }
 {
+    if !explain {
+        return Ok(Vec::new(alloc));
+    }
     match spot {
         Spot::Written(_) | Spot::Kept(_) => Ok(Vec::new(alloc)),
         Spot::Framed(_) | Spot::Linked(_, _) => frame_note(alloc, held, octets),

@@ -5,14 +5,13 @@ ghost use Rattle.guard_frames.specs.Bodies.{body_view};
 ghost use Rattle.guard_files.specs.Answers.{answer_view};
 ghost use Rattle.guard_files.specs.Bodies.{route_body};
 ghost use Rattle.guard_files.specs.Reading.{IsNoPolicyAt};
-ghost use Rattle.guard_messages.specs.Decided.{body_route, IsHeldDecided, IsVerdict, OfHeld};
+ghost use Rattle.guard_messages.specs.Decided.{body_route, OfHeld};
 ghost use Rattle.guard_messages.specs.Deciding.{held_in, IsHeldShown};
 ghost use Rattle.guard_messages.specs.Questions.{question_view, asked_route, spot_view};
-ghost use Rattle.guard_messages.specs.Shown.{ShowsIn};
+ghost use Rattle.guard_messages.specs.Shown.{ShowsHeld, ShowsHeldJson, ShowsMessage};
 
-use crate::deciding::verdict_on;
 use crate::question::{Question, Spot};
-use crate::values::{show_json, show_octets};
+use crate::values::{on_a_line, show_json, show_octets};
 use guard_files::{Answer, Fault, Files, load};
 use guard_frames::{Body, read_body};
 use guard_model::OutOfMemory;
@@ -79,31 +78,6 @@ pub fn bad_header(alloc: Global) -> Result<Answer, OutOfMemory>
     Ok(Answer { out, status: 1 })
 }
 
-/// The verdict on a message that is held, under the policy at the path.
-pub fn decide_held<F: Files>(
-    alloc: Global,
-    path: &str,
-    held: Option<Body>,
-    files: &mut F,
-) -> Result<Answer, Fault>
-    ensures decided { IfOk result (λ a. IsHeldDecided (F.told files.old) path.now (option_map body_view held.entry)
-        (answer_view a)) }
-    ensures none { IfErr result (IsNoPolicyAt (F.told files.old) path.now) }
-{
-    let policy = load(alloc, path, files)?;
-    Ok(verdict_answer(alloc, &policy, held)?)
-}
-
-fn verdict_answer(alloc: Global, policy: &Policy, held: Option<Body>) -> Result<Answer, OutOfMemory>
-    ensures { IfOk result (λ a. OfHeld (IsVerdict (policy_view policy.now)) (option_map body_view held.entry)
-        (answer_view a)) }
-{
-    match held {
-        Some(body) => verdict_on(alloc, policy, &route_in(&body), body.message_octets),
-        None => bad_header(alloc),
-    }
-}
-
 /// The value of a message that is held, under the policy at the path.
 pub fn show_held<F: Files>(
     alloc: Global,
@@ -125,36 +99,39 @@ fn shown_answer(
     question: &Question,
     held: Option<Body>,
 ) -> Result<Answer, OutOfMemory>
-    ensures { IfOk result (λ a. OfHeld
-        (ShowsIn (question_view question.now).json (question_view question.now).explain (policy_view policy.now))
-        (option_map body_view held.entry) (answer_view a)) }
+    ensures { IfOk result (λ a. ShowsHeld (question_view question.now).json (question_view question.now).explain
+        (policy_view policy.now) (option_map body_view held.entry) (answer_view a)) }
 {
-    match held {
-        Some(body) => show_body(alloc, policy, question, &body),
-        None => bad_header(alloc),
+    if question.json {
+        as_json(alloc, policy, held)
+    } else {
+        in_notation(alloc, policy, held, question.explain)
     }
 }
 
-/// The value of a message, as JSON where that is asked for.
-fn show_body(
-    alloc: Global,
-    policy: &Policy,
-    question: &Question,
-    body: &Body,
-) -> Result<Answer, OutOfMemory>
-    ensures { IfOk result (λ a. ShowsIn (question_view question.now).json (question_view question.now).explain
-        (policy_view policy.now) (body_route (body_view body.now)) (body_view body.now).message_octets
+fn as_json(alloc: Global, policy: &Policy, held: Option<Body>) -> Result<Answer, OutOfMemory>
+    ensures { IfOk result (λ a. ShowsHeldJson (policy_view policy.now) (option_map body_view held.entry)
         (answer_view a)) }
 {
-    if question.json {
-        show_json(alloc, policy, &route_in(body), body.message_octets)
-    } else {
-        show_octets(
-            alloc,
-            policy,
-            body.name,
-            body.message_octets,
-            question.explain,
-        )
+    match held {
+        Some(body) => show_json(alloc, policy, &route_in(&body), body.message_octets),
+        None => on_a_line(alloc, b"bad-header"),
+    }
+}
+
+/// As ASN.1 writes it.
+fn in_notation(
+    alloc: Global,
+    policy: &Policy,
+    held: Option<Body>,
+    explain: bool,
+) -> Result<Answer, OutOfMemory>
+    ensures { IfOk result (λ a.
+        OfHeld (λ route octets. ShowsMessage explain (policy_view policy.now) route.message octets)
+        (option_map body_view held.entry) (answer_view a)) }
+{
+    match held {
+        Some(body) => show_octets(alloc, policy, body.name, body.message_octets, explain),
+        None => bad_header(alloc),
     }
 }

@@ -1,6 +1,5 @@
 //! What becomes of one message, and its value, wherever its octets are.
-ghost use Rattle.std.specs.Prelude.{◌≡◌, false, option_map, IfOk, IfErr};
-ghost use Rattle.guard_frames.specs.Bodies.{body_view};
+ghost use Rattle.std.specs.Prelude.{false, IfOk, IfErr};
 ghost use Rattle.guard_files.specs.Answers.{Gives};
 ghost use Rattle.guard_files.specs.Devices.{source_of, device_of, IsUntouched};
 ghost use Rattle.guard_files.specs.Files.{Told};
@@ -11,13 +10,13 @@ ghost use Rattle.guard_files.specs.Writing.{Writes};
 ghost use Rattle.guard_messages.specs.Finding.{AnswersFound, TellsUnfound};
 ghost use Rattle.guard_messages.specs.Questions.{question_view, asked_route, show_spot, spot_view};
 
-use crate::deciding::explain_found;
+use crate::deciding::decide_held;
 use crate::finding::{find, frame_of_link, frame_of_number};
-use crate::holding::{decide_held, held_in, route_asked, show_held};
+use crate::holding::{held_in, route_asked, show_held};
 use crate::question::{Question, Spot};
 use crate::unfound::{Unfound, tell_unfound};
 use guard_files::{Files, give, give_explained, tell_text, write};
-use guard_frames::{Body, Sink, Source};
+use guard_frames::{Sink, Source};
 use std::alloc::Global;
 
 /// What is said where the words don't say where a message is.
@@ -161,41 +160,11 @@ fn decide_found<F: Files, S: Source, O: Sink, E: Sink>(
         Ok(octets) => {
             let route = route_asked(question);
             let held = held_in(route.from, route.to, route.message, spot, &octets);
-            give_held(alloc, question, spot, held, &octets, files, out, err)
+            let (path, explain) = (question.policy, question.explain);
+            let decided = decide_held(alloc, path, explain, spot, held, &octets, files);
+            give_explained(alloc, decided, out, err)
         }
         Err(reason) => tell_unfound(alloc, question.explain, &reason, err),
-    }
-}
-
-/// Says what becomes of a message that is held by the octets at the spot.
-fn give_held<F: Files, O: Sink, E: Sink>(
-    alloc: Global,
-    question: &Question,
-    spot: &Spot,
-    held: Option<Body>,
-    octets: &[u8],
-    files: &mut F,
-    out: &mut O,
-    err: &mut E,
-) -> u8
-    ensures { GivesHeld (question_view question.now).explain (F.told files.old) (question_view question.now).policy
-        (spot_view spot.now) (option_map body_view held.entry) octets.now (device_of O.taken O.has_failed out.old out.new)
-        (device_of E.taken E.has_failed err.old err.new) result }
-{
-    if question.explain {
-        give_explained(
-            alloc,
-            explain_found(alloc, question.policy, spot, held, octets, files),
-            out,
-            err,
-        )
-    } else {
-        give(
-            alloc,
-            decide_held(alloc, question.policy, held, files),
-            out,
-            err,
-        )
     }
 }
 

@@ -13,7 +13,7 @@ ghost use Rattle.guard_notes.specs.Marking.{columns};
 ghost use Rattle.guard_messages.specs.RuleTypes.{grounds_view};
 ghost use Rattle.guard_messages.specs.Reasons.{message_rules, step_name, name_at, name_before, part_shown, part_line};
 ghost use Rattle.guard_messages.specs.Reasons.{violation_lines, shortfall_lines, lines_of_places};
-ghost use Rattle.guard_messages.specs.Reasons.{denied_lines, ExplainsVerdict};
+ghost use Rattle.guard_messages.specs.Reasons.{denied_lines, NotesVerdict};
 ghost use Rattle.guard_notes.specs.declared.notes.Place.TheVariants.{At};
 
 use crate::message_rules::message_rules;
@@ -26,10 +26,11 @@ use guard_policy::{Policy, Route, SaidRule, Verdict};
 use guard_report::{part_text, type_at};
 use std::alloc::Global;
 
-/// What comes below the text of the verdict, which is the policy's on these octets. It fails only where memory runs
-/// out.
+/// What comes below the text of the verdict, which is the policy's on these octets, to explain it. It fails only where
+/// memory runs out.
 pub fn verdict_note(
     alloc: Global,
+    explain: bool,
     grounds: &Grounds,
     policy: &Policy,
     route: &Route,
@@ -37,9 +38,12 @@ pub fn verdict_note(
     verdict: &Verdict,
 ) -> Result<Vec<u8>, OutOfMemory>
     requires { IsReason (policy_view policy.now) (route_view route.now) octets.now (verdict_view verdict.now) }
-    ensures { IfOk result (λ note. ExplainsVerdict (grounds_view grounds.now) (policy_view policy.now)
+    ensures { IfOk result (λ note. NotesVerdict explain (grounds_view grounds.now) (policy_view policy.now)
         (route_view route.now) octets.now (verdict_view verdict.now) note.items) }
 {
+    if !explain {
+        return Ok(Vec::new(alloc));
+    }
     match verdict {
         Verdict::Pass => pass_note(alloc, policy, route, octets),
         Verdict::UnknownMessage => sentence(

@@ -9,7 +9,8 @@ ghost use Rattle.guard_policy.specs.Verdicts.{verdict_view};
 ghost use Rattle.guard_report.specs.Text.{verdict_octets};
 ghost use Rattle.guard_report.specs.Shown.{shown_view};
 ghost use Rattle.guard_files.specs.Answers.{answer_view};
-ghost use Rattle.guard_messages.specs.Shown.{shown_octets, shown_status, ComesBefore, ShowsJson, ShowsMessage};
+ghost use Rattle.guard_messages.specs.Shown.{on_a_line, shown_octets, shown_status, ComesBefore, ShowsJson};
+ghost use Rattle.guard_messages.specs.Shown.{ShowsMessage};
 ghost use Rattle.guard_messages.specs.ValueJson.{value_json};
 
 use crate::parts_before::lines_before;
@@ -17,6 +18,7 @@ use crate::value_json::value_json;
 use guard_der::laws::law_one_answer;
 use guard_der::{DecodeFault, decode};
 use guard_files::{Answer, add};
+use guard_json::json_line;
 use guard_model::{OutOfMemory, Ty, Value};
 use guard_policy::{Policy, Route, Verdict};
 use guard_report::{Shown, shown_text, verdict_text};
@@ -85,7 +87,7 @@ fn ended(lines: Vec<u8>, text: &[u8], status: u8) -> Result<Answer, OutOfMemory>
 
 // ---- as JSON
 
-/// The value of the octets of a message on this route as JSON, or the text of the verdict that they have none.
+/// The value of the octets of a message on this route as JSON, or the line of the verdict that they have none.
 pub fn show_json(
     alloc: Global,
     policy: &Policy,
@@ -116,7 +118,7 @@ fn json_answer(alloc: Global, ty: &Ty, value: &Value) -> Result<Answer, OutOfMem
     Ok(Answer { out, status: 0 })
 }
 
-/// The text of the verdict and a line feed, with status 1.
+/// The text of the verdict on a line, with status 1.
 fn without_value(
     alloc: Global,
     policy: &Policy,
@@ -124,10 +126,18 @@ fn without_value(
     verdict: Verdict,
 ) -> Result<Answer, OutOfMemory>
     ensures { IfOk result (λ a. (a.out.items
-        ≡ verdict_octets (policy_view policy.now) (route_view route.now) (verdict_view verdict) ++ codes "\n")
+        ≡ on_a_line (verdict_octets (policy_view policy.now) (route_view route.now) (verdict_view verdict)))
         × (a.status ≡ 1)) }
 {
-    let mut out = verdict_text(alloc, &verdict, route, policy)?;
+    let text = verdict_text(alloc, &verdict, route, policy)?;
+    on_a_line(alloc, &text)
+}
+
+/// The line as an object and a line feed, with status 1.
+pub fn on_a_line(alloc: Global, line: &[u8]) -> Result<Answer, OutOfMemory>
+    ensures { IfOk result (λ a. (a.out.items ≡ on_a_line line.now) × (a.status ≡ 1)) }
+{
+    let mut out = json_line(alloc, line)?;
     add(&mut out, b"\n")?;
     Ok(Answer { out, status: 1 })
 }

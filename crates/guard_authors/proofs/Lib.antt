@@ -1,6 +1,4 @@
 pub mod ListingLaws
-pub mod ValueLexemes
-pub mod AssignedTrees
 pub mod WrittenValues
 pub mod CasesFound
 pub mod TriedCases

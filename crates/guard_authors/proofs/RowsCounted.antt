@@ -1,6 +1,6 @@
 -- The rows of frames, counted one after another.
 use Rattle.std.proofs.Common.{◌≡◌, ◌∙◌, ◌+◌, ◌<◌, ◌≤◌, ◌||◌, inr, ℕ, Bool, true, false, true≢false, cond, List, [], ◌∷◌, ◌++◌, ap, refl, sym, subst, length, drop, set, get_or, replicate, arith, append_assoc}
-use Rattle.std.specs.Prelude.{nat_eq, slice_get, unwrap_or, Option, Some, None, Result, Ok, Err, OnOk}
+use Rattle.std.specs.Prelude.{nat_eq, Option, Some, None, Result, Ok, Err, OnOk}
 use Rattle.std.proofs.lemmas.Grind.{get_or_default_zero}
 use Rattle.std.specs.List.{count_by, list_any}
 use Rattle.std.proofs.lemmas.Bool.{eqb-true, eqb-false}
@@ -9,15 +9,17 @@ use Rattle.std.proofs.lemmas.List.Sums.{sum_by_push}
 use Rattle.guard_eval.specs.Violations.{AbstractViolation, violation}
 use Rattle.guard_model.specs.AbstractType.{AbstractType}
 use Rattle.guard_model.specs.AbstractValue.{AbstractValue}
+use Rattle.guard_reader.specs.declared.marks.Marks.{Marks}
 use Rattle.guard_policy.specs.Consistency.{IsConsistent}
-use Rattle.guard_policy.specs.Decisions.{IsReason, NumberedRule, allows, by_allowing, by_rules, first_denying, is_allowing, judged, rules_of, shortfalls}
+use Rattle.guard_policy.specs.Decisions.{Goes, IsReason, NumberedRule, allows, by_allowing, by_rules, first_allowing, first_denying, is_allowing, judged, rules_of, shortfalls}
 use Rattle.guard_policy.specs.Policies.{AbstractPolicy, AbstractRoute}
 use Rattle.guard_policy.specs.Verdicts.{AbstractVerdict, pass, denied_by, not_allowed, no_rule, outside_type}
+use Rattle.guard_policy.specs.Told.{AreMarksOf}
+use Rattle.guard_policy.proofs.Goes.{passes_from_goes}
 use Rattle.guard_policy.proofs.OneReason.{one_reason}
 use Rattle.guard_frames.specs.Bodies.{AbstractBody, body_in}
 use Rattle.guard_frames.specs.OfPolicy.{route_of}
 use Rattle.guard_frames.specs.Totals.{later}
-use Rattle.guard_files.specs.Allowed.{OfValue, allowing}
 use Rattle.guard_authors.specs.declared.summary.Counts.{Counts}
 use Rattle.guard_authors.specs.declared.summary.Row.{Row}
 use Rattle.guard_authors.specs.declared.summary.Row.TheVariants.{Rule, Reason}
@@ -227,43 +229,23 @@ judged_allowed t rules v e =
     allowed (some_allows rules v) (list_any (λ r. is_allowing r.rule) rules) (shortfalls rules v)
     (undenied (first_denying rules v) (by_allowing rules v) (unviolated (violation t v) (by_rules rules v) e))
 
-none_listed : (rules : List NumberedRule) (v : AbstractValue) → allowing rules v ≡ [] → some_allows rules v ≡ false
-none_listed [] v e = refl
-none_listed (r ∷ rs) v e =
-    (elim (allows r.rule v) as (λ b. cond b (r.number ∷ allowing rs v) (allowing rs v) ≡ [] → (b || some_allows rs v) ≡ false) [
+none_allows : (rules : List NumberedRule) (v : AbstractValue) → first_allowing rules v ≡ None → some_allows rules v ≡ false
+none_allows [] v e = refl
+none_allows (r ∷ rs) v e =
+    (elim (allows r.rule v) as (λ b. cond b (Some r.number) (first_allowing rs v) ≡ None → (b || some_allows rs v) ≡ false) [
       | true ↦ λ is. absurd cc
-      | false ↦ λ is. none_listed rs v is
+      | false ↦ λ is. none_allows rs v is
     ]) e
 
-pub some_listed : (p : AbstractPolicy) (route : AbstractRoute) (octets numbers : List ℕ) → IsConsistent p.messages p.rules
-    → IsReason p route octets pass → OfValue p route.message octets (λ t v. numbers ≡ allowing (rules_of p route) v)
-    → numbers ≡ [] → ⊥
-some_listed p route octets numbers ok reason (t, v, declared, fitting, encoded, are) none =
-    let e : pass ≡ judged t (rules_of p route) v =
-    one_reason p route octets pass (judged t (rules_of p route) v) ok reason (inr (t, declared, inr (v, fitting, encoded, refl))) in
-    true≢false (sym (judged_allowed t (rules_of p route) v (sym e)) ∙ none_listed (rules_of p route) v (sym are ∙ none))
+pub first_there : (p : AbstractPolicy) (route : AbstractRoute) (octets : List ℕ) (marks : Marks) → IsConsistent p.messages p.rules → Goes p route octets
+    → (are : AreMarksOf p route.message octets marks) → first_allowing (rules_of p route) are.value ≡ None → ⊥
+first_there p route octets marks ok goes are none =
+    let rules = rules_of p route in
+    let e : pass ≡ judged are.ty rules are.value =
+    one_reason p route octets pass (judged are.ty rules are.value) ok (passes_from_goes p route octets goes)
+    (inr (are.ty, are.declared, inr (are.value, are.fitting, are.encoded, refl))) in
+    true≢false (sym (judged_allowed are.ty rules are.value (sym e)) ∙ none_allows rules are.value none)
 
--- the first of the numbers, as the code reads it
-
-nothing_first : (numbers : List ℕ) → slice_get numbers 0 ≡ None → numbers ≡ []
-nothing_first [] e = refl
-nothing_first (i ∷ others) e = absurd cc
-
-something_first : (numbers : List ℕ) (i : ℕ) → slice_get numbers 0 ≡ Some i → (others : List ℕ) × (numbers ≡ i ∷ others)
-something_first [] i e = absurd cc
-something_first (j ∷ others) i e = (others, ap (λ k. k ∷ others) (ap (λ o. unwrap_or o j) e))
-
-pub none_first : (numbers slice : List ℕ) (first : Option ℕ) → slice ≡ numbers → first ≡ slice_get slice 0 → first ≡ None → numbers ≡ []
-none_first numbers slice first same read none =
-    nothing_first numbers (ap (λ s. slice_get s 0) (sym same) ∙ sym read ∙ none)
-
-pub some_first : (numbers slice : List ℕ) (first : Option ℕ) (i : ℕ) → slice ≡ numbers → first ≡ slice_get slice 0 → first ≡ Some i
-    → (others : List ℕ) × (numbers ≡ i ∷ others)
-some_first numbers slice first i same read is =
-    something_first numbers i (ap (λ s. slice_get s 0) (sym same) ∙ sym read ∙ is)
-
-pub first_listed : (p : AbstractPolicy) (route : AbstractRoute) (octets numbers others : List ℕ) (i : ℕ)
-    → OfValue p route.message octets (λ t v. numbers ≡ allowing (rules_of p route) v)
-    → numbers ≡ i ∷ others → IsRow p route octets pass (Rule i)
-first_listed p route octets numbers others i (t, v, declared, fitting, encoded, are) first =
-    (t, v, declared, fitting, encoded, (i, others, sym are ∙ first, refl))
+pub first_row : (p : AbstractPolicy) (route : AbstractRoute) (octets : List ℕ) (marks : Marks) (i : ℕ) (are : AreMarksOf p route.message octets marks)
+    → first_allowing (rules_of p route) are.value ≡ Some i → IsRow p route octets pass (Rule i)
+first_row p route octets marks i are first = (are.ty, are.value, are.declared, are.fitting, are.encoded, (i, first, refl))

@@ -1,17 +1,14 @@
 -- From the tokens of a text to the value that it writes, or to why it writes none.
-use Rattle.std.proofs.Common.{◌≡◌, ◌≢◌, ◌∙◌, ℕ, true, true≢false, ap, refl, sym, subst, List, [], ◌∷◌, Option, Some, None, Result, Ok, Err, arith, length, get_or}
+use Rattle.std.proofs.Common.{◌≡◌, ◌≢◌, ℕ, List, Result, Ok, Err}
 use Rattle.std.specs.Prelude.{IfSome}
-use Rattle.std.specs.Option.{is_some}
 use Rattle.guard_model.specs.Answer.{Refuses}
-use Rattle.guard_model.specs.declared.site.Site.{Site}
 use Rattle.guard_model.specs.AbstractType.{AbstractType}
 use Rattle.guard_model.specs.AbstractValue.{AbstractValue}
 use Rattle.guard_lexer.specs.Lexing.{Lexes}
 use Rattle.guard_lexer.specs.declared.token.Token.{Token}
 use Rattle.guard_syntax.specs.Lexemes.{lexemes_of, sites_of}
-use Rattle.guard_syntax.specs.Parses.{IsWritten, HasSites}
-use Rattle.guard_syntax.specs.Sites.{sited}
-use Rattle.guard_syntax.specs.Trees.{WrittenModule, WrittenValue}
+use Rattle.guard_syntax.specs.Parses.{IsWrittenValue, value_sited}
+use Rattle.guard_syntax.specs.Trees.{WrittenValue}
 use Rattle.guard_values.specs.Denotes.{Denotes}
 use Rattle.guard_values.specs.Meanings.{Meaning}
 use Rattle.guard_values.specs.Views.{named}
@@ -27,35 +24,10 @@ use Rattle.guard_values.specs.FirstFault.{IsFirstFault}
 use Rattle.guard_files.specs.declared.fault.Fault.{Fault}
 use Rattle.guard_files.specs.declared.fault.Fault.TheVariants.{BadHex, CannotRead, TooLarge, Schema, Policy, Run, NoMemory}
 use Rattle.guard_authors.specs.ValueTexts.{HaveNoTree, IsNoValue, IsWrittenAs, OfText}
-use Rattle.guard_authors.specs.inside.Assigned.{assigned, sites_around, AssignsOne, IsLexFault, IsSyntaxFault, IsUnexpected, IsValueFault, place_of, syntax_refusal, value_refusal}
-use Rattle.guard_authors.proofs.AssignedTrees.{module_of, module_written, one_assigned, value_assigned}
-
--- the tree that the module assigns is written as the text
-pub is_written_as : (text : List ℕ) (tokens : List Token) (m : WrittenModule) (tree : WrittenValue) (end : Site) → Lexes 1 text tokens → IsWritten m (assigned (lexemes_of text tokens))
-    → HasSites m (sites_around (sites_of tokens) end) → AssignsOne m tree → IsWrittenAs text tree
-is_written_as text tokens m tree end lexed w h one =
-    let a = value_assigned m tree (lexemes_of text tokens) (sites_of tokens) end w h one in
-    record { tokens = tokens; lexed = lexed; grammar = a.grammar; written = a.written; behind = end ∷ []; sited = a.placed }
+use Rattle.guard_authors.specs.inside.TextFaults.{IsLexFault, IsSyntaxFault, IsValueFault, syntax_refusal, value_refusal}
 
 pub is_read_as : (m : Meaning) (t : AbstractType) (text : List ℕ) (tree : WrittenValue) (v : AbstractValue) → IsWrittenAs text tree → Denotes m t tree v → IsReadAs m t text v
-is_read_as m t text tree v w d = record {
-  place = 1;
-  tokens = w.tokens;
-  lexed = w.lexed;
-  tree = tree;
-  grammar = w.grammar;
-  written = w.written;
-  denoted = d;
-}
-
--- where the module that is read doesn't assign one value, no value is written with the tokens
-pub none_assigned : (text : List ℕ) (tokens : List Token) (m : WrittenModule)
-    → ((w : WrittenModule) → IsWritten w (assigned (lexemes_of text tokens)) → (ss : List Site) × (m ≡ sited w ss))
-    → ((tree : WrittenValue) → AssignsOne m tree → ⊥) → HaveNoTree text tokens
-none_assigned text tokens m only none tree g e =
-    let is = only (module_of tree) (module_written tree (lexemes_of text tokens) g e) in
-    let one = one_assigned tree is.0 m is.1 in
-    none one.0 one.1
+is_read_as m t text tree v w d = record { place = 1; tokens = w.tokens; lexed = w.lexed; tree = tree; written = w.written; denoted = d }
 
 -- ---- faults
 
@@ -92,13 +64,6 @@ syntax_fault m t text tokens lexed (DefaultOutside site) h = absurd h
 syntax_fault m t text tokens lexed (TooLarge site) h = absurd h
 syntax_fault m t text tokens lexed OutOfMemory h = absurd h
 
--- what has a place isn't that memory ran out
-pub has_place : (f : SyntaxFault) → is_some (place_of f) ≡ true → f ≢ trees.OutOfMemory
-has_place f some is = true≢false (sym some ∙ ap (λ (g : SyntaxFault). is_some (place_of g)) is)
-
-pub unexpected_fault : (m : Meaning) (t : AbstractType) (text : List ℕ) (tokens : List Token) → Lexes 1 text tokens → HaveNoTree text tokens → (g : SchemaFault) → IsUnexpected g → IsNoValue m t text g
-unexpected_fault m t text tokens lexed none g h = subst (IsNoValue m t text) (sym h.1) (has_place (trees.Unexpected h.0) refl, (tokens, lexed, none))
-
 pub value_fault : (m : Meaning) (t : AbstractType) (text : List ℕ) (tree : WrittenValue) → IsWrittenAs text tree → (g : SchemaFault) → IsValueFault m t tree g → IsNoValue m t text g
 value_fault m t text tree w (Lex f) h = absurd h
 value_fault m t text tree w (Syntax f) h = absurd h
@@ -112,7 +77,7 @@ value_fault m t text tree w (TooLarge site) h = absurd h
 value_fault m t text tree w OutOfMemory h = absurd h
 
 -- what the calls of the layers refuse
-same_answer : {F : Type 0} {f : F} {x : WrittenModule} → ◌≡◌ {A = Result WrittenModule F} (Ok x) (Err f) → ⊥
+same_answer : {F : Type 0} {f : F} {x : WrittenValue} → ◌≡◌ {A = Result WrittenValue F} (Ok x) (Err f) → ⊥
 same_answer e = absurd cc
 
 pub value_refused : (m : Meaning) (t : AbstractType) (tree : WrittenValue) (e : ValueFault) → IfSome (named e) (IsFirstFault m t tree) → OfText (IsValueFault m t tree) (value_refusal e)
@@ -127,19 +92,9 @@ value_refused m t tree (values.TooLarge site) h = h
 value_refused m t tree values.OutOfMemory h = tt
 
 pub syntax_refused : (text : List ℕ) (tokens : List Token) (e : SyntaxFault)
-    → ((w : WrittenModule) → IsWritten w (assigned (lexemes_of text tokens)) → (x : WrittenModule) × Refuses (fault_of e) (Ok x))
+    → ((v : WrittenValue) → IsWrittenValue v (lexemes_of text tokens) → Refuses {Y = WrittenValue} (fault_of e) (Ok (value_sited v (sites_of tokens))))
     → OfText (IsSyntaxFault text tokens) (syntax_refusal e)
-syntax_refused text tokens (trees.Unexpected site) h = (has_place (trees.Unexpected site) refl, λ tree g e. same_answer (h (module_of tree) (module_written tree (lexemes_of text tokens) g e)).1)
-syntax_refused text tokens (trees.Unsupported word site) h = (has_place (trees.Unsupported word site) refl, λ tree g e. same_answer (h (module_of tree) (module_written tree (lexemes_of text tokens) g e)).1)
-syntax_refused text tokens (trees.TooDeep site) h = (has_place (trees.TooDeep site) refl, λ tree g e. same_answer (h (module_of tree) (module_written tree (lexemes_of text tokens) g e)).1)
+syntax_refused text tokens (trees.Unexpected site) h = (λ is. absurd cc, λ v w. same_answer (h v w))
+syntax_refused text tokens (trees.Unsupported word site) h = (λ is. absurd cc, λ v w. same_answer (h v w))
+syntax_refused text tokens (trees.TooDeep site) h = (λ is. absurd cc, λ v w. same_answer (h v w))
 syntax_refused text tokens trees.OutOfMemory h = tt
-
--- ---- one element
-
-alone : {A : Type 0} (x : A) (zs : List A) → length zs ≡ 1 → x ≡ get_or zs 0 x → zs ≡ x ∷ []
-alone x [] one at = absurd (omega (arith, one))
-alone x (z ∷ []) one at = ap (λ y. y ∷ []) (sym at)
-alone x (z ∷ y ∷ zs) one at = absurd (omega (arith, one))
-
-pub one_item : {A : Type 0} (xs ys : List A) (x : A) → ys ≡ xs → length ys ≡ 1 → x ≡ get_or ys 0 x → xs ≡ x ∷ []
-one_item xs ys x same one at = sym same ∙ alone x ys one at

@@ -1,5 +1,5 @@
 -- What is answered to `check`.
-use Rattle.std.specs.Prelude.{◌≡◌, ℕ, List, ◌++◌, codes, decimal, length}
+use Rattle.std.specs.Prelude.{◌≡◌, ℕ, Bool, true, false, List, ◌++◌, codes, decimal, length}
 use Rattle.guard_policy.specs.Policies.{AbstractPolicy}
 use Rattle.guard_files.specs.Files.{Told}
 use Rattle.guard_files.specs.Reading.{IsPolicyAt}
@@ -10,10 +10,11 @@ abbrev pub counts_text : AbstractPolicy → List ℕ
 counts_text p =
     codes "ok: messages " ++ decimal (length p.messages) ++ codes ", rules " ++ decimal (length p.rules) ++ codes "\n"
 
-abbrev pub IsChecked : Told → List ℕ → AbstractAnswer → Type 0
-IsChecked told path a = (p : AbstractPolicy) × IsPolicyAt told path p × (a.out ≡ counts_text p) × (a.status ≡ 0)
+-- the counts, and to explain them each message with its rules
+abbrev pub checked_text : Bool → AbstractPolicy → List ℕ
+checked_text false p = counts_text p
+checked_text true p = counts_text p ++ listing p
 
--- the counts, and each message with its rules
-abbrev pub IsCheckedExplained : Told → List ℕ → AbstractAnswer → Type 0
-IsCheckedExplained told path a =
-    (p : AbstractPolicy) × IsPolicyAt told path p × (a.out ≡ counts_text p ++ listing p) × (a.status ≡ 0)
+abbrev pub IsChecked : Bool → Told → List ℕ → AbstractAnswer → Type 0
+IsChecked explain told path a =
+    (p : AbstractPolicy) × IsPolicyAt told path p × (a.out ≡ checked_text explain p) × (a.status ≡ 0)

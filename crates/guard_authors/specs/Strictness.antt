@@ -1,20 +1,15 @@
 -- What comes of `check --strict`: an accepted policy of which something is remarked has status 1.
-use Rattle.std.specs.Prelude.{◌⊎◌, ℕ, Bool, true, false, List, [], ◌∷◌, ◌++◌}
+use Rattle.std.specs.Prelude.{◌⊎◌, ℕ, Bool, List, [], ◌∷◌}
 use Rattle.guard_policy.specs.Policies.{AbstractPolicy}
 use Rattle.guard_files.specs.declared.fault.Fault.{Fault}
 use Rattle.guard_files.specs.Devices.{Input, Device, IsUnread, IsUntouched}
-use Rattle.guard_files.specs.Explaining.{IsExplained, TellsWith}
+use Rattle.guard_files.specs.Explaining.{IsNoPolicyWith, TellsWith}
 use Rattle.guard_files.specs.Files.{Told}
-use Rattle.guard_files.specs.Reading.{IsPolicyAt, IsNoPolicyAt}
+use Rattle.guard_files.specs.Reading.{IsPolicyAt}
 use Rattle.guard_files.specs.Remarked.{AbstractRemarked, WritesRemarked}
-use Rattle.guard_files.specs.Writing.{Tells, TellsNoMemory}
-use Rattle.guard_authors.specs.Checked.{counts_text}
-use Rattle.guard_authors.specs.Listing.{listing, strict_remarks}
-
--- the counts, and the listing where it is asked for
-abbrev pub checked_text : Bool → AbstractPolicy → List ℕ
-checked_text false p = counts_text p
-checked_text true p = counts_text p ++ listing p
+use Rattle.guard_files.specs.Writing.{TellsNoMemory}
+use Rattle.guard_authors.specs.Checked.{checked_text}
+use Rattle.guard_authors.specs.Listing.{strict_remarks}
 
 abbrev pub remarked_status : List ℕ → ℕ
 remarked_status [] = 0
@@ -26,9 +21,8 @@ strictly_checked explain p =
 
 -- why there is no policy at the path, explained where that is asked for
 abbrev pub TellsNoPolicy : Bool → Told → List ℕ → Device → ℕ → Type 0
-TellsNoPolicy false told path err status = (f : Fault) × IsNoPolicyAt told path f × Tells f err status
-TellsNoPolicy true told path err status =
-    (f : Fault) × (note : List ℕ) × IsExplained told path f note × TellsWith f note err status
+TellsNoPolicy explain told path err status =
+    (f : Fault) × (note : List ℕ) × IsNoPolicyWith explain told path f note × TellsWith f note err status
 
 -- The policy at the path is accepted, and what is remarked of it goes to standard error; or there is none. Nothing is
 -- read.

@@ -1,14 +1,11 @@
 -- The value of a type that a text alone writes, in the notation of X.680 17, or why it writes none.
-use Rattle.std.specs.Prelude.{◌≡◌, ◌≢◌, ℕ, List, [], ◌∷◌, ◌++◌, codes}
+use Rattle.std.specs.Prelude.{◌≢◌, ℕ, List, [], ◌∷◌, codes}
 use Rattle.std.specs.Option.{option_map_or}
-use Rattle.guard_model.specs.declared.site.Site.{Site}
 use Rattle.guard_model.specs.AbstractType.{AbstractType}
 use Rattle.guard_lexer.specs.Lexing.{Lexes, FirstFault}
 use Rattle.guard_lexer.specs.declared.token.Token.{Token}
-use Rattle.guard_syntax.specs.Grammar.{IsValue, most_levels}
 use Rattle.guard_syntax.specs.Lexemes.{lexemes_of, sites_of}
-use Rattle.guard_syntax.specs.Sites.{sited_value}
-use Rattle.guard_syntax.specs.TokensOf.{value_then}
+use Rattle.guard_syntax.specs.Parses.{IsWrittenValue, HasValueSites}
 use Rattle.guard_syntax.specs.declared.fault.SyntaxFault.TheVariants as syntax
 use Rattle.guard_syntax.specs.Trees.{WrittenValue}
 use Rattle.guard_values.specs.FirstFault.{IsFirstFault}
@@ -33,15 +30,12 @@ names_for l d = values_in l.known d.home
 pub record IsWrittenAs (text : List ℕ) (tree : WrittenValue) : Type 0 where
   pub tokens : List Token
   pub lexed : Lexes 1 text tokens
-  pub grammar : IsValue most_levels tree
-  pub written : value_then tree [] ≡ lexemes_of text tokens
-  pub behind : List Site
-  pub sited : (sited_value tree (sites_of tokens ++ behind)).0 ≡ tree
+  pub written : IsWrittenValue tree (lexemes_of text tokens)
+  pub sited : HasValueSites tree (sites_of tokens)
 
 -- no tree of the grammar is written with these tokens
 abbrev pub HaveNoTree : List ℕ → List Token → Type 0
-HaveNoTree text tokens =
-    (tree : WrittenValue) → IsValue most_levels tree → value_then tree [] ≡ lexemes_of text tokens → ⊥
+HaveNoTree text tokens = (tree : WrittenValue) → IsWrittenValue tree (lexemes_of text tokens) → ⊥
 
 -- Why a text writes no value of the type, where names mean this: it has no tokens; the grammar has no value with them;
 -- or the tree denotes no value of the type. That memory ran out is none of these.

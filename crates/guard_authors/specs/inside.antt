@@ -1,5 +1,5 @@
 -- What only private contracts and proofs cite.
-pub mod Assigned
+pub mod TextFaults
 pub mod Caseless
 pub mod Counting
 pub mod Encoded

@@ -2,55 +2,46 @@
 ghost use Rattle.std.specs.Prelude.{◌≡◌, ◌++◌, string_bytes, IfOk, IfErr};
 ghost use Rattle.guard_policy.specs.PolicyView.{policy_view};
 ghost use Rattle.guard_files.specs.Answers.{answer_view};
-ghost use Rattle.guard_files.specs.Explaining.{IsExplained};
-ghost use Rattle.guard_files.specs.Reading.{IsNoPolicyAt};
-ghost use Rattle.guard_authors.specs.Checked.{counts_text, IsChecked, IsCheckedExplained};
+ghost use Rattle.guard_files.specs.Explaining.{IsNoPolicyWith};
+ghost use Rattle.guard_authors.specs.Checked.{checked_text, counts_text, IsChecked};
 ghost use Rattle.guard_authors.specs.Listing.{listing};
 
 use crate::listing::listing;
-use guard_files::{Answer, Fault, Files, Refusal, add, load, load_explained};
+use guard_files::{Answer, Files, Refusal, add, load_noted};
 use guard_model::OutOfMemory;
 use guard_policy::Policy;
 use std::alloc::{AllocError, Global};
 
-/// How many messages and rules the policy at the path has, with status 0; or why there is none.
-pub fn check<F: Files>(alloc: Global, path: &str, files: &mut F) -> Result<Answer, Fault>
-    ensures checked { IfOk result (λ a. IsChecked (F.told files.old) path.now (answer_view a)) }
-    ensures none { IfErr result (IsNoPolicyAt (F.told files.old) path.now) }
-{
-    let policy = load(alloc, path, files)?;
-    let out = counts(alloc, &policy)?;
-    Ok(Answer { out, status: 0 })
-}
-
-/// How many messages and rules the policy at the path has, and a listing of it; or why there is none, with what
-/// explains the fault.
-pub fn check_explained<F: Files>(
+/// How many messages and rules the policy at the path has, with status 0, and to explain that a listing of it; or why
+/// there is none.
+pub fn check<F: Files>(
     alloc: Global,
     path: &str,
+    explain: bool,
     files: &mut F,
 ) -> Result<Answer, Refusal>
-    ensures checked { IfOk result (λ a. IsCheckedExplained (F.told files.old) path.now (answer_view a)) }
-    ensures none { IfErr result (λ r. IsExplained (F.told files.old) path.now r.fault (string_bytes r.note)) }
+    ensures checked { IfOk result (λ a. IsChecked explain (F.told files.old) path.now (answer_view a)) }
+    ensures none { IfErr result (λ r. IsNoPolicyWith explain (F.told files.old) path.now r.fault
+        (string_bytes r.note)) }
 {
-    match load_explained(alloc, path, files) {
-        Ok(policy) => match listed(alloc, &policy) {
-            Ok(out) => Ok(Answer { out, status: 0 }),
-            Err(_) => Err(Refusal::no_memory(alloc)),
-        },
-        Err(refusal) => Err(refusal),
+    let policy = load_noted(alloc, path, explain, files)?;
+    match checked_text(alloc, &policy, explain) {
+        Ok(out) => Ok(Answer { out, status: 0 }),
+        Err(_) => Err(Refusal::no_memory(alloc)),
     }
 }
 
-/// The counts, and below them the listing.
-pub fn listed(alloc: Global, policy: &Policy) -> Result<Vec<u8>, OutOfMemory>
-    ensures { IfOk result (λ out. out.items
-        ≡ counts_text (policy_view policy.now) ++ listing (policy_view policy.now)) }
+/// The counts, and to explain them the listing.
+pub fn checked_text(alloc: Global, policy: &Policy, explain: bool) -> Result<Vec<u8>, OutOfMemory>
+    ensures { IfOk result (λ text. text.items ≡ checked_text explain (policy_view policy.now)) }
 {
-    let mut out = counts(alloc, policy)?;
+    let mut text = counts(alloc, policy)?;
+    if !explain {
+        return Ok(text);
+    }
     let list = listing(alloc, policy)?;
-    add(&mut out, &list)?;
-    Ok(out)
+    add(&mut text, &list)?;
+    Ok(text)
 }
 
 /// How many messages and rules the policy has.

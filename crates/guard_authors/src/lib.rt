@@ -31,7 +31,7 @@ mod summary;
 mod testing;
 mod written;
 
-pub use checking::{check, check_explained};
+pub use checking::check;
 pub use comparing::{Comparing, compare};
 pub use digesting::check_digest;
 pub use encoding::{Encoding, encode};

@@ -1,9 +1,11 @@
 //! How many frames each rule of two policies let through or stopped.
-ghost use Rattle.std.specs.Prelude.{◌≡◌, ◌++◌, ℕ, List, [], ◌∷◌, Some, codes, decimal, slice_get, true, IfOk, OnOk};
+ghost use Rattle.std.specs.Prelude.{◌≡◌, ◌++◌, ℕ, List, [], ◌∷◌, Some, codes, decimal, true, IfOk, OnOk};
 ghost use Rattle.guard_frames.specs.Bodies.{body_in, body_view};
 ghost use Rattle.guard_frames.specs.Totals.{later};
-ghost use Rattle.guard_policy.specs.Decisions.{IsReason};
+ghost use Rattle.guard_policy.specs.Decisions.{Goes};
+ghost use Rattle.guard_policy.specs.Policies.{AbstractPolicy, AbstractRoute};
 ghost use Rattle.guard_policy.specs.PolicyView.{policy_view, route_view};
+ghost use Rattle.guard_policy.specs.Told.{AreMarksOf};
 ghost use Rattle.guard_policy.specs.Verdicts.{pass, verdict_view};
 ghost use Rattle.guard_authors.specs.Differing.{comparison_view};
 ghost use Rattle.guard_authors.specs.Summary.{place_of, policy_lines, reason_line, reason_lines, rule_lines, IsRow, IsRowOf};
@@ -12,10 +14,10 @@ ghost use Rattle.guard_authors.specs.inside.Counting.{CountsFrame, IsCount};
 ghost use Rattle.guard_authors.specs.declared.summary.Row.{Row};
 
 use crate::differing::{Comparison, Tally, route_in};
-use guard_files::{add, add_said, allowing_octets};
+use guard_files::{add, add_said};
 use guard_frames::{Body, read_body};
 use guard_model::OutOfMemory;
-use guard_policy::{Policy, Route, Verdict};
+use guard_policy::{Marks, Passing, Policy, Route, Verdict};
 use itoa::Buffer;
 use std::alloc::{AllocError, Global};
 
@@ -166,57 +168,43 @@ fn decided_row(alloc: Global, policy: &Policy, body: &Body) -> Result<Row, OutOf
     ensures { IfOk result (λ row. IsRowOf (policy_view policy.now) (Some (body_view body.now)) row) }
 {
     let route = route_in(body);
-    let verdict = policy.verdict(alloc, &route, body.message_octets)?;
-    verdict_row(alloc, policy, &route, body.message_octets, &verdict)
+    match policy.look_at(&route, body.message_octets) {
+        Passing::Goes(marks) => Ok(allowing_row(policy, &route, &marks)),
+        Passing::Stopped(told) => {
+            let verdict = policy.reason_as_told(alloc, &route, body.message_octets, told)?;
+            Ok(stopped_row(&verdict))
+        }
+    }
 }
 
-/// The row of a message with this verdict.
-fn verdict_row(
-    alloc: Global,
-    policy: &Policy,
-    route: &Route,
-    octets: &[u8],
-    verdict: &Verdict,
-) -> Result<Row, OutOfMemory>
-    requires { IsReason (policy_view policy.now) (route_view route.now) octets.now (verdict_view verdict.now) }
-    ensures { IfOk result (λ row. IsRow (policy_view policy.now) (route_view route.now) octets.now
-        (verdict_view verdict.now) row) }
+/// The row of a message that stays, by its verdict.
+fn stopped_row(verdict: &Verdict) -> Row
+    requires { verdict_view verdict.now ≡ pass → ⊥ }
+    ensures { (p : AbstractPolicy) (route : AbstractRoute) (octets : List ℕ)
+        → IsRow p route octets (verdict_view verdict.now) result }
 {
     match verdict {
-        Verdict::Pass => allowing_row(alloc, policy, route, octets),
-        Verdict::DeniedBy(number) => Ok(Row::Rule(*number)),
-        Verdict::UnknownMessage => Ok(Row::Reason(Unruled::UnknownMessage)),
-        Verdict::Undecodable(_) => Ok(Row::Reason(Unruled::Undecodable)),
-        Verdict::OutsideType(_) => Ok(Row::Reason(Unruled::OutsideType)),
-        Verdict::NotAllowed(_) => Ok(Row::Reason(Unruled::NotAllowed)),
-        Verdict::NoRule => Ok(Row::Reason(Unruled::NoRule)),
+        Verdict::Pass => unreachable!(),
+        Verdict::DeniedBy(number) => Row::Rule(*number),
+        Verdict::UnknownMessage => Row::Reason(Unruled::UnknownMessage),
+        Verdict::Undecodable(_) => Row::Reason(Unruled::Undecodable),
+        Verdict::OutsideType(_) => Row::Reason(Unruled::OutsideType),
+        Verdict::NotAllowed(_) => Row::Reason(Unruled::NotAllowed),
+        Verdict::NoRule => Row::Reason(Unruled::NoRule),
     }
 }
 
-/// The row of the first rule that allows a message which goes.
-fn allowing_row(
-    alloc: Global,
-    policy: &Policy,
-    route: &Route,
-    octets: &[u8],
-) -> Result<Row, OutOfMemory>
-    requires { IsReason (policy_view policy.now) (route_view route.now) octets.now pass }
-    ensures { IfOk result (λ row. IsRow (policy_view policy.now) (route_view route.now) octets.now pass row) }
+/// The row of the first rule that allows a message which goes, by its marks.
+fn allowing_row(policy: &Policy, route: &Route, marks: &Marks) -> Row
+    requires { (octets : List ℕ) × Goes (policy_view policy.now) (route_view route.now) octets
+        × AreMarksOf (policy_view policy.now) (route_view route.now).message octets marks.now }
+    ensures { (octets : List ℕ) → AreMarksOf (policy_view policy.now) (route_view route.now).message octets marks.now
+        → IsRow (policy_view policy.now) (route_view route.now) octets pass result }
 {
-    let numbers = allowing_octets(alloc, policy, route, octets)?;
-    let Some(first) = first_of(&numbers) else {
+    let Some(number) = policy.allowing_rule(route, marks) else {
         unreachable!();
     };
-    Ok(Row::Rule(first))
-}
-
-fn first_of(numbers: &[usize]) -> Option<usize>
-    ensures { result ≡ slice_get numbers.now 0 }
-{
-    match numbers.get(0) {
-        Some(number) => Some(*number),
-        None => None,
-    }
+    Row::Rule(number)
 }
 
 // ---- the table

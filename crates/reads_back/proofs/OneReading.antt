@@ -44,8 +44,8 @@ same_tree a b p q e =
 
 pub one_reading : (m : Meaning) (t : AbstractType) (text : List ℕ) (v w : AbstractValue) → IsReadAs m t text v → IsReadAs m t text w → v ≡ w
 one_reading m t text v w a b =
-    let tokens = a.written ∙ same_lexemes a.place b.place text a.tokens b.tokens a.lexed b.lexed ∙ sym b.written in
-    let same = same_tree a.tree b.tree a.grammar b.grammar tokens in
+    let tokens = a.written.tokens ∙ same_lexemes a.place b.place text a.tokens b.tokens a.lexed b.lexed ∙ sym b.written.tokens in
+    let same = same_tree a.tree b.tree a.written.grammar b.written.grammar tokens in
     let one : Says m t (sited_value a.tree none).0 v = sited_says m a.tree t v none a.denoted.0 in
     let two : Says m t (sited_value b.tree none).0 w = sited_says m b.tree t w none b.denoted.0 in
     same_Ok v w (sym (says_read m (sited_value a.tree none).0 t v one) ∙ says_read m (sited_value a.tree none).0 t w (subst (λ (x : WrittenValue). Says m t x w) (sym same) two))

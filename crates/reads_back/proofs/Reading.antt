@@ -43,7 +43,9 @@ reads_back m layout t v sound names fit seen short fits_text =
       tokens = tokens_from 0 text 0 r.items;
       lexed = record { lawful = record { short = fits_text; utf8 = r.utf8 }; items = r.items; cut = r.cut; tokens_are = refl };
       tree = tree;
-      grammar = value_levels 128 t v proper fit (sound_nested t sound);
-      written = sym (lexemes_from 0 text text 0 r.items refl r.cut ∙ r.lexemes_are);
+      written = record {
+        grammar = value_levels 128 t v proper fit (sound_nested t sound);
+        tokens = sym (lexemes_from 0 text text 0 r.items refl r.cut ∙ r.lexemes_are);
+      };
       denoted = (value_says m t v names proper fit seen (short_within (der t v) short), short);
     }

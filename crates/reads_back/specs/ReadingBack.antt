@@ -1,13 +1,12 @@
 -- A text alone, read as a written value (X.680 17.7) of a type.
-use Rattle.std.specs.Prelude.{◌≡◌, ℕ, List, []}
+use Rattle.std.specs.Prelude.{ℕ, List}
 use Rattle.guard_model.specs.AbstractType.{AbstractType}
 use Rattle.guard_model.specs.AbstractValue.{AbstractValue}
 use Rattle.guard_lexer.specs.Lexing.{Lexes}
 use Rattle.guard_lexer.specs.declared.token.Token.{Token}
 use Rattle.guard_syntax.specs.Lexemes.{lexemes_of}
+use Rattle.guard_syntax.specs.Parses.{IsWrittenValue}
 use Rattle.guard_syntax.specs.Trees.{WrittenValue}
-use Rattle.guard_syntax.specs.TokensOf.{value_then}
-use Rattle.guard_syntax.specs.Grammar.{IsValue, most_levels}
 use Rattle.guard_values.specs.Meanings.{Meaning}
 use Rattle.guard_values.specs.Denotes.{Denotes}
 
@@ -17,6 +16,5 @@ pub record IsReadAs (meaning : Meaning) (t : AbstractType) (text : List ℕ) (v 
   pub tokens : List Token
   pub lexed : Lexes place text tokens
   pub tree : WrittenValue
-  pub grammar : IsValue most_levels tree
-  pub written : value_then tree [] ≡ lexemes_of text tokens
+  pub written : IsWrittenValue tree (lexemes_of text tokens)
   pub denoted : Denotes meaning t tree v

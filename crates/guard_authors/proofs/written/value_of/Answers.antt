@@ -4,7 +4,7 @@ use Rattle.guard_syntax.specs.Views as trees
 use Rattle.guard_schema.specs.Known.{values_in}
 use Rattle.guard_schema.specs.Views.{known_of}
 use Rattle.guard_authors.specs.ValueTexts.{OfText}
-use Rattle.guard_authors.specs.inside.Assigned.{IsValueFault}
+use Rattle.guard_authors.specs.inside.TextFaults.{IsValueFault}
 use Rattle.guard_authors.proofs.WrittenValues.{value_refused}
 use Rattle.guard_authors.proofs.written.value_of.Goals as goal
 

@@ -10,7 +10,7 @@ use Rattle.guard_files.specs.Files.{Told}
 use Rattle.guard_files.specs.Reading.{IsNoPolicyAt}
 use Rattle.guard_files.specs.Answers.{AbstractAnswer, Gives, GivesExplained}
 use Rattle.guard_files.specs.Devices.{Input, Device, IsUnread, IsUntouched}
-use Rattle.guard_files.specs.Explaining.{IsExplained}
+use Rattle.guard_files.specs.Explaining.{IsNoPolicyWith}
 use Rattle.guard_files.specs.Writing.{Writes, TellsLine, TellsText, TellsNoMemory}
 use Rattle.guard_streams.specs.Asking.{AsksStream}
 use Rattle.guard_streams.specs.Counting.{CountsStream}
@@ -22,7 +22,7 @@ use Rattle.guard_streams.specs.Stream.{GuardsStream}
 use Rattle.guard_messages.specs.FirstRun.{IsFirst, IsNoFirst}
 use Rattle.guard_messages.specs.Deciding.{Decides, ShowsAsked}
 use Rattle.guard_messages.specs.Questions.{AbstractQuestion}
-use Rattle.guard_authors.specs.Checked.{IsChecked, IsCheckedExplained}
+use Rattle.guard_authors.specs.Checked.{IsChecked}
 use Rattle.guard_authors.specs.Comparing.{Compares}
 use Rattle.guard_authors.specs.Digested.{IsDigested}
 use Rattle.guard_authors.specs.Encodes.{Encodes}
@@ -36,7 +36,7 @@ use Rattle.derguard_program.specs.AsJson.{ComesAsJson}
 abbrev pub Answers : (AbstractAnswer → Type 0) → (Fault → Type 0) → Input → Device → Device → ℕ → Type 0
 Answers IsAnswer IsFault input out err status = IsUnread input × Gives IsAnswer IsFault out err status
 
--- Such an answer is written, or such a fault is reported with what explains it; nothing is read.
+-- Such an answer is written, or such a fault is reported, and what is noted of it; nothing is read.
 abbrev pub AnswersExplained : (AbstractAnswer → Type 0) → (Fault → List ℕ → Type 0) → Input → Device → Device → ℕ
     → Type 0
 AnswersExplained IsAnswer IsFault input out err status =
@@ -74,8 +74,8 @@ abbrev pub Meets : Told → Display → AbstractRequest → Input → Device →
 Meets told shows first = Answers IsFirst IsNoFirst
 Meets told shows (check path explain strict true) = AnswersDigest (explain || strict) told path
 Meets told shows (check path explain true false) = ChecksStrictly told path explain
-Meets told shows (check path false false false) = Answers (IsChecked told path) (IsNoPolicyAt told path)
-Meets told shows (check path true false false) = AnswersExplained (IsCheckedExplained told path) (IsExplained told path)
+Meets told shows (check path explain false false) =
+    AnswersExplained (IsChecked explain told path) (IsNoPolicyWith explain told path)
 Meets told shows (decide q) = Decides told q
 Meets told shows (show q) = ShowsOne (asks_more_than_json q) told q
 Meets told shows (encode asked) = Encodes told asked

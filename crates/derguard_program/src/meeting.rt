@@ -15,7 +15,7 @@ use crate::request::Request;
 use crate::words::{VERSION, request_in};
 use clap::Error;
 use clap::error::ErrorKind;
-use guard_authors::{check, check_digest, check_explained, check_strictly, compare, encode, test};
+use guard_authors::{check, check_digest, check_strictly, compare, encode, test};
 use guard_files::{Files, give, give_explained, tell_no_memory, tell_text, write};
 use guard_frames::{Sink, Source};
 use guard_json::JsonLines;
@@ -189,10 +189,8 @@ pub fn meet<F: Files, S: Source, O: Sink, E: Sink, T: Says, B: Board>(
                 give_digest(alloc, policy, more, files, out, err)
             } else if *strict {
                 check_strictly(alloc, policy, *explain, files, out, err)
-            } else if *explain {
-                give_explained(alloc, check_explained(alloc, policy, files), out, err)
             } else {
-                give(alloc, check(alloc, policy, files), out, err)
+                give_explained(alloc, check(alloc, policy, *explain, files), out, err)
             }
         }
         Request::Decide(question) => decide_asked(alloc, question, files, input, out, err),

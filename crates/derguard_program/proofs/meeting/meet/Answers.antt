@@ -1,10 +1,9 @@
 use Rattle.std.proofs.Common.{Bool, false, refl, subst, sym}
 use Rattle.guard_files.specs.Devices.{input_of, device}
-use Rattle.guard_files.specs.Reading.{IsNoPolicyAt}
-use Rattle.guard_files.specs.Explaining.{IsExplained}
+use Rattle.guard_files.specs.Explaining.{IsNoPolicyWith}
 use Rattle.guard_streams.specs.Counting.{display_of}
 use Rattle.guard_messages.specs.FirstRun.{IsFirst, IsNoFirst}
-use Rattle.guard_authors.specs.Checked.{IsChecked, IsCheckedExplained}
+use Rattle.guard_authors.specs.Checked.{IsChecked}
 use Rattle.derguard_program.specs.declared.request.Request.{Request}
 use Rattle.derguard_program.specs.Meeting.{GivesDigest, Meets}
 use Rattle.derguard_program.specs.Requests.{request_view, check}
@@ -46,31 +45,19 @@ returns-then-strict g c =
     (subst (λ (b : Bool). Meets told shows (check c.in-Check.policy.now c.in-Check.explain b false) input out err c.check_strictly.result) (sym c.if-strict.true)
     ((refl, refl), c.check_strictly.ensures)))
 
-pub returns-then-explain : goal.returns-then-explain
-returns-then-explain g c =
+pub returns-else-strict : goal.returns-else-strict
+returns-else-strict g c =
     let told = g.F.Files.told c.args.files.now in
     let shows = display_of g.B.Board.shown c.args.counters.now c.args.counters.now in
     let input = input_of (g.S.Source.tells c.args.input.now) (g.S.Source.tells c.args.input.now) (g.S.Source.takes c.args.input.now) (g.S.Source.takes c.args.input.now) (g.S.Source.has_failed c.args.input.now) in
     let out = device (g.O.Sink.taken c.args.out.now) (g.O.Sink.taken c.give_explained.new.out) (g.O.Sink.has_failed c.give_explained.new.out) in
     let err = device (g.E.Sink.taken c.args.err.now) (g.E.Sink.taken c.give_explained.new.err) (g.E.Sink.has_failed c.give_explained.new.err) in
+    let path = c.in-Check.policy.now in
+    let explain = c.in-Check.explain in
     subst (λ (r : Request). Meets told shows (request_view r) input out err c.give_explained.result) (sym c.in-Check.is)
-    (subst (λ (b : Bool). Meets told shows (check c.in-Check.policy.now c.in-Check.explain c.in-Check.strict b) input out err c.give_explained.result) (sym c.if-digest.false)
-    (subst (λ (b : Bool). Meets told shows (check c.in-Check.policy.now c.in-Check.explain b false) input out err c.give_explained.result) (sym c.if-strict.false)
-    (subst (λ (b : Bool). Meets told shows (check c.in-Check.policy.now b false false) input out err c.give_explained.result) (sym c.if-explain.true)
-    (given_explained (IsCheckedExplained told c.in-Check.policy.now) (IsExplained told c.in-Check.policy.now) input out err c.give_explained.result c.check_explained.result (refl, refl) c.check_explained.ensures.checked c.check_explained.ensures.none c.give_explained.ensures.written c.give_explained.ensures.told))))
-
-pub returns-else-explain : goal.returns-else-explain
-returns-else-explain g c =
-    let told = g.F.Files.told c.args.files.now in
-    let shows = display_of g.B.Board.shown c.args.counters.now c.args.counters.now in
-    let input = input_of (g.S.Source.tells c.args.input.now) (g.S.Source.tells c.args.input.now) (g.S.Source.takes c.args.input.now) (g.S.Source.takes c.args.input.now) (g.S.Source.has_failed c.args.input.now) in
-    let out = device (g.O.Sink.taken c.args.out.now) (g.O.Sink.taken c.give-else-explain.new.out) (g.O.Sink.has_failed c.give-else-explain.new.out) in
-    let err = device (g.E.Sink.taken c.args.err.now) (g.E.Sink.taken c.give-else-explain.new.err) (g.E.Sink.has_failed c.give-else-explain.new.err) in
-    subst (λ (r : Request). Meets told shows (request_view r) input out err c.give-else-explain.result) (sym c.in-Check.is)
-    (subst (λ (b : Bool). Meets told shows (check c.in-Check.policy.now c.in-Check.explain c.in-Check.strict b) input out err c.give-else-explain.result) (sym c.if-digest.false)
-    (subst (λ (b : Bool). Meets told shows (check c.in-Check.policy.now c.in-Check.explain b false) input out err c.give-else-explain.result) (sym c.if-strict.false)
-    (subst (λ (b : Bool). Meets told shows (check c.in-Check.policy.now b false false) input out err c.give-else-explain.result) (sym c.if-explain.false)
-    (given (IsChecked told c.in-Check.policy.now) (IsNoPolicyAt told c.in-Check.policy.now) input out err c.give-else-explain.result c.check.result (refl, refl) c.check.ensures.checked c.check.ensures.none c.give-else-explain.ensures.written c.give-else-explain.ensures.told))))
+    (subst (λ (b : Bool). Meets told shows (check path explain c.in-Check.strict b) input out err c.give_explained.result) (sym c.if-digest.false)
+    (subst (λ (b : Bool). Meets told shows (check path explain b false) input out err c.give_explained.result) (sym c.if-strict.false)
+    (given_explained (IsChecked explain told path) (IsNoPolicyWith explain told path) input out err c.give_explained.result c.check.result (refl, refl) c.check.ensures.checked c.check.ensures.none c.give_explained.ensures.written c.give_explained.ensures.told)))
 
 pub returns-in-Decide : goal.returns-in-Decide
 returns-in-Decide g c =

@@ -95,6 +95,7 @@ fn try_texts<R: Files + Print + AllocGlobal>(rt: &R, tally: &mut Tally) -> io::R
             "syntax/named_bits.rows",
             "syntax/nesting.rows",
             "syntax/sites.rows",
+            "syntax/values_alone.rows",
             "syntax/session.rows",
         ],
     )?;

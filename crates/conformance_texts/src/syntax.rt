@@ -1,16 +1,19 @@
-//! `guard_syntax`: how many assignments a module has, where the parts of a set are, or the module's fault.
+//! `guard_syntax`: how many assignments a module has, where the parts of a set are, where a value alone begins, or the
+//! fault.
 use conformance_rows::{Around, Layer, text_of};
-use guard_lexer::tokens;
-use guard_syntax::{ElementForm, Module, SetForm, parse};
+use guard_lexer::{Token, tokens};
+use guard_syntax::{ElementForm, Module, SetForm, parse, parse_value};
 use std::alloc::{AllocError, Global};
 
-/// What is shown of a module.
+/// What is shown of a text.
 #[derive(Drop)]
 enum Shown {
-    /// `ok` and the number of its assignments.
+    /// Of a module: `ok` and the number of its assignments.
     Count,
-    /// The sites in the first constraint of its first type.
+    /// Of a module: the sites in the first constraint of its first type.
     Sites,
+    /// Of a value alone: `ok` and its site.
+    Value,
 }
 
 #[derive(Drop)]
@@ -19,15 +22,33 @@ pub struct Parser {
     around: Around,
 }
 
-impl Parser {
-    fn shown(&self, alloc: Global, module: &Module) -> Result<String, AllocError> {
-        match self.shown {
-            Shown::Count => {
+/// What is shown of the module that these tokens of the text write.
+fn of_module(
+    alloc: Global,
+    shown: &Shown,
+    text: &[u8],
+    found: &[Token],
+) -> Result<String, AllocError> {
+    match parse(alloc, 1, text, found) {
+        Ok(module) => match shown {
+            Shown::Sites => sites(alloc, &module),
+            Shown::Count | Shown::Value => {
                 let count = module.assignments.len();
                 format!(in alloc; "ok {count}")
             }
-            Shown::Sites => sites(alloc, module),
+        },
+        Err(fault) => format!(in alloc; "{fault}"),
+    }
+}
+
+/// What is shown of the value that these tokens of the text write.
+fn of_value(alloc: Global, text: &[u8], found: &[Token]) -> Result<String, AllocError> {
+    match parse_value(alloc, 1, text, found) {
+        Ok(value) => {
+            let site = value.site;
+            format!(in alloc; "ok {site}")
         }
+        Err(fault) => format!(in alloc; "{fault}"),
     }
 }
 
@@ -63,17 +84,18 @@ impl Layer for Parser {
             Ok(found) => found,
             Err(fault) => return format!(in alloc; "{fault}"),
         };
-        match parse(alloc, 1, &text, &found) {
-            Ok(module) => self.shown(alloc, &module),
-            Err(fault) => format!(in alloc; "{fault}"),
+        match self.shown {
+            Shown::Value => of_value(alloc, &text, &found),
+            Shown::Count | Shown::Sites => of_module(alloc, &self.shown, &text, &found),
         }
     }
 
-    /// `@show count`, `@show sites`; `@before` and `@after` with what is around each text.
+    /// `@show count`, `@show sites`, `@show value`; `@before` and `@after` with what is around each text.
     fn set(&mut self, alloc: Global, name: &str, text: &[u8]) -> Result<String, AllocError> {
         match (name, text_of(text)) {
             ("show", "count") => self.shown = Shown::Count,
             ("show", "sites") => self.shown = Shown::Sites,
+            ("show", "value") => self.shown = Shown::Value,
             _ => return self.around.set(alloc, name, text),
         }
         String::from_str(alloc, "ok")

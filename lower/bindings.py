@@ -73,8 +73,7 @@ class Bindings:
     def fault(self, place: Place | str, why: str) -> Fault:
         """A fault of an entry, with the line that has it."""
         names = [f'"{place}"', *(f'"{short}"' for short in str(place).split(".", 1)[1:])]
-        found = re.search("|".join(map(re.escape, names)), self.text)
-        if found is None:
+        if (found := re.search("|".join(map(re.escape, names)), self.text)) is None:
             return Fault(f"{self.path}: {place}: {why}")
         return Fault(why, Source(self.path, self.text), found.start())
 

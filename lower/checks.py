@@ -21,7 +21,6 @@ Finding = tuple[Output, str, int, str]
 Path = tuple[tuple[str, int, str], ...]
 # How large a type is, as the guard counts: types, constraints, how deep it is nested, and that path.
 Measure = tuple[int, int, int, Path]
-Member = tuple[Component, Scope]
 
 
 class Checker:
@@ -82,8 +81,7 @@ class Checker:
 
     def structure(self, scope: Scope, node: Structure, place: str) -> Measure:
         automatic, total, all_constraints, deepest = self.job.is_automatic(scope, node), 1, 0, 0
-        tags: list[tuple[Component, Tags]] = []
-        path: Path = ()
+        tags, path = list[tuple[Component, Tags]](), Path()
         for number, (item, there) in enumerate(self.flat(scope, node)):
             here = f"{place}.{item.name}"
             nodes, constraints, depth, inner = self.type(there, item.type, here)
@@ -99,7 +97,7 @@ class Checker:
         self.find(clash, f"the tags of {' and '.join(clash)} can't be told apart")
         return total, all_constraints, deepest + 1, path
 
-    def flat(self, scope: Scope, node: Structure, deep: int = 0) -> Iterator[Member]:
+    def flat(self, scope: Scope, node: Structure, deep: int = 0) -> Iterator[tuple[Component, Scope]]:
         """The components, with those of COMPONENTS OF in their places."""
         for item in node.items:
             there, base, _ = self.job.base(scope, item.type)

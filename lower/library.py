@@ -6,7 +6,7 @@ from dataclasses import dataclass, field, fields
 
 from reading_modules import BUILT_IN_CLASSES, read_modules
 from tokens import RESERVED, cut
-from tree import Definition, Module, Node, Reference
+from tree import Definition, Item, Module, Node, Plain, Reference, Type, Value
 
 BUILT_IN = """Built-In DEFINITIONS ::= BEGIN
 TYPE-IDENTIFIER ::= CLASS {&id OBJECT IDENTIFIER UNIQUE, &Type} WITH SYNTAX {&Type IDENTIFIED BY &id} END"""
@@ -80,3 +80,9 @@ def children(node: Node) -> Iterator[Node]:
     for held in (getattr(node, entry.name) for entry in fields(node)):
         for part in held if isinstance(held, list) else [held]:
             yield from (one for one in (part if isinstance(part, list) else [part]) if isinstance(one, Node))
+
+
+def item_named(base: Type | None, node: Value) -> Item | None:
+    """The item, named number or bit of a type that a value is by its name."""
+    items = base.items if isinstance(base, Plain) and node.form == "name" and node.module is None else []
+    return next((item for item in items if item.name == node.name), None)

@@ -11,7 +11,8 @@ from library import spelled
 from reading_modules import Reader, type_at
 from structures import WHY_EXPLICIT, Parts, Structures, brace_list
 from tokens import TIMES, Edit, Fault, unquoted
-from tree import Constrained, Item, ListOf, Node, Plain, Reference, Selection, Set, Structure, Tagged, Type, Value
+from tree import Constrained, Constraint, Element, Item, ListOf, Node, Plain, Reference, Selection
+from tree import Set, Structure, Tagged, Type, Value
 from values import LARGEST, LEAST, OUTSIDE, Sizes, Work, union
 
 OPEN = ("ANY", "INSTANCE OF")
@@ -40,8 +41,7 @@ class Job(Structures):
     def definition(self, out: Output, scope: Scope) -> Lowered:
         """The text after the definition's name."""
         node, site = out.origin, Site(out.place)
-        is_class = node.kind == "type" and not self.library.is_type(node)
-        if node.kind in ("unread", "class", "macro") or is_class or node.type is None:
+        if node.type is None or node.kind == "type" and not self.library.is_type(node):
             why = node.unread.why if node.unread else f"{node.name} is a class or a macro"
             raise self.stop(out.place, node, "unread", why)
         if node.name in node.module.twice:
@@ -68,8 +68,7 @@ class Job(Structures):
         """A type's text in the module that is written."""
         if isinstance(node, Tagged):
             return self.tagged(scope, node, site)
-        bound = self.bound(scope, node, site) if site.free else None
-        if bound is not None:
+        if site.free and (bound := self.bound(scope, node, site)):
             return bound
         site = site._replace(free=False)
         by_another = isinstance(node, Reference) and (node.fields or scope.actual(node.name, node.module))
@@ -78,13 +77,11 @@ class Job(Structures):
 
     def constrained(self, scope: Scope, node: Constrained, site: Site) -> Lowered:
         if self.is_open(scope, node.inner):
-            root = node.constraints[0].root
-            parts = [part for union in root.unions for part in union] if len(node.constraints) == 1 else []
-            held = parts[0].type if len(parts) == 1 and parts[0].minus is None else None
-            if held is None:
-                raise self.open_type(scope, node, site)
-            self.note(site, node, "expansion", "an open type that holds values of one type alone")
-            return self.type(scope, held, Site(site.place, free=False))
+            match node.constraints:
+                case [Constraint(root=Set(unions=[[Element(type=Type() as held, minus=None)]]))]:
+                    self.note(site, node, "expansion", "an open type that holds values of one type alone")
+                    return self.type(scope, held, Site(site.place, free=False))
+            raise self.open_type(scope, node, site)
         lowered, governor = self.type(scope, node.inner, site), (scope, node.inner)
         edits = [node.inner.by(lowered.text + self.rooted_parent(governor, site))]
         for c in node.constraints:
@@ -92,16 +89,13 @@ class Job(Structures):
         return Lowered(node.emit(*edits), lowered.choice)
 
     def reference(self, scope: Scope, node: Reference, site: Site) -> Lowered:
-        actual = scope.actual(node.name, node.module)
         if node.fields:
             return self.field(scope, node, site)
-        if actual is not None:
-            tree = type_at(actual.span)
-            if tree is None:
+        if actual := scope.actual(node.name, node.module):
+            if (tree := type_at(actual.span)) is None:
                 raise self.stop(site.place, node, "parameters", f"what stands for {node.name} is no type")
             return self.portable(actual.scope, tree, site, f"{self.here.origin.name}-{node.name}")
-        definition = self.library.find(scope.module, node.name, node.module)
-        if isinstance(definition, str):
+        if isinstance(definition := self.library.find(scope.module, node.name, node.module), str):
             raise self.hole(site, node, "missing", definition)
         if node.module is not None:
             self.note(site, node, "import", "an import in place of a module's name", new=definition.name)
@@ -126,8 +120,7 @@ class Job(Structures):
         return Lowered(self.refer(out), out.choice)
 
     def field(self, scope: Scope, node: Reference, site: Site) -> Lowered:
-        found = self.class_field(scope, node)
-        if found is None:
+        if (found := self.class_field(scope, node)) is None:
             raise self.hole(site, node, "missing", f"{node.text()} isn't known")
         if isinstance(found, str):
             raise self.open_type(scope, node, site)
@@ -136,14 +129,13 @@ class Job(Structures):
 
     def selection(self, scope: Scope, node: Selection, site: Site) -> Lowered:
         there, base, _ = self.base(scope, node.inner)
-        items = base.items if isinstance(base, Structure) and base.word == "CHOICE" else []
-        for number, item in enumerate(items):
-            if item.name == node.alternative:
-                self.note(site, node, "expansion", "the alternative's type is written out", new=item.type.text())
-                held = self.portable(there, item.type, site, f"{node.inner.text()}-{item.name}")
-                mode = "EXPLICIT" if self.has_no_tag(there, item.type) else "IMPLICIT"
-                is_automatic = isinstance(base, Structure) and self.is_automatic(there, base)
-                return Lowered(f"[{number}] {mode} {held.text}") if is_automatic else held
+        if isinstance(base, Structure) and base.word == "CHOICE":
+            for number, item in enumerate(base.items):
+                if item.name == node.alternative:
+                    self.note(site, node, "expansion", "the alternative's type is written out", new=item.type.text())
+                    held = self.portable(there, item.type, site, f"{node.inner.text()}-{item.name}")
+                    mode = "EXPLICIT" if self.has_no_tag(there, item.type) else "IMPLICIT"
+                    return Lowered(f"[{number}] {mode} {held.text}") if self.is_automatic(there, base) else held
         raise self.hole(site, node, "selection", f"{node.text()}: there is no such alternative")
 
     # what stands in a hole
@@ -153,8 +145,7 @@ class Job(Structures):
         return self.hole(site, node, "open", why, self.candidates(scope, node))
 
     def bound(self, scope: Scope, node: Type, site: Site) -> Lowered | None:
-        binding = self.bindings.at(site.place)
-        if binding is None:
+        if (binding := self.bindings.at(site.place)) is None:
             return None
         if binding == LEAVE_OUT:
             raise self.bindings.fault(site.place, "nothing can be left out here")
@@ -170,10 +161,9 @@ class Job(Structures):
         """How a type of the bindings compares with what stood in its place."""
         if not self.is_open(scope, node):
             return NEITHER, "the author's type stands here, and nothing compares it with the original"
-        table = self.table_of(scope, node)
-        if table is None and isinstance(node, Constrained):
-            return NEITHER, "the constraints of the open type aren't judged"
-        if table is None:
+        if (table := self.table_of(scope, node)) is None:
+            if isinstance(node, Constrained):
+                return NEITHER, "the constraints of the open type aren't judged"
             return TIGHTER, "the author's type in place of any type"
         found, name = table
         if found and all(one == "..." for one in found):
@@ -317,8 +307,7 @@ class Job(Structures):
     def names_of(self, node: Plain, site: Site, written: dict[Item, int], numbers: dict[Item, int]) -> str:
         """A type with its list of names, numbers as numbers and without `...`. A named number or bit goes where the
         guard wouldn't take it: a second of its name or number, or a large one."""
-        parts: Parts = {}
-        seen: set[str | int | None] = set()
+        parts, seen = Parts(), set[str | int | None]()
         for item in node.items:
             number, name, text = written.get(item), spelled(item.name), ""
             is_large = number is not None and not LEAST <= number <= (65_535 if node.word == "BIT STRING" else LARGEST)
@@ -333,16 +322,14 @@ class Job(Structures):
                 edits = self.renamed(item, site, name[0].lower() + name[1:])
                 if item.number is not None and number is not None:
                     edits += self.renumbered(item.number, item, site, number)
-                by_itself = item in numbers and item.number is None
-                text = item.emit(*edits) + (f"({numbers[item]})" if by_itself else "")
+                text = item.emit(*edits) + (f"({numbers[item]})" if item in numbers and not item.number else "")
             parts[item.a] = (item.b, text)
         brace = next((k for k in range(node.a, node.b) if node.source.tokens[k].text == "{"), node.b)
         has_parts = any(text for _, text in parts.values())
         return brace_list(node, brace, parts) if has_parts else node.source.emit(node.a, brace)
 
     def renumbered(self, value: Value, node: Node, site: Site, number: int) -> list[Edit]:
-        written = value.text().replace(" ", "")
-        if written == str(number):
+        if (written := value.text().replace(" ", "")) == str(number):
             return []
         self.note(site, node, "number", "the profile has no references here", new=str(number), old=written)
         return [value.by(str(number))]
@@ -351,8 +338,7 @@ class Job(Structures):
         """What holds the contents of a type that is outside the profile, where an implicit tag hides its own."""
         way = list(self.way(scope, node, tags=False))
         word = way[-1][1].word
-        kind = OUTSIDE.get(word, "")
-        if not kind or kind == "external" and word != "EXTERNAL":
+        if not (kind := OUTSIDE.get(word, "")) or kind == "external" and word != "EXTERNAL":
             return None
         parts = [(there, part) for there, part, _ in reversed(way) if isinstance(part, Constrained)]
         held = [(there, constraint) for there, part in parts for constraint in part.constraints]
@@ -361,9 +347,8 @@ class Job(Structures):
             why = "EXTERNAL as its SEQUENCE, without a descriptor and without a single type"
             self.note(site, node, kind, why, NEITHER if held else TIGHTER, text)
             return self.aside(lambda: Lowered(text), site, "External")
-        split = [(there, c, part) for there, c in held for part in intersected(c.root)]
         lost, has_values, width = list[str](), False, WIDE.get(word, 0)
-        for there, c, part in split:
+        for there, c, part in ((at, c, part) for at, c in held for part in intersected(c.root)):
             rooted = c is not held[-1][1]
             values = "" if c.marked else self.contents(there, part, word)
             sizes = self.sizes(there, part, rooted) if kind == "string" and not c.marked else None

@@ -22,10 +22,8 @@ DEPTH, MOST_RUNS, MOST_CUTS = 3, 40, 20
 
 
 def parser() -> argparse.ArgumentParser:
-    words = argparse.ArgumentParser(
-        prog="derguard-lower",
-        description="Lowers published ASN.1 modules into the profile of derguard, and says what each change costs.",
-    )
+    about = "Lowers published ASN.1 modules into the profile of derguard, and says what each change costs."
+    words = argparse.ArgumentParser(prog="derguard-lower", description=about)
     message = "a type that is sent as a message"
     words.add_argument("--message", action="append", default=[], metavar="NAME", help=message)
     words.add_argument("--bindings", metavar="FILE", help="what the author says of holes, depths and losses")
@@ -47,8 +45,7 @@ def wanted(library: Library, names: list[str]) -> dict[str, Definition]:
             first = [d for m in modules for d in m.definitions if m.named[d.name] is d and d.name[0].isupper()]
             found += [d for d in first if d.parameters is None and library.is_type(d)]
             continue
-        held = [m.named[last] for m in modules if last in m.named]
-        if not held:
+        if not (held := [m.named[last] for m in modules if last in m.named]):
             raise Fault(f"no module defines {name}")
         if len(held) > 1:
             where = ", ".join(definition.module.name for definition in held)
@@ -57,8 +54,7 @@ def wanted(library: Library, names: list[str]) -> dict[str, Definition]:
             hint = f": write a module with Mine ::= {name}{{..}}, and name Mine" if held[0].parameters else ""
             raise held[0].fault(f"{name} is no type without parameters{hint}")
         found += held
-    found = list(dict.fromkeys(found))
-    short = [definition.name for definition in found]
+    short = [definition.name for definition in dict.fromkeys(found)]
     return {d.name if short.count(d.name) == 1 else f"{d.module.name}.{d.name}": d for d in found}
 
 
@@ -76,13 +72,11 @@ def lower(library: Library, bindings: Bindings, wanted: dict[str, Definition], l
                 message.causes = stop.causes
         roots = dict.fromkeys(message.out for message in messages if message.out is not None)
         result = Result(job, messages, report.texts(list(library.modules.values()), list(roots)))
-        findings = checks.check(result.texts)
-        if not findings:
+        if not (findings := checks.check(result.texts)):
             result.collect()
             return result
-        shorter = bindings.depth is None and recursion.depth > 0 and recursion.members
         deepest, why, size, cut = max(findings, key=lambda finding: finding[2])
-        if shorter and size:
+        if size and bindings.depth is None and recursion.depth > 0 and recursion.members:
             recursion.depth -= 1
         elif leave and cut and spelled(cut) not in refused and len(refused) < MOST_CUTS:
             refused[spelled(cut)] = f"{deepest.origin.name}: {why}"
@@ -119,26 +113,26 @@ def run(words: argparse.Namespace) -> int:
         library.add(module)
     bindings = read_bindings(words.bindings) if words.bindings else Bindings()
     bindings.check(library)
-    messages, status = wanted(library, words.message), 0
+    messages = wanted(library, words.message)
     if words.draft:
         Path(words.draft).write_text(report.as_draft(lower(library, bindings, messages, True)), encoding="utf-8")
-    if words.output:
-        result = lower(library, bindings, messages, False)
-        write(result, Path(words.output), any(name.rpartition(".")[2] == "*" for name in words.message))
-        for message in result.messages:
-            print(f"{message.name}: {message.mark}{message.unsigned}")
-        for name, cause in ((message.name, cause) for message in result.messages for cause in message.causes[:3]):
-            fault = cause.node.fault(f"{cause.place}: {cause.why}")
-            print(f"derguard-lower: {name} can't go: {fault.shown()}", file=sys.stderr)
-        for name in (name for name in (*bindings.bind, *bindings.depths) if name not in bindings.used):
-            way = bindings.way(library, name)
-            place = result.job.place_of(way)
-            why = f"no message reaches {name}, which the bindings name"
-            why += "" if place == way else ": a place begins at the definition that has the component"
-            why += "" if place in (way, None) else f": {place}"
-            print(f"derguard-lower: {why}", file=sys.stderr)
-        status = result.status
-    return status
+    if not words.output:
+        return 0
+    result = lower(library, bindings, messages, False)
+    write(result, Path(words.output), any(name.rpartition(".")[2] == "*" for name in words.message))
+    for message in result.messages:
+        print(f"{message.name}: {message.mark}{message.unsigned}")
+    for name, cause in ((one.name, cause) for one in result.messages for cause in one.causes[:3]):
+        fault = cause.node.fault(f"{cause.place}: {cause.why}")
+        print(f"derguard-lower: {name} can't go: {fault.shown()}", file=sys.stderr)
+    for name in (name for name in (*bindings.bind, *bindings.depths) if name not in bindings.used):
+        way = bindings.way(library, name)
+        place = result.job.place_of(way)
+        why = f"no message reaches {name}, which the bindings name"
+        why += "" if place == way else ": a place begins at the definition that has the component"
+        why += "" if place in (way, None) else f": {place}"
+        print(f"derguard-lower: {why}", file=sys.stderr)
+    return result.status
 
 
 def main() -> int:

@@ -48,14 +48,13 @@ class Outputs:
 
     def way(self, scope: Scope, node: Type, tags: bool = True) -> Iterator[Way]:
         """A type, and all that is on the way to what it stands for."""
-        found: Way | None = (scope, node, None)
+        place: Place | None = None
         for _ in range(100):
-            if found is None:
-                return
-            yield found
-            scope, node, place = found
+            yield scope, node, place
             inner = node.inner if isinstance(node, Constrained) or isinstance(node, Tagged) and tags else None
-            found = self.step(scope, node) if inner is None else (scope, inner, place)
+            if not (found := (scope, inner, place) if inner else self.step(scope, node)):
+                return
+            scope, node, place = found
 
     def step(self, scope: Scope, node: Type) -> Way | None:
         """What a reference stands for, one step on; None where it is no reference, or nothing is known of it."""
@@ -64,8 +63,7 @@ class Outputs:
         if node.fields:
             found = self.class_field(scope, node)
             return (*found, None) if isinstance(found, tuple) else None
-        actual = scope.actual(node.name, node.module)
-        if actual is not None:
+        if actual := scope.actual(node.name, node.module):
             held = type_at(actual.span)
             return (actual.scope, held, None) if held else None
         definition = self.library.known(scope.module, node.name, node.module, "type", "set")
@@ -130,8 +128,7 @@ class Outputs:
 
     def governs(self, scope: Scope, node: Node | None) -> Definition | None:
         """The class that a governor names, also by a dummy parameter."""
-        actual = scope.actual(node.name, node.module) if isinstance(node, Reference) else None
-        if actual is not None:
+        if isinstance(node, Reference) and (actual := scope.actual(node.name, node.module)):
             return self.governs(actual.scope, type_at(actual.span))
         return self.library.governs(scope.module, node)
 
@@ -162,8 +159,7 @@ class Outputs:
         """What a name of an object (a value) or set of objects stands for: its scope, its class and its tokens."""
         source, a, b = span
         word, module = source.tokens[b - 1].text, source.tokens[a].text if b == a + 3 else None
-        actual = scope.actual(word, module)
-        if actual is not None:
+        if actual := scope.actual(word, module):
             return actual.scope, held, actual.span
         found = self.library.known(scope.module, word, module, kind)
         if found is None or found.parameters is not None:
@@ -214,8 +210,7 @@ class Outputs:
         """The types that objects of a table have for an open type."""
         found, name = self.table_of(scope, node) or ([], "")
         known = [one for one in found if isinstance(one, tuple) and name in one[1]]
-        held = [(there, type_at(fields[name])) for there, fields in known]
-        return [(there, tree) for there, tree in held if tree is not None]
+        return [(there, tree) for there, fields in known if (tree := type_at(fields[name]))]
 
     def full_text(self, scope: Scope, tree: Type) -> str:
         """A type's text, with the modules of the definitions that it names."""
@@ -238,12 +233,10 @@ class Outputs:
     # what goes out
 
     def output(self, definition: Definition, scope: Scope | None = None) -> Output:
-        """What goes out for a definition, maybe that for other parameters, with an equal text and equal marks; CannotGo
-        where it can't."""
+        """What goes out for a definition, maybe that for other parameters with equal text and marks; or CannotGo."""
         scope = scope or Scope(definition.module, group=self.recursion.groups.get(definition, -1))
         key = (definition, *scope.key())
-        found = self.outputs.get(key)
-        if found is None:
+        if (found := self.outputs.get(key)) is None:
             out = self.outputs[key] = Output(definition.module, "", definition, Place(definition), scope=scope)
             self.fill(out, lambda: self.definition(out, scope))
             others = self.outputs.values() if scope.actuals and not out.stop else ()
@@ -282,8 +275,7 @@ class Outputs:
 
     def extra(self, key: object, home: Module, site: Site, name: str, make: Callable[[], Lowered]) -> Lowered:
         """A definition of its own in a module, for a type that is written inside another one."""
-        out = self.outputs.get(key)
-        if out is None:
+        if (out := self.outputs.get(key)) is None:
             out = self.outputs[key] = Output(home, "", self.here.origin, site.place)
             self.fill(out, make)
             out.text = f" ::= {out.text}"

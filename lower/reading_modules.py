@@ -5,12 +5,10 @@ from collections.abc import Callable
 from functools import cache
 from typing import Any, TypeVar
 
-from tokens import RESERVED, STRINGS, TIMES, Fault, Source
+from tokens import RESERVED, SINGLE, Fault, Source
 from tree import ClassField, Component, Constrained, Constraint, Definition, Element, Import, Item, ListOf, Module, Node
 from tree import Part, Plain, Reference, Selection, Set, Span, Structure, Tagged, Type, Value
 
-OTHERS = "ANY BOOLEAN ENUMERATED EXTERNAL INTEGER NULL OID-IRI REAL RELATIVE-OID RELATIVE-OID-IRI"
-SINGLE = STRINGS | TIMES | set(OTHERS.split())
 PAIRS = ("OCTET STRING", "BIT STRING", "OBJECT IDENTIFIER", "CHARACTER STRING", "EMBEDDED PDV", "INSTANCE OF")
 VALUE_WORDS = ("TRUE", "FALSE", "NULL", "PLUS-INFINITY", "MINUS-INFINITY", "NOT-A-NUMBER")
 ENDS = ("MIN", "MAX")
@@ -254,8 +252,7 @@ class Reader:
         if self.is_lower() and self.text(1) == "<":
             self.at += 2
             return self.node(Selection, begin, alternative=word, inner=self.type())
-        name = self.take(*PAIRS) or (self.next() if word in SINGLE else "")
-        if not name:
+        if not (name := self.take(*PAIRS) or (self.next() if word in SINGLE else "")):
             return self.reference()
         if name == "ANY" and self.take("DEFINED"):
             self.need("BY")
@@ -398,15 +395,13 @@ class Reader:
             if not name[:1].isalpha():
                 raise
             self.at = begin
-            node = self.node(Definition, begin, module=module, name=name)
-            node.kind, node.unread = "unread", fault
+            node = self.node(Definition, begin, module=module, name=name, kind="unread", unread=fault)
             assigned = self.next() == "::="
             while self.text() and not (self.text() == "END" or assigned and self.begins_assignment()):
                 assigned = self.next() == "::=" or assigned
         node.b = self.at
         module.definitions.append(node)
-        first = module.named.get(name)
-        if first is None or first.kind in ("unread", "macro"):
+        if (first := module.named.get(name)) is None or first.kind in ("unread", "macro"):
             module.named[name] = node
         elif node.kind not in ("unread", "macro") and first.text() != node.text():
             module.twice[name] = node

@@ -16,8 +16,7 @@ class Recursion:
     def __init__(self, library: Library, bindings: Bindings, messages: list[Definition], depth: int) -> None:
         self.library, self.bindings, self.depth = library, bindings, depth
         self.heads: set[Definition] = set()
-        graph: Graph = {}
-        todo = list(messages)
+        graph, todo = Graph(), list(messages)
         while todo:
             definition = todo.pop()
             if definition not in graph:
@@ -69,8 +68,7 @@ class Recursion:
 def circles(graph: Graph) -> list[list[Definition]]:
     """The sets of definitions that reach each other (Tarjan's strongly connected components), those alone left out."""
     order: dict[Definition, int] = {}
-    stack: list[Definition] = []
-    found: list[list[Definition]] = []
+    stack, found = list[Definition](), list[list[Definition]]()
 
     def visit(node: Definition) -> int:
         """The first on the stack that a definition reaches, by its order; those off it are last."""

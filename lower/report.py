@@ -5,11 +5,12 @@ from collections import Counter, defaultdict
 from dataclasses import dataclass, field
 from typing import Any
 
-from job import CANT, LOOSER, MARKS, NEITHER, SAME, Change, Output, reached
+from job import CANT, LOOSER, MARKS, NEITHER, SAME, Change, Output, Place, reached
 from library import spelled
 from lowering import Job
 from tokens import Fault, has_comment
 from tree import Definition, Module
+
 
 @dataclass
 class Text:
@@ -37,17 +38,15 @@ def texts(modules: list[Module], roots: list[Output]) -> list[Text]:
 def whole(text: Text) -> str:
     module, tokens = text.module, text.module.source.tokens
     before = tokens[module.a].space.replace("\ufeff", "").lstrip("\n")
-    edits = [(module.a, module.a + 1, spelled(module.name)), *((a, b, "") for a, b in module.cuts if b > a)]
+    edits = [(module.a, module.a + 1, spelled(module.name)), *((a, b, "") for a, b in module.cuts)]
     parts = [before, module.source.emit(module.a, module.body, edits), exports(text), imports(text)]
-    left = list(text.outputs)
     for definition in module.definitions:
-        own = [out for out in left if out.origin is definition]
+        own = [out for out in text.outputs if out.origin is definition]
         own.sort(key=lambda out: out.name != spelled(definition.name))
         for number, out in enumerate(own):
             space = tokens[definition.a].space if not number else "\n\n"
             parts.append(f"{space if space.strip() or chr(10) in space else chr(10)}{out.name}{out.text}")
-            left.remove(out)
-    parts += [f"\n\n{out.name}{out.text}" for out in left]
+    parts += [f"\n\n{out.name}{out.text}" for out in text.outputs if out.origin.module != module]
     end = tokens[module.b - 1].space
     parts.append((end if "\n" in end else "\n") + "END\n")
     return "".join(parts).replace("\u00a0", " ").replace("\x0c", "\n")
@@ -82,8 +81,7 @@ def imports(text: Text) -> str:
             held = [tokens[k].space + stay[k] for k in kept]
             held += [f" {name}" for name in names if name not in [stay[k] for k in kept]]
             names.clear()
-            edits = [(clause.module_at, clause.module_at + 1, spelled(clause.module))]
-            edits += [(*clause.cut, "")] if clause.cut[1] > clause.cut[0] else []
+            edits = [(clause.module_at, clause.module_at + 1, spelled(clause.module)), (*clause.cut, "")]
             origin = module.source.emit(clause.module_at - 1, clause.b, edits)
             parts.append(",".join(held) + tokens[clause.module_at - 1].space + origin)
             after = tokens[clause.b].space
@@ -144,9 +142,7 @@ class Result:
 
     @property
     def status(self) -> int:
-        if any(message.mark == CANT for message in self.messages):
-            return 2
-        return int(any(message.unsigned for message in self.messages))
+        return max((2 if one.mark == CANT else int(one.unsigned != "") for one in self.messages), default=0)
 
     @property
     def unread(self) -> list[tuple[str, Fault]]:
@@ -160,12 +156,11 @@ class Result:
         self.changes.sort(key=lambda change: tuple(where(change).values()))
         for number, change in enumerate(self.changes, 1):
             change.number, change.signed = number, self.job.bindings.signs(change)
-        for message in (message for message in self.messages if message.out is not None):
-            outputs, mark = reached([message.out] if message.out is not None else []), 0
-            message.changes = [change for out in outputs for change in out.changes.values()]
-            for change in message.changes:
-                mark |= MARKS.index(change.mark)
-            message.mark = MARKS[mark]
+        for message in self.messages:
+            if message.out is not None:
+                message.changes = [one for out in reached([message.out]) for one in out.changes.values()]
+                marks = {MARKS.index(change.mark) for change in message.changes}
+                message.mark = MARKS[min(sum(marks), 3)]  # tighter (1) and looser (2) make neither (3)
 
     def roots(self) -> list[Change]:
         """The root causes of all that can't go, each with what it takes along."""
@@ -202,12 +197,11 @@ def at(found: Change | Fault) -> str:
 
 def as_json(result: Result) -> str:
     messages: list[dict[str, object]] = [
-        {"name": message.name, "module": "" if message.out is None else spelled(message.out.module.name)}
-        | {"type": "" if message.out is None else message.out.name}
-        | {"source": f"{message.definition.module.name}.{message.definition.name}", "mark": message.mark}
-        | {"signed": not message.unsigned, "changes": [change.number for change in message.changes]}
-        | {"causes": message.reasons()}
-        for message in result.messages
+        {"name": one.name, "module": spelled(one.out.module.name) if one.out else ""}
+        | {"type": one.out.name if one.out else "", "source": str(Place(one.definition)), "mark": one.mark}
+        | {"signed": not one.unsigned, "changes": [change.number for change in one.changes]}
+        | {"causes": one.reasons()}
+        for one in result.messages
     ]
     words = ("step", "original", "replacement", "mark", "why", "signed")
     changes = [
@@ -225,9 +219,8 @@ def as_json(result: Result) -> str:
         bound = " | ".join(binding) if isinstance(binding, list) else binding
         holes.append({"place": str(cause.place), **where(cause), "kind": cause.step, "bound": bound})
         holes[-1]["candidates"] = cause.candidates
-    modules = [
-        {"name": text.name, "source": text.module.source.path, "output": f"{text.name}.asn1"} for text in result.texts
-    ]
+    files = [(text.name, text.module.source.path) for text in result.texts]
+    modules = [{"name": name, "source": path, "output": f"{name}.asn1"} for name, path in files]
     unread = [where(fault) | {"why": f"{name}: {fault.why}"} for name, fault in result.unread]
     held = {"status": result.status, "messages": messages, "changes": changes, "left_out": left_out, "holes": holes}
     return json.dumps(held | {"modules": modules, "unread": unread}, indent=1, ensure_ascii=False) + "\n"
@@ -237,8 +230,8 @@ def as_markdown(result: Result) -> str:
     lines = [HEAD]
     for message in result.messages:
         signed = "" if message.mark not in (LOOSER, NEITHER) else message.unsigned or ", signed"
-        lines.append(f"- **{message.name}**: *{message.mark}*{signed}")
-        lines += [f"  - {reason}" for reason in message.reasons()]
+        head = f"- **{message.name}**: *{message.mark}*{signed}"
+        lines += [head, *map("  - {}".format, message.reasons())]
     lines.append(COLUMNS)
     for change in sorted(result.changes, key=lambda change: change.mark == SAME):
         cells = [at(change), str(change.place), change.step, cell(change.original), cell(change.replacement)]
@@ -246,8 +239,7 @@ def as_markdown(result: Result) -> str:
     causes = [cause for cause in result.roots() if cause.takes]
     lines += ["", "## What can't go, and what goes with it", ""] if causes else []
     for cause in causes:
-        lines.append(f"- {at(cause)}: {cause.place}: {cause.why}")
-        lines += [f"  - {place}" for place in cause.takes]
+        lines += [f"- {at(cause)}: {cause.place}: {cause.why}", *map("  - {}".format, cause.takes)]
     lines += ["", "## Assignments that couldn't be read", ""] if result.unread else []
     lines += [f"- {at(fault)}: {name}: {fault.why}" for name, fault in result.unread]
     return "\n".join(lines) + "\n"

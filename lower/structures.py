@@ -75,8 +75,7 @@ class Structures(Constraints):
 
     def lower_entries(self, node: Structure, gone: dict[str, list[Change]], entries: list[Entry]) -> bool:
         """Lowers the components, and says whether one of them goes where a recursion ends."""
-        causes: list[Change] = []
-        ends, ended, gone_from = False, False, 0
+        causes, ends, ended, gone_from = list[Change](), False, False, 0
         for entry in entries:
             item, place = entry.item, entry.place
             if gone_from and entry.version >= gone_from:
@@ -169,8 +168,7 @@ class Structures(Constraints):
 
     def version_rule(self, node: Structure, site: Site, entries: list[Entry]) -> str:
         """The constraint that additions come with all that is mandatory in earlier versions and in their own."""
-        made = [entry for entry in entries if entry.mandatory and entry.text]
-        if not made:
+        if not (made := [entry for entry in entries if entry.mandatory and entry.text]):
             return ""
         rules, exact = "", len(made) <= MOST_VERSIONS
         try:

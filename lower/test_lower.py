@@ -118,6 +118,8 @@ class Same(Case):
 
     def test_strings_in_braces(self) -> None:
         self.gives('A ::= SEQUENCE {a IA5String DEFAULT {4,1}}', 'A ::= SEQUENCE {a IA5String DEFAULT "A"}', "same")
+        body = "A ::= SEQUENCE {a IA5String DEFAULT {1000000000, 5}}"
+        self.gives(body, "A ::= SEQUENCE {a IA5String OPTIONAL}", "looser")
 
     def test_value_set(self) -> None:
         self.gives("A INTEGER ::= {1 | 2 | 5..7}", "A ::= INTEGER (1 | 2 | 5..7)", "same")

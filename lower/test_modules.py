@@ -133,5 +133,15 @@ class Modules(Case):
             lower(["M DEFINITIONS ::= BEGIN A ::= NULL END", "M DEFINITIONS ::= BEGIN A ::= INTEGER END"], "A")
 
 
+class Size(unittest.TestCase):
+    def test_no_more_than_can_be_read(self) -> None:
+        """Nothing proves this tool, so whoever trusts what it writes has to be able to read all of it."""
+        folder = Path(main.__file__).parent
+        files = [path for path in folder.glob("*.py") if not path.name.startswith("test_")]
+        texts = [path.read_text(encoding="utf-8") for path in (*files, folder / "derguard-lower")]
+        lines = [line for text in texts for line in text.split("\n") if line.strip()]
+        self.assertLessEqual(len(lines), 3000, "lines of the tool that hold something, its tests aside")
+
+
 if __name__ == "__main__":
     unittest.main()

@@ -7,19 +7,16 @@ from collections.abc import Iterable
 from dataclasses import dataclass, field
 from pathlib import Path
 
-STRINGS = frozenset(
-    """BMPString GeneralString GraphicString IA5String ISO646String NumericString PrintableString T61String
-    TeletexString UniversalString UTF8String VideotexString VisibleString ObjectDescriptor""".split()
-)
+STRINGS = frozenset("""BMPString GeneralString GraphicString IA5String ISO646String NumericString PrintableString
+    T61String TeletexString UniversalString UTF8String VideotexString VisibleString ObjectDescriptor""".split())
 TIMES = frozenset("GeneralizedTime UTCTime DATE DATE-TIME DURATION TIME TIME-OF-DAY".split())
-RESERVED = STRINGS | TIMES | set(
-    """ABSENT ABSTRACT-SYNTAX ALL ANY APPLICATION AUTOMATIC BEGIN BIT BOOLEAN BY CHARACTER CHOICE CLASS COMPONENT
-    COMPONENTS CONSTRAINED CONTAINING DEFAULT DEFINITIONS EMBEDDED ENCODED ENCODING-CONTROL END ENUMERATED EXCEPT
-    EXPLICIT EXPORTS EXTENSIBILITY EXTERNAL FALSE FROM IDENTIFIER IMPLICIT IMPLIED IMPORTS INCLUDES INSTANCE
-    INSTRUCTIONS INTEGER INTERSECTION MAX MIN MINUS-INFINITY NOT-A-NUMBER NULL OBJECT OCTET OF OID-IRI OPTIONAL
-    PATTERN PDV PLUS-INFINITY PRESENT PRIVATE REAL RELATIVE-OID RELATIVE-OID-IRI SEQUENCE SET SETTINGS SIZE STRING
-    SYNTAX TAGS TRUE TYPE-IDENTIFIER UNION UNIQUE UNIVERSAL WITH""".split()
-)  # fmt: skip
+SINGLE = STRINGS | TIMES | set("""ANY BOOLEAN ENUMERATED EXTERNAL INTEGER NULL OID-IRI REAL
+    RELATIVE-OID RELATIVE-OID-IRI""".split())
+RESERVED = SINGLE | set("""ABSENT ABSTRACT-SYNTAX ALL APPLICATION AUTOMATIC BEGIN BIT BY CHARACTER CHOICE CLASS
+    COMPONENT COMPONENTS CONSTRAINED CONTAINING DEFAULT DEFINITIONS EMBEDDED ENCODED ENCODING-CONTROL END EXCEPT
+    EXPLICIT EXPORTS EXTENSIBILITY FALSE FROM IDENTIFIER IMPLICIT IMPLIED IMPORTS INCLUDES INSTANCE INSTRUCTIONS
+    INTERSECTION MAX MIN MINUS-INFINITY NOT-A-NUMBER OBJECT OCTET OF OPTIONAL PATTERN PDV PLUS-INFINITY PRESENT
+    PRIVATE SEQUENCE SET SETTINGS SIZE STRING SYNTAX TAGS TRUE TYPE-IDENTIFIER UNION UNIQUE UNIVERSAL WITH""".split())
 TOKEN = re.compile(
     r"""&?[A-Za-z](?:-?[A-Za-z0-9_])* | [0-9]+(?:\.[0-9]+)? | "(?:[^"]|"")*" | '[0-9A-Fa-f\s]*'[BH]
       | ::= | \.\.\. | \.\. | \[\[ | \]\] | [][{}(),;:|^<>.!@=*+/$\#-]""",
@@ -76,11 +73,10 @@ class Source:
 
     def emit(self, a: int, b: int, edits: Iterable[Edit] = ()) -> str:
         """The text of the tokens from a up to b, some of them replaced; comments before what goes stay."""
-        out: list[str] = []
-        at = a
+        out, at = list[str](), a
         for begin, end, text in [*sorted(edits, key=lambda edit: edit[:2]), (b, b, "")]:
             out += [(token.space if k > a else "") + token.text for k, token in enumerate(self.tokens[at:begin], at)]
-            space = self.tokens[begin].space if a < begin < b else ""
+            space = self.tokens[begin].space if a < begin < end else ""
             if text or has_comment(space):
                 out.append(space + text)
             at = end
@@ -104,8 +100,7 @@ def read_file(path: str) -> Source:
 
 
 def cut(path: str, text: str) -> Source:
-    """Cuts a text into tokens; the last one is the end, with what is before it. Comments in /* and */ may have others
-    inside."""
+    """Cuts a text into tokens; the last one is the end, with what is before it. Comments in /* and */ may be nested."""
     text = text.replace("\r\n", "\n").replace("\r", "\n").replace("\x1a", " ")
     source, at = Source(path, text), 0
     while not source.tokens or source.tokens[-1].text:
@@ -118,8 +113,7 @@ def cut(path: str, text: str) -> Source:
             at = found.end()
         if opened:
             raise Fault("the comment that is opened here isn't closed", source, opened[0])
-        found = TOKEN.match(text, at)
-        if found is None and at < len(text):
+        if (found := TOKEN.match(text, at)) is None and at < len(text):
             what = "string isn't closed" if text[at] in "\"'" else f"character {text[at]!r} can't stand here"
             raise Fault(what, source, at)
         source.tokens.append(Token(found.group() if found else "", text[begin:at], at))

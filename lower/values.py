@@ -4,15 +4,15 @@ from __future__ import annotations
 
 import re
 from collections.abc import Callable
+from contextlib import suppress
 from dataclasses import dataclass, replace
 
 from job import LOOSER, SAME, TIGHTER, CannotGo, NoValue, Scope, Site, Typed, reached
-from library import spelled
+from library import item_named, spelled
 from meaning import Outputs
 from reading_modules import Reader, type_at
 from tokens import STRINGS, TIMES, Edit, cut, quoted, unquoted
-from tree import Constrained, Constraint, Element, Item, ListOf, Node, Part, Plain, Reference, Set, Structure, Type
-from tree import Value
+from tree import Constrained, Constraint, Element, ListOf, Node, Part, Plain, Reference, Set, Structure, Type, Value
 
 Arcs = list[tuple[str, int]]
 ITU_ARCS = ("recommendation", "question", "administration", "network-operator", "identified-organization")
@@ -68,12 +68,10 @@ class Constraints(Outputs):
     def referred(self, scope: Scope, node: Value) -> tuple[Scope, Value]:
         """What a reference, a parameter or a field of an object stands for as a value, and its scope."""
         if node.form == "field":
-            setting = self.object_field(scope, node, node.source.tokens[node.b - 1].text)
-            if setting is None:
+            if not (setting := self.object_field(scope, node, node.source.tokens[node.b - 1].text)):
                 raise NoValue(f"{node.text()} isn't known")
             return setting[0], Reader(*setting[1][:2]).value()
-        actual = scope.actual(node.name, node.module)
-        if actual is not None:
+        if actual := scope.actual(node.name, node.module):
             return actual.scope, Reader(*actual.span[:2]).value()
         found = self.library.find(scope.module, node.name, node.module)
         if isinstance(found, str) or found.kind != "value" or found.value is None or found.type is None:
@@ -104,8 +102,7 @@ class Constraints(Outputs):
         return string_in_braces(found) if found.form == "braces" else found.text()
 
     def named(self, scope: Scope, node: Value, there: Scope, base: Type) -> str:
-        item = item_named(base, node) if base.word in ("INTEGER", "ENUMERATED") else None
-        if item is not None:
+        if base.word in ("INTEGER", "ENUMERATED") and (item := item_named(base, node)):
             dropped = item.number if item in self.dropped else None
             return str(self.number(there, dropped)) if dropped else spelled(node.name)
         if base.word != "INTEGER":
@@ -113,12 +110,10 @@ class Constraints(Outputs):
         found = within_limits(self.number(scope, node))
         definition = self.library.known(scope.module, node.name, node.module, "value")
         keeps_name = spelled(node.name) == node.name and node.name not in scope.actuals
-        if definition is None or definition.module is not self.here.module or not keeps_name:
-            return found
-        try:
-            return self.refer(self.output(definition))
-        except CannotGo:
-            return found
+        if definition and definition.module is self.here.module and keeps_name:
+            with suppress(CannotGo):
+                return self.refer(self.output(definition))
+        return found
 
     def braces(self, scope: Scope, node: Value, there: Scope, base: Type) -> str:
         if base.word == "OBJECT IDENTIFIER":
@@ -159,8 +154,7 @@ class Constraints(Outputs):
             return [(spelled(named_as), self.number(scope, node))]
         if node.form != "braces" or deep > 30:
             raise NoValue(f"{node.text()} is no object identifier")
-        arcs: Arcs = []
-        reader = Reader(node.source, node.a + 1)
+        arcs, reader = Arcs(), Reader(node.source, node.a + 1)
         while reader.at < node.b - 1:
             word = reader.next()
             if reader.take("("):
@@ -188,18 +182,16 @@ class Constraints(Outputs):
         """The root of the constraint that a type ends with, where it has additions: they don't count in a type that is
         constrained further, nor in one that is contained (X.680 50.8)."""
         for scope, node, _ in self.way(*governor):
-            last = node.size if isinstance(node, ListOf) else None
-            last = node.constraints[-1] if isinstance(node, Constrained) else last
-            if last is not None:
-                return f" {self.constraint(scope, last, (scope, node), site, True)}" if has_additions(last) else ""
+            match node:
+                case ListOf(size=Constraint() as last) | Constrained(constraints=[*_, last]):
+                    return f" {self.constraint(scope, last, (scope, node), site, True)}" if has_additions(last) else ""
         return ""
 
     def sizes(self, scope: Scope, node: Set, rooted: bool = False) -> Sizes | None:
         """The ranges of a set of numbers, None above for no limit; None where it isn't plain to see."""
-        try:
+        with suppress(NoValue):
             return [size for e in union(node) for size in self.element_sizes(scope, e, rooted)]
-        except NoValue:
-            return None
+        return None
 
     def element_sizes(self, scope: Scope, node: Element, rooted: bool) -> Sizes:
         if node.form == "size" and node.constraint is not None:
@@ -319,11 +311,10 @@ class Work:
         held, word = node.constraint, self.governor[1].word
         if self.kind != "string" or held is None:
             return self.drop(node, "FROM doesn't go with this type")
-        try:
+        texts: list[str] = []
+        with suppress(NoValue):
             parts = union(held.root) + ([] if self.rooted else union(held.more))
             texts = [self.characters(part, word) for part in parts]
-        except NoValue:
-            texts = []
         if not texts or held.marked and self.exact:
             return self.drop(node, "the profile has FROM of strings and ranges alone")
         if held.marked:
@@ -402,8 +393,7 @@ class Work:
         for value in (value for value in node.values if value.form != "word"):
             item = item_named(base, value)
             number = self.job.number(there, item.number) if item and item.number else self.job.number(self.scope, value)
-            text = "MAX" if number > LARGEST else "MIN" if number < LEAST else ""
-            if text:
+            if text := "MAX" if number > LARGEST else "MIN" if number < LEAST else "":
                 self.job.note(self.site, value, "limit", LIMIT, TIGHTER, text)
             edits.append(value.by(text or self.job.value(self.scope, value, self.governor)))
         return node.emit(*edits)
@@ -466,12 +456,6 @@ def has_additions(node: Constraint) -> bool:
     return node.more is not None or any(map(has_additions, inner))
 
 
-def item_named(base: Type | None, node: Value) -> Item | None:
-    """The item, named number or bit of a type that a value is by its name."""
-    items = base.items if isinstance(base, Plain) and node.form == "name" and node.module is None else []
-    return next((item for item in items if item.name == node.name), None)
-
-
 def within_limits(number: int) -> str:
     if not LEAST <= number <= LARGEST:
         raise NoValue(LIMIT)
@@ -490,7 +474,7 @@ def string_in_braces(node: Node) -> str:
         elif word == "}" and numbers:
             in_table = 16 * numbers[0] + numbers[-1] if len(numbers) == 2 else 0
             code = numbers[-1] if numbers[:-1] == [0, 0, 0] else in_table
-            text, numbers = text + chr(code), []
+            text, numbers = text + (chr(code) if code < 127 else ""), []
         if word[0].isalpha() or not 32 <= code < 127:
             raise NoValue(f"{node.text()[:60]} has no notation in quotes")
     return quoted(text)

@@ -1,4 +1,5 @@
 -- What only private contracts and proofs cite.
 pub mod Failures
+pub mod KnownCodes
 pub mod LongLists
 pub mod NumberSets

@@ -3,9 +3,16 @@ ghost use Rattle.std.specs.Prelude.{◌≡◌, length, pos, chars, option_map};
 ghost use Rattle.std.specs.List.{list_all};
 ghost use Rattle.guard_model.specs.ValueView.{value_view};
 ghost use Rattle.guard_eval.specs.Elements.{is_above, is_under, is_between, size_of, is_in_some, is_spelled_in};
+ghost use Rattle.guard_eval.specs.inside.KnownCodes.{AreKnown};
 
 use guard_der::bits::count_bits;
 use guard_model::{Limit, Value};
+
+/// From so many octets on, looking a text's characters up in a table costs less than going through the ranges for each.
+const LONG_TEXT: usize = 256;
+
+/// How many codes have a place in the table: those of ASCII.
+const LOW_CODES: usize = 128;
 
 /// Whether the value is an integer between the ends (X.680 51.4).
 pub fn is_between(low: &Limit, high: &Limit, value: &Value) -> bool
@@ -70,12 +77,44 @@ pub fn is_spelled_in(ranges: &[(u32, u32)], value: &Value) -> bool
 pub fn are_permitted(ranges: &[(u32, u32)], text: &str) -> bool
     ensures { result ≡ list_all (is_in_some ranges.now) (chars text.now) }
 {
+    if text.len() < LONG_TEXT {
+        return are_all_permitted(&[], ranges, text);
+    }
+    are_all_permitted(low_codes(ranges).as_slice(), ranges, text)
+}
+
+/// Of each code below 128, whether it is in one of the ranges.
+fn low_codes(ranges: &[(u32, u32)]) -> [bool; LOW_CODES]
+    ensures { AreKnown ranges.now result }
+{
+    let mut known = [false; LOW_CODES];
+    for code in 0..LOW_CODES {
+        known[code] = is_in_some(ranges, code as u32);
+    }
+    known
+}
+
+/// Whether the code of each character is in one of the ranges, where this is known of the first codes, or of none.
+fn are_all_permitted(known: &[bool], ranges: &[(u32, u32)], text: &str) -> bool
+    requires { AreKnown ranges.now known.now }
+    ensures { result ≡ list_all (is_in_some ranges.now) (chars text.now) }
+{
     for character in text.chars() {
-        if !is_in_some(ranges, u32::from(character)) {
+        if !is_permitted(known, ranges, u32::from(character)) {
             return false;
         }
     }
     true
+}
+
+fn is_permitted(known: &[bool], ranges: &[(u32, u32)], code: u32) -> bool
+    requires { AreKnown ranges.now known.now }
+    ensures { result ≡ is_in_some ranges.now code }
+{
+    match known.get(code as usize) {
+        Some(is_permitted) => *is_permitted,
+        None => is_in_some(ranges, code),
+    }
 }
 
 /// Whether the code is in one of the ranges, both ends in (X.680 51.7).

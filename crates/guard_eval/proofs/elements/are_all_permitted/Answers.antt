@@ -6,21 +6,21 @@ use Rattle.std.proofs.lemmas.List.{length_push}
 use Rattle.guard_eval.specs.Elements.{is_in_some}
 use Rattle.guard_model.proofs.Tests.{and_on, and_stop}
 use Rattle.guard_eval.proofs.Characters.{character_next, characters_end}
-use Rattle.guard_eval.proofs.elements.are_permitted.Goals as goal
+use Rattle.guard_eval.proofs.elements.are_all_permitted.Goals as goal
 
-pub returns-then-not-is_in_some : goal.returns-then-not-is_in_some
-returns-then-not-is_in_some c =
+pub returns-then-not-is_permitted : goal.returns-then-not-is_permitted
+returns-then-not-is_permitted c =
     let t = YieldsList-turn (YieldsList-from_chars c.args.text.now c.utf8.text cc) c.loop-character.yielded _ c.loop-character.yielded_by _ _ c.in-Some.character c.in-Some.is c.next.ensures.steps in
     let e = character_next c.args.ranges.now (chars c.args.text.now) (length c.loop-character.yielded) c.in-Some.character t in
-    let tested = c.is_in_some.ensures ∙ ap (λ (x : ℕ). is_in_some c.args.ranges.now x) c.from.ensures in
-    and_stop _ _ _ (sym tested ∙ c.if-not-is_in_some.true) (sym e ∙ c.loop-character.invariant)
+    let tested = c.is_permitted.ensures ∙ ap (λ (x : ℕ). is_in_some c.args.ranges.now x) c.from.ensures in
+    and_stop _ _ _ (sym tested ∙ c.if-not-is_permitted.true) (sym e ∙ c.loop-character.invariant)
 
 pub loop-character-preserved : goal.loop-character-preserved
 loop-character-preserved c =
     let t = YieldsList-turn (YieldsList-from_chars c.args.text.now c.utf8.text cc) c.loop-character.yielded _ c.loop-character.yielded_by _ _ c.in-Some.character c.in-Some.is c.next.ensures.steps in
     let e = character_next c.args.ranges.now (chars c.args.text.now) (length c.loop-character.yielded) c.in-Some.character t in
-    let tested = c.is_in_some.ensures ∙ ap (λ (x : ℕ). is_in_some c.args.ranges.now x) c.from.ensures in
-    rw (length_push c.loop-character.yielded c.in-Some.character) (and_on _ _ _ (sym tested ∙ c.if-not-is_in_some.false) (sym e ∙ c.loop-character.invariant))
+    let tested = c.is_permitted.ensures ∙ ap (λ (x : ℕ). is_in_some c.args.ranges.now x) c.from.ensures in
+    rw (length_push c.loop-character.yielded c.in-Some.character) (and_on _ _ _ (sym tested ∙ c.if-not-is_permitted.false) (sym e ∙ c.loop-character.invariant))
 
 pub returns : goal.returns
 returns c =

@@ -12,5 +12,7 @@ pub mod Denoted
 pub mod FirstFaults
 -- ---- what is denoted fits
 pub mod Fitting
+-- ---- how many octets encodings have
+pub mod Counting
 -- ---- one answer
 pub mod OneAnswer

@@ -1,7 +1,7 @@
 //! Elements of OF types: their number, their order and their encodings.
-ghost use Rattle.std.specs.Prelude.{◌≡◌, ◌&&◌, [], ◌∷◌, map, true, IsTrue, IfOk, Some, if◌then◌else◌};
+ghost use Rattle.std.specs.Prelude.{◌≡◌, [], ◌∷◌, map, IsTrue, IfOk, Some, if◌then◌else◌};
 ghost use Rattle.guard_model.specs.Answer.{Gives};
-ghost use Rattle.guard_model.specs.TypeView.{type_view, kind_view};
+ghost use Rattle.guard_model.specs.TypeView.{type_view};
 ghost use Rattle.guard_model.specs.ValueView.{value_view};
 ghost use Rattle.guard_der.specs.Der.{der};
 ghost use Rattle.guard_der.specs.Fits.{fits};
@@ -15,57 +15,27 @@ ghost use Rattle.guard_values.specs.Views.{named, encoded_view};
 
 use crate::arrangement::{Encoded, arranged};
 use crate::fault::ValueFault;
-use guard_der::{EncodeFault, encode, encoded_length};
-use guard_model::{Kind, Site, Ty, Value};
+use guard_der::{EncodeFault, encode};
+use guard_model::{Site, Ty, Value};
 use guard_syntax::{EntryTree, ValueForm};
 use std::alloc::Global;
 
 /// The most elements of a value of an OF type.
 const MOST_ITEMS: usize = 4_294_967_295;
 
-/// The most octets that the encodings of a list's elements may have in all.
-pub const MOST_OCTETS: usize = 1_048_576;
-
-/// Whether the octets of elements are counted while a list is read: where SET OFs are sorted, and no component is inside.
-pub fn is_counted(sorted: bool, ty: &Ty) -> bool
-    ensures { result ≡ (sorted && reading.is_plain (type_view ty.now)) }
-{
-    sorted && is_plain(ty)
-}
-
-/// Without a component inside: no value has to be compared with a default then to tell how long its encoding is.
-#[cycle(plain)]
-fn is_plain(ty: &Ty) -> bool
-    ensures { result ≡ reading.is_plain (type_view ty.now) }
-{
-    is_plain_kind(&ty.kind)
-}
-
-#[cycle(plain)]
-fn is_plain_kind(kind: &Kind) -> bool
-    ensures { result ≡ reading.is_plain_kind (kind_view kind.now) }
-{
-    match kind {
-        Kind::Sequence(_) | Kind::Set(_) | Kind::Choice(_) => false,
-        Kind::SequenceOf(element) | Kind::SetOf(element) => is_plain(element),
-        _ => true,
-    }
-}
-
-/// How many octets are left for the elements after this entry's: where they aren't counted, as many as before.
+/// How many octets are left for the elements after this entry's, which has so many: where nothing is sorted they aren't
+/// counted, and as many are left as before.
 pub fn room_after(
-    counted: bool,
-    ty: &Ty,
+    sorted: bool,
     entry: &EntryTree,
-    value: &Value,
     room: usize,
+    length: Option<usize>,
 ) -> Result<usize, ValueFault>
-    requires { counted ≡ true → IsTrue (fits (type_view ty.now) (value_view value.now)) }
-    ensures { Gives (λ n. n) named result (reading.room_after counted
-        (reading.site_of (trees.entry_view entry.now).value) (type_view ty.now) (value_view value.now) room) }
+    ensures { Gives (λ n. n) named result (if sorted then reading.room_without
+        (reading.site_of (trees.entry_view entry.now).value) room length else Ok room) }
 {
-    if counted {
-        room_without(entry, room, encoded_length(ty, value))
+    if sorted {
+        room_without(entry, room, length)
     } else {
         Ok(room)
     }

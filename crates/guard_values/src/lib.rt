@@ -9,6 +9,7 @@
 //! | What do forms without a value inside say? | `simple.rt`, `strings.rt` (`quoted`), `object_identifiers.rt`, `names.rt` | `specs/Simple.antt` |
 //! | For which component is an entry, and what are those without one? | `components.rt` (`located`) | `specs/Places.antt` |
 //! | How many elements may there be, and in which order does a SET OF have them? | `elements.rt`, `arrangement.rt` | `specs/Arrangement.antt` |
+//! | How many octets has the encoding of what is read? | `lengths.rt` | `specs/inside/Lengths.antt` |
 //! | Is there one value, in whatever order a SET OF is written? | `laws.rt` | `specs/Denotes.antt` |
 #![tactic(auto)]
 
@@ -17,6 +18,7 @@ mod components;
 mod elements;
 mod fault;
 pub mod laws;
+mod lengths;
 mod named_bits;
 mod names;
 mod object_identifiers;

@@ -1,16 +1,22 @@
 //! Written values, read by their type.
-ghost use Rattle.std.specs.Prelude.{◌≡◌, ◌<◌, length, map, IsTrue, IfOk, Some, true, false};
-ghost use Rattle.guard_model.specs.Answer.{Gives};
+ghost use Rattle.std.specs.Prelude.{◌≡◌, ◌<◌, length, map, true, false, IsTrue, IfOk, Some, if◌then◌else◌};
+ghost use Rattle.guard_model.specs.AbstractType.{AbstractType};
+ghost use Rattle.guard_model.specs.AbstractType as type;
+ghost use Rattle.guard_model.specs.AbstractValue as value;
+ghost use Rattle.guard_model.specs.AbstractValue.{items_of};
+ghost use Rattle.guard_model.specs.Answer.{Gives, Refuses};
 ghost use Rattle.guard_model.specs.Slots.{all_absent};
 ghost use Rattle.guard_model.specs.TypeView.{type_view, kind_view, component_view, components_of};
-ghost use Rattle.guard_model.specs.ValueView.{value_view, fields_view};
-ghost use Rattle.guard_der.specs.Der.{der};
-ghost use Rattle.guard_der.specs.Encoding.{longest_encoding};
+ghost use Rattle.guard_model.specs.ValueView.{value_view, fields_view, items_view};
+ghost use Rattle.guard_tagcheck.specs.Distinct.{component_type};
+ghost use Rattle.guard_der.specs.Der.{der, contents_octets};
+ghost use Rattle.guard_der.specs.Encoding.{longest_encoding, short_length};
 ghost use Rattle.guard_der.specs.Sound.{is_proper, is_proper_kind, are_proper};
 ghost use Rattle.guard_syntax.specs.Trees.{entries_of};
 ghost use Rattle.guard_syntax.specs.Views as trees;
 ghost use Rattle.guard_values.specs.Meanings.{AreFitting};
 ghost use Rattle.guard_values.specs.Arrangement.{AreEncodings, encoded_value};
+ghost use Rattle.guard_values.specs.inside.Lengths.{IsCounted, HasContents};
 ghost use Rattle.guard_values.specs.inside.Reading as reading;
 ghost use Rattle.guard_values.specs.inside.Reading.{build, build_form, build_list, build_items, build_set_items};
 ghost use Rattle.guard_values.specs.inside.Reading.{build_entries, build_elements, entry_at, element_at, read_chosen};
@@ -21,14 +27,15 @@ ghost use Rattle.guard_values.specs.Views.{named, encoded_view, shared_view, val
 use crate::arrangement::Encoded;
 use crate::components::{alternative, completed, place_of};
 use crate::elements::{
-    MOST_OCTETS, encoded, encoding, is_counted, kept, listed, listed_set, object_identifier_fault,
-    room_after, room_without,
+    encoded, kept, listed, listed_set, object_identifier_fault, room_after, room_without,
 };
 use crate::fault::ValueFault;
+use crate::lengths::{Counted, MOST_OCTETS, bits_counted, in_tags, measured, with_part};
 use crate::named_bits::value_of_names;
 use crate::names::{reference, shared_reference};
 use crate::scope::ModuleScope;
 use crate::simple::{arcs, boolean, integer, null, text};
+use guard_der::encoded_length;
 use guard_model::{Comp, Kind, Site, Ty, Value, absent_fields, set_field};
 use guard_syntax::{EntryTree, ValueForm, ValueTree};
 use std::alloc::Global;
@@ -46,70 +53,74 @@ pub fn value_within_limit(
     ensures { Gives shared_view named result
         (build_whole (values_of scope.entry) (type_view ty.now) (trees.value_view tree.now)) }
 {
-    let value = shared_value(alloc, scope, tree, ty)?;
-    let _octets = encoding(alloc, ty, tree.site, &value)?;
+    let (value, length) = shared_value(alloc, scope, tree, ty)?;
+    if length.is_none() {
+        return Err(ValueFault::TooLarge(tree.site));
+    }
     Ok(value)
 }
 
-/// The value, its own encoding aside. A name gives a share of the value that it means.
+/// The value and the length of its encoding, which may be too long. A name gives a share of the value that it means.
 #[tactic(auto, unfolding(crate::specs::inside::Reading::build))]
 fn shared_value(
     alloc: Global,
     scope: ModuleScope,
     tree: &ValueTree,
     ty: &Ty,
-) -> Result<Arc<Value>, ValueFault>
+) -> Result<(Arc<Value>, Option<usize>), ValueFault>
     requires proper { IsTrue (is_proper (type_view ty.now)) }
     requires fitting { AreFitting (values_of scope) }
-    ensures { Gives shared_view named result
+    ensures given { Gives (λ x. shared_view x.0) named result
         (build_sorted (values_of scope.entry) (type_view ty.now) (trees.value_view tree.now)) }
+    ensures counted { IfOk result (λ x. x.1 ≡ short_length (der (type_view ty.now) (shared_view x.0))) }
 {
     if let ValueForm::Reference(name) = &tree.form {
-        return shared_reference(alloc, scope, ty, tree.site, name);
+        let value = shared_reference(alloc, scope, ty, tree.site, name)?;
+        let length = encoded_length(ty, &value);
+        return Ok((value, length));
     }
-    let value = sorted_value(alloc, scope, tree, ty)?;
-    Ok(Arc::new(alloc, value)?)
+    let counted = sorted_value(alloc, scope, tree, ty)?;
+    let value = Arc::new(alloc, counted.value)?;
+    Ok((value, counted.length))
 }
 
-/// The value, its own encoding aside. What is at fault elsewhere comes before an element of a SET OF whose encoding is
-/// too long to sort by.
+/// The value with the length of its encoding. What is at fault elsewhere comes before an element whose encoding is too
+/// long.
 fn sorted_value(
     alloc: Global,
     scope: ModuleScope,
     tree: &ValueTree,
     ty: &Ty,
-) -> Result<Value, ValueFault>
+) -> Result<Counted, ValueFault>
     requires proper { IsTrue (is_proper (type_view ty.now)) }
     requires fitting { AreFitting (values_of scope) }
-    ensures { Gives value_view named result
+    ensures given { Gives (λ c. value_view c.value) named result
         (build_sorted (values_of scope.entry) (type_view ty.now) (trees.value_view tree.now)) }
+    ensures counted { IfOk result (IsCounted (type_view ty.now)) }
 {
     match read(alloc, scope, true, tree, ty) {
-        Ok(value) => Ok(value),
+        Ok(counted) => Ok(counted),
         Err(ValueFault::OutOfMemory) => Err(ValueFault::OutOfMemory),
-        Err(_) => first_fault(alloc, scope, tree, ty),
+        Err(_) => Err(first_fault(alloc, scope, tree, ty)),
     }
 }
 
 /// The first fault of what is written, encodings aside; without one the encoding is too long.
-fn first_fault(
-    alloc: Global,
-    scope: ModuleScope,
-    tree: &ValueTree,
-    ty: &Ty,
-) -> Result<Value, ValueFault>
+fn first_fault(alloc: Global, scope: ModuleScope, tree: &ValueTree, ty: &Ty) -> ValueFault
     requires proper { IsTrue (is_proper (type_view ty.now)) }
     requires fitting { AreFitting (values_of scope) }
-    ensures { Gives value_view named result
+    ensures { Refuses (named result)
         (build_first_fault (values_of scope.entry) (type_view ty.now) (trees.value_view tree.now)) }
 {
-    let _value = read(alloc, scope, false, tree, ty)?;
-    Err(ValueFault::TooLarge(tree.site))
+    match read(alloc, scope, false, tree, ty) {
+        Ok(_counted) => ValueFault::TooLarge(tree.site),
+        Err(fault) => fault,
+    }
 }
 
-/// The value, its own encoding aside: each SET OF sorted, and no list whose elements have more octets than an encoding may
-/// have, as far as they are counted. Or as it is written, for its faults alone: NULL stands for each element of a list, and
-/// for what names mean.
+/// The value with the length of its encoding: each SET OF sorted, and no list whose elements have more octets than an
+/// encoding may have. Or as it is written, for its faults alone, where nothing is counted: NULL stands for each element
+/// of a list, and for what names mean.
 #[cycle(values)]
 #[tactic(auto, unfolding(crate::specs::inside::Reading::build))]
 fn read(
@@ -118,11 +129,12 @@ fn read(
     sorted: bool,
     tree: &ValueTree,
     ty: &Ty,
-) -> Result<Value, ValueFault>
+) -> Result<Counted, ValueFault>
     requires proper { IsTrue (is_proper (type_view ty.now)) }
     requires fitting { AreFitting (values_of scope) }
-    ensures { Gives value_view named result
+    ensures given { Gives (λ c. value_view c.value) named result
         (build (values_of scope.entry) sorted (type_view ty.now) (trees.value_view tree.now)) }
+    ensures counted { sorted ≡ true → IfOk result (IsCounted (type_view ty.now)) }
 {
     form(alloc, scope, sorted, &tree.form, tree.site, ty)
 }
@@ -136,25 +148,34 @@ fn form(
     form: &ValueForm,
     site: Site,
     ty: &Ty,
-) -> Result<Value, ValueFault>
+) -> Result<Counted, ValueFault>
     requires proper { IsTrue (is_proper (type_view ty.now)) }
     requires fitting { AreFitting (values_of scope) }
-    ensures { Gives value_view named result
+    ensures given { Gives (λ c. value_view c.value) named result
         (build_form (values_of scope.entry) sorted (type_view ty.now) site (trees.value_form_view form.now)) }
+    ensures counted { sorted ≡ true → IfOk result (IsCounted (type_view ty.now)) }
 {
     match form {
-        ValueForm::Boolean(truth) => boolean(&ty.kind, site, *truth),
-        ValueForm::Null => null(&ty.kind, site),
-        ValueForm::Integer(number) => integer(&ty.kind, site, number),
-        ValueForm::Text(string, spelling) => text(alloc, &ty.kind, site, *string, spelling),
-        ValueForm::Reference(name) => reference(alloc, scope, sorted, ty, site, name),
-        ValueForm::Chosen(name, tree) => chosen(alloc, scope, sorted, tree, name, site, &ty.kind),
-        ValueForm::List(entries) => braces(alloc, scope, sorted, entries, site, &ty.kind),
-        ValueForm::Arcs(all) => arcs(alloc, &ty.kind, site, all),
+        ValueForm::Boolean(truth) => measured(sorted, ty, boolean(&ty.kind, site, *truth)),
+        ValueForm::Null => measured(sorted, ty, null(&ty.kind, site)),
+        ValueForm::Integer(number) => measured(sorted, ty, integer(&ty.kind, site, number)),
+        ValueForm::Text(string, spelling) => {
+            measured(sorted, ty, text(alloc, &ty.kind, site, *string, spelling))
+        }
+        ValueForm::Reference(name) => {
+            measured(sorted, ty, reference(alloc, scope, sorted, ty, site, name))
+        }
+        ValueForm::Chosen(name, tree) => {
+            in_tags(ty, chosen(alloc, scope, sorted, tree, name, site, &ty.kind))
+        }
+        ValueForm::List(entries) => {
+            in_tags(ty, braces(alloc, scope, sorted, entries, site, &ty.kind))
+        }
+        ValueForm::Arcs(all) => measured(sorted, ty, arcs(alloc, &ty.kind, site, all)),
     }
 }
 
-/// A chosen alternative.
+/// A chosen alternative, its contents counted.
 #[cycle(values)]
 fn chosen(
     alloc: Global,
@@ -164,18 +185,23 @@ fn chosen(
     name: &[u8],
     site: Site,
     kind: &Kind,
-) -> Result<Value, ValueFault>
+) -> Result<Counted, ValueFault>
     requires proper { IsTrue (is_proper_kind (kind_view kind.now)) }
     requires fitting { AreFitting (values_of scope) }
-    ensures { Gives value_view named result (read_chosen site (kind_view kind.now) name.now
+    ensures given { Gives (λ c. value_view c.value) named result (read_chosen site (kind_view kind.now) name.now
         (λ u. build (values_of scope.entry) sorted u (trees.value_view tree.now))) }
+    ensures counted { sorted ≡ true → IfOk result (HasContents (kind_view kind.now)) }
 {
     let (place, ty) = alternative(kind, site, name)?;
-    let value = read(alloc, scope, sorted, tree, ty)?;
-    Ok(Value::Chosen(place, Box::new(alloc, value)?))
+    let counted = read(alloc, scope, sorted, tree, ty)?;
+    let value = Box::new(alloc, counted.value)?;
+    Ok(Counted {
+        value: Value::Chosen(place, value),
+        length: counted.length,
+    })
 }
 
-/// Entries in braces.
+/// Entries in braces, the contents counted.
 #[cycle(values)]
 fn braces(
     alloc: Global,
@@ -184,11 +210,13 @@ fn braces(
     entries: &[EntryTree],
     site: Site,
     kind: &Kind,
-) -> Result<Value, ValueFault>
+) -> Result<Counted, ValueFault>
     requires proper { IsTrue (is_proper_kind (kind_view kind.now)) }
     requires fitting { AreFitting (values_of scope) }
-    ensures { Gives value_view named result (build_list (values_of scope.entry) sorted site (kind_view kind.now)
+    ensures given { Gives (λ c. value_view c.value) named result
+        (build_list (values_of scope.entry) sorted site (kind_view kind.now)
         (entries_of (map trees.entry_view entries.now))) }
+    ensures counted { sorted ≡ true → IfOk result (HasContents (kind_view kind.now)) }
 {
     match kind {
         Kind::Sequence(comps) => fields(alloc, scope, sorted, entries, site, true, comps),
@@ -196,7 +224,7 @@ fn braces(
         Kind::SequenceOf(ty) => items(alloc, scope, sorted, entries, site, ty),
         Kind::SetOf(ty) => set_items(alloc, scope, sorted, entries, site, ty),
         Kind::Oid => Err(object_identifier_fault(site, entries)),
-        Kind::Bits(names) => value_of_names(alloc, sorted, names, site, entries),
+        Kind::Bits(names) => { bits_counted(value_of_names(alloc, sorted, names, site, entries)) }
         _ => Err(ValueFault::WrongNotation(site)),
     }
 }
@@ -211,18 +239,25 @@ fn fields(
     site: Site,
     ordered: bool,
     comps: &[Comp],
-) -> Result<Value, ValueFault>
+) -> Result<Counted, ValueFault>
     requires proper { IsTrue (are_proper (components_of (map component_view comps.now))) }
     requires fitting { AreFitting (values_of scope) }
-    ensures { Gives value_view named result (read_fields site (components_of (map component_view comps.now))
+    ensures given { Gives (λ c. value_view c.value) named result
+        (read_fields site (components_of (map component_view comps.now))
         (build_entries (values_of scope.entry) sorted ordered (components_of (map component_view comps.now)) 0
         (all_absent (components_of (map component_view comps.now))) (entries_of (map trees.entry_view entries.now)))) }
+    ensures counted { sorted ≡ true
+        → IfOk result (HasContents (type.sequence (components_of (map component_view comps.now)))) }
 {
-    let given = entry_fields(alloc, scope, sorted, entries, ordered, comps)?;
+    let (given, length) = entry_fields(alloc, scope, sorted, entries, ordered, comps)?;
     let fields = completed(alloc, site, comps, given)?;
-    Ok(Value::Fields(fields))
+    Ok(Counted {
+        value: Value::Fields(fields),
+        length,
+    })
 }
 
+/// The components that have entries, and how many octets they have.
 #[cycle(values)]
 fn entry_fields(
     alloc: Global,
@@ -231,24 +266,28 @@ fn entry_fields(
     entries: &[EntryTree],
     ordered: bool,
     comps: &[Comp],
-) -> Result<Vec<Option<Value>>, ValueFault>
+) -> Result<(Vec<Option<Value>>, Option<usize>), ValueFault>
     requires proper { IsTrue (are_proper (components_of (map component_view comps.now))) }
     requires fitting { AreFitting (values_of scope) }
-    ensures count { IfOk result (λ v. length v.items ≡ length comps.now) }
-    ensures given { Gives (λ v. fields_view v.items) named
+    ensures count { IfOk result (λ x. length x.0.items ≡ length comps.now) }
+    ensures given { Gives (λ x. fields_view x.0.items) named
         result (build_entries (values_of scope.entry) sorted ordered (components_of (map component_view comps.now)) 0
         (all_absent (components_of (map component_view comps.now))) (entries_of (map trees.entry_view entries.now))) }
+    ensures counted { sorted ≡ true → IfOk result (λ x. x.1 ≡ short_length (contents_octets
+        (type.sequence (components_of (map component_view comps.now))) (value.fields (fields_view x.0.items)))) }
 {
     let mut fields = absent_fields(alloc, comps)?;
     let mut next = 0;
+    let mut length = Some(0);
     for entry in entries {
-        let (place, value) = entry_value(
+        let (place, counted) = entry_value(
             alloc, scope, sorted, entry, ordered, comps, next, &fields,
         )?;
-        set_field(&mut fields, place, Some(value));
+        length = with_part(sorted, length, &comps[place].presence, &counted);
+        set_field(&mut fields, place, Some(counted.value));
         next = place + 1;
     }
-    Ok(fields)
+    Ok((fields, length))
 }
 
 /// The place of an entry, and its value.
@@ -262,18 +301,21 @@ fn entry_value(
     comps: &[Comp],
     next: usize,
     fields: &[Option<Value>],
-) -> Result<(usize, Value), ValueFault>
+) -> Result<(usize, Counted), ValueFault>
     requires proper { IsTrue (are_proper (components_of (map component_view comps.now))) }
     requires fitting { AreFitting (values_of scope) }
     requires count { length fields.now ≡ length comps.now }
     ensures within { IfOk result (λ x. x.0 < length comps.now) }
-    ensures given { Gives (λ x. (x.0, value_view x.1)) named result (entry_at ordered (components_of (map component_view
-        comps.now)) next (fields_view fields.now) (trees.entry_view entry.now).site (trees.entry_view entry.now).name
+    ensures given { Gives (λ x. (x.0, value_view x.1.value)) named result (entry_at ordered (components_of
+        (map component_view comps.now)) next (fields_view fields.now) (trees.entry_view entry.now).site
+        (trees.entry_view entry.now).name
         (λ u. build (values_of scope.entry) sorted u (trees.entry_view entry.now).value)) }
+    ensures counted { sorted ≡ true → IfOk result (λ x. (t : AbstractType)
+        × (component_type x.0 (components_of (map component_view comps.now)) ≡ Some t) × IsCounted t x.1) }
 {
     let (place, ty) = place_of(ordered, comps, next, fields, entry.site, entry.name)?;
-    let value = read(alloc, scope, sorted, &entry.value, ty)?;
-    Ok((place, value))
+    let counted = read(alloc, scope, sorted, &entry.value, ty)?;
+    Ok((place, counted))
 }
 
 /// A SEQUENCE OF.
@@ -285,16 +327,23 @@ fn items(
     entries: &[EntryTree],
     site: Site,
     ty: &Ty,
-) -> Result<Value, ValueFault>
+) -> Result<Counted, ValueFault>
     requires proper { IsTrue (is_proper (type_view ty.now)) }
     requires fitting { AreFitting (values_of scope) }
-    ensures { Gives value_view named result (build_items (values_of scope.entry) sorted site (type_view ty.now)
+    ensures given { Gives (λ c. value_view c.value) named result
+        (build_items (values_of scope.entry) sorted site (type_view ty.now)
         (entries_of (map trees.entry_view entries.now))) }
+    ensures counted { sorted ≡ true → IfOk result (HasContents (type.sequence_of (type_view ty.now))) }
 {
-    let elements = elements(alloc, scope, sorted, entries, ty)?;
-    listed(site, elements)
+    let (elements, octets) = elements(alloc, scope, sorted, entries, ty)?;
+    let value = listed(site, elements)?;
+    Ok(Counted {
+        value,
+        length: Some(octets),
+    })
 }
 
+/// The elements, and how many octets they have.
 #[cycle(values)]
 fn elements(
     alloc: Global,
@@ -302,21 +351,22 @@ fn elements(
     sorted: bool,
     entries: &[EntryTree],
     ty: &Ty,
-) -> Result<Vec<Value>, ValueFault>
+) -> Result<(Vec<Value>, usize), ValueFault>
     requires proper { IsTrue (is_proper (type_view ty.now)) }
     requires fitting { AreFitting (values_of scope) }
-    ensures { Gives (λ v. map value_view v.items) named result (build_elements (values_of scope.entry) sorted false
-        (type_view ty.now) longest_encoding (entries_of (map trees.entry_view entries.now))) }
+    ensures given { Gives (λ x. map value_view x.0.items) named result (build_elements (values_of scope.entry) sorted
+        false (type_view ty.now) longest_encoding (entries_of (map trees.entry_view entries.now))) }
+    ensures counted { sorted ≡ true → IfOk result (λ x. short_length (contents_octets
+        (type.sequence_of (type_view ty.now)) (value.items (items_view x.0.items))) ≡ Some x.1) }
 {
     let mut elements = Vec::with_capacity(alloc, entries.len())?;
-    let counted = is_counted(sorted, ty);
     let mut room = MOST_OCTETS;
     for entry in entries {
-        let value = element(alloc, scope, sorted, entry, ty)?;
-        room = room_after(counted, ty, entry, &value, room)?;
-        elements.push(kept(sorted, value))?;
+        let counted = element(alloc, scope, sorted, entry, ty)?;
+        room = room_after(sorted, entry, room, counted.length)?;
+        elements.push(kept(sorted, counted.value))?;
     }
-    Ok(elements)
+    Ok((elements, MOST_OCTETS - room))
 }
 
 /// A SET OF.
@@ -328,32 +378,41 @@ fn set_items(
     entries: &[EntryTree],
     site: Site,
     ty: &Ty,
-) -> Result<Value, ValueFault>
+) -> Result<Counted, ValueFault>
     requires proper { IsTrue (is_proper (type_view ty.now)) }
     requires fitting { AreFitting (values_of scope) }
-    ensures { Gives value_view named result (build_set_items (values_of scope.entry) sorted site (type_view ty.now)
+    ensures given { Gives (λ c. value_view c.value) named result
+        (build_set_items (values_of scope.entry) sorted site (type_view ty.now)
         (entries_of (map trees.entry_view entries.now))) }
+    ensures counted { sorted ≡ true → IfOk result (HasContents (type.set_of (type_view ty.now))) }
 {
     if !sorted {
         return items(alloc, scope, sorted, entries, site, ty);
     }
-    let elements = encoded_elements(alloc, scope, entries, ty)?;
-    listed_set(alloc, site, ty, elements)
+    let (elements, octets) = encoded_elements(alloc, scope, entries, ty)?;
+    let value = listed_set(alloc, site, ty, elements)?;
+    Ok(Counted {
+        value,
+        length: Some(octets),
+    })
 }
 
+/// The elements of a SET OF with their encodings, and how many octets these have.
 #[cycle(values)]
 fn encoded_elements(
     alloc: Global,
     scope: ModuleScope,
     entries: &[EntryTree],
     ty: &Ty,
-) -> Result<Vec<Encoded>, ValueFault>
+) -> Result<(Vec<Encoded>, usize), ValueFault>
     requires proper { IsTrue (is_proper (type_view ty.now)) }
     requires fitting { AreFitting (values_of scope) }
-    ensures encodings { IfOk result (λ v. AreEncodings (type_view ty.now) (map encoded_view v.items)) }
-    ensures given { Gives (λ v. map encoded_value (map encoded_view v.items)) named result (build_elements
+    ensures encodings { IfOk result (λ x. AreEncodings (type_view ty.now) (map encoded_view x.0.items)) }
+    ensures given { Gives (λ x. map encoded_value (map encoded_view x.0.items)) named result (build_elements
         (values_of scope.entry) true true (type_view ty.now) longest_encoding
         (entries_of (map trees.entry_view entries.now))) }
+    ensures counted { IfOk result (λ x. short_length (contents_octets (type.sequence_of (type_view ty.now))
+        (value.items (items_of (map encoded_value (map encoded_view x.0.items))))) ≡ Some x.1) }
 {
     let mut elements = Vec::with_capacity(alloc, entries.len())?;
     let mut room = MOST_OCTETS;
@@ -362,7 +421,7 @@ fn encoded_elements(
         room = room_without(entry, room, Some(element.octets.len()))?;
         elements.push(element)?;
     }
-    Ok(elements)
+    Ok((elements, MOST_OCTETS - room))
 }
 
 /// An element of a SET OF, with its encoding.
@@ -380,8 +439,8 @@ fn encoded_element(
         entry.now).site (trees.entry_view entry.now).name (reading.site_of (trees.entry_view entry.now).value)
         (build (values_of scope.entry) true (type_view ty.now) (trees.entry_view entry.now).value)) }
 {
-    let value = element(alloc, scope, true, entry, ty)?;
-    encoded(alloc, ty, entry.value.site, value)
+    let counted = element(alloc, scope, true, entry, ty)?;
+    encoded(alloc, ty, entry.value.site, counted.value)
 }
 
 /// An entry of an OF type has no name.
@@ -392,12 +451,14 @@ fn element(
     sorted: bool,
     entry: &EntryTree,
     ty: &Ty,
-) -> Result<Value, ValueFault>
+) -> Result<Counted, ValueFault>
     requires proper { IsTrue (is_proper (type_view ty.now)) }
     requires fitting { AreFitting (values_of scope) }
-    ensures { Gives value_view named result (element_at false (type_view ty.now) (trees.entry_view entry.now).site
+    ensures given { Gives (λ c. value_view c.value) named result
+        (element_at false (type_view ty.now) (trees.entry_view entry.now).site
         (trees.entry_view entry.now).name (reading.site_of (trees.entry_view entry.now).value)
         (build (values_of scope.entry) sorted (type_view ty.now) (trees.entry_view entry.now).value)) }
+    ensures counted { sorted ≡ true → IfOk result (IsCounted (type_view ty.now)) }
 {
     if entry.name.is_some() {
         return Err(ValueFault::WrongNotation(entry.site));

@@ -1,5 +1,5 @@
 -- Entries, one after another, as loops read them.
-use Rattle.std.proofs.Common.{◌≡◌, ℕ, suc, ◌+◌, ◌<◌, ◌≤◌, Bool, false, ◌&&◌, ◌||◌, List, [], ◌∷◌, ◌++◌, length, drop, get_or, map, add-one, Bor, Option, Some, None, Ok, Err, refl, sym, ap, ◌∙◌, append_assoc}
+use Rattle.std.proofs.Common.{◌≡◌, ℕ, suc, ◌+◌, ◌<◌, ◌≤◌, Bool, false, List, [], ◌∷◌, ◌++◌, length, drop, get_or, map, add-one, Bor, Option, Some, None, Ok, Err, refl, sym, ap, ◌∙◌, append_assoc}
 use Rattle.std.proofs.lemmas.List.{at_drop_more, at_drop_all, append-nil}
 use Rattle.std.specs.Global.{Vec}
 use Rattle.guard_model.specs.Answer.{◌>>=◌, Refuses}
@@ -32,7 +32,7 @@ use Rattle.guard_syntax.specs.declared.tree.ValueForm.TheFolds.{fold_out-EntryTr
 use Rattle.guard_syntax.specs.declared.tree.ValueForm.TheViews.{out-EntryTree, out-ValueTree}
 use Rattle.guard_values.specs.declared.fault.ValueFault.{ValueFault}
 use Rattle.guard_values.specs.Meanings.{Meaning}
-use Rattle.guard_values.specs.inside.Reading.{Read, element_at, place_at, entry_at, site_of, kept, is_plain, room_after, build, build_form, build_list, build_elements, build_entries}
+use Rattle.guard_values.specs.inside.Reading.{Read, element_at, place_at, entry_at, site_of, kept, room_after, build, build_form, build_list, build_elements, build_entries}
 
 -- ---- one level of a tree
 
@@ -107,7 +107,7 @@ module _ (m : Meaning) (sorted : Bool) (short : Bool) (t : AbstractType) (entrie
   one e = element_at short t (entry_view e).site (entry_view e).name (site_of (entry_view e).value) (build m sorted t (entry_view e).value)
 
   abbrev pub room_left : ℕ → EntryTree → AbstractValue → Read ℕ
-  room_left room e v = room_after (sorted && (short || is_plain t)) (site_of (entry_view e).value) t v room
+  room_left room e v = room_after sorted (site_of (entry_view e).value) t v room
 
   -- after one that is read
   abbrev pub after : ℕ → ℕ → EntryTree → AbstractValue → Read (List AbstractValue)

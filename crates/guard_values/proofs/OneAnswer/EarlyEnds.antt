@@ -1,7 +1,7 @@
 -- What the code reads is what is read; or it ends early where SET OFs are sorted, and then the encoding of the whole is
 -- too long, or of something inside.
-use Rattle.std.proofs.Common.{◌≡◌, ℕ, suc, ◌-◌, ◌<◌, ◌≤◌, Bool, true, false, cond, ◌&&◌, ◌||◌, List, [], ◌∷◌, length, Option, Some, None, Ok, Err, inl, inr, ◌⊎◌, option_map, refl, sym, ap, ◌∙◌, subst, arith}
-use Rattle.std.specs.Prelude.{nat_le, option_and_then, Result}
+use Rattle.std.proofs.Common.{◌≡◌, ℕ, suc, ◌-◌, ◌<◌, ◌≤◌, Bool, true, false, cond, List, [], ◌∷◌, length, Option, Some, None, Ok, Err, inl, inr, ◌⊎◌, option_map, refl, sym, ap, ◌∙◌, subst, arith}
+use Rattle.std.specs.Prelude.{nat_le, option_and_then, Result, IfOk, IsTrue}
 use Rattle.std.specs.Global.{Global}
 use Rattle.std.specs.declared.sync.Arc.{Arc}
 use Rattle.std.proofs.lemmas.Grind.{common_steps}
@@ -13,6 +13,7 @@ use Rattle.guard_model.specs.AbstractType.{AbstractType, AbstractKind, Component
 use Rattle.guard_model.specs.AbstractValue as value
 use Rattle.guard_model.specs.AbstractValue.{AbstractValue, Fields, items_of}
 use Rattle.guard_model.specs.declared.value.Value.{Value}
+use Rattle.guard_model.specs.ValueView.{value_view}
 use Rattle.guard_model.specs.Kinds.{kind_of}
 use Rattle.guard_model.specs.Slots.{all_absent}
 use Rattle.guard_der.specs.Der.{der, contents_octets}
@@ -35,14 +36,15 @@ use Rattle.guard_values.specs.Places.{Located, located}
 use Rattle.guard_values.specs.Arrangement.{arranged}
 use Rattle.guard_values.specs.Faults.{faults_of}
 use Rattle.guard_values.specs.Conditions.{entry_type, chosen_type, InEntry, HasLongEncoding}
-use Rattle.guard_values.specs.inside.Reading.{Read, alternative, placed, entry_at, completed, limited, few, read_fields, read_set_of, read_braces, perhaps_limited, site_of, element_at, kept, is_plain, read, read_form, read_entries, read_elements, room_without, room_after, build, build_form, build_entries, build_elements, read_first_fault, sorted_or, read_whole, build_first_fault, build_sorted, build_whole}
+use Rattle.guard_values.specs.inside.Reading.{Read, read_reference, alternative, placed, entry_at, completed, limited, few, read_fields, read_set_of, read_braces, perhaps_limited, site_of, element_at, kept, read, read_form, read_entries, read_elements, room_without, room_after, build, build_form, build_entries, build_elements, read_first_fault, sorted_or, read_whole, build_first_fault, build_sorted, build_whole}
 use Rattle.guard_values.specs.Views.{named, shared_view, known_definition}
 use Rattle.guard_values.proofs.Denoted.ReadIsDenoted.{read_said, answered_ok, placed_ok, few_ok, limited_ok}
 use Rattle.guard_values.proofs.FirstFaults.WholeValues.{not_there}
 use Rattle.guard_values.proofs.FirstFaults.ReadingRefuses.{read_tells, Tells, IsLong, here_somewhere}
 use Rattle.guard_values.proofs.OneAnswer.CodeAnswers.{read_fits, element_read, read_there}
 use Rattle.guard_values.proofs.OneAnswer.LengthsInside.{Within, same_Some, contents_within}
-use Rattle.guard_values.proofs.OneAnswer.LongLists.{items_joined, IsOver, over_first, over_later, over_none, over_more, over_arranged, over_not_within, not_short}
+use Rattle.guard_values.proofs.Counting.CountedLists.{items_joined}
+use Rattle.guard_values.proofs.OneAnswer.LongLists.{IsOver, over_first, over_later, over_none, over_arranged, over_not_within, not_short}
 use Rattle.guard_values.proofs.OneAnswer.FaultOrValue.{Long, none_long, says_faultless}
 
 -- ---- two answers, of which the second may end early
@@ -94,18 +96,6 @@ module _ (place : Site) (u : AbstractType) (v : AbstractValue) (In : Type 0) whe
   one_over : (room : ℕ) (r : Read (List AbstractValue)) (ws : List AbstractValue) → ((vs : List AbstractValue) → r ≡ Ok vs → IsOver room u (v ∷ vs)) → (r >>= λ more. Ok (v ∷ more)) ≡ Ok ws → In ⊎ IsOver room u ws
   one_over room r ws over e = let m = made_ok r (λ more. v ∷ more) ws e in inr (subst (IsOver room u) m.2 (over m.0 m.1))
 
-  -- where octets aren't counted
-  uncounted : (sorted : Bool) (room : ℕ) (r e : Read (List AbstractValue)) → Agrees sorted (Over room) r e
-      → Agrees sorted (Over room) (r >>= λ more. Ok (kept sorted v ∷ more)) (e >>= λ more. Ok (kept sorted v ∷ more))
-  uncounted sorted room r e inside =
-      agrees_then sorted (Over room) (Over room) r e (λ more. Ok (kept sorted v ∷ more)) (λ more. Ok (kept sorted v ∷ more))
-      (λ vs ws got made so long. elim long [
-        | inl h ↦ inl h
-        | inr h ↦
-            let P : Bool → Type 0 = λ b. ◌≡◌ {A = Read (List AbstractValue)} (Ok (kept b v ∷ vs)) (Ok ws) in
-            inr (subst (IsOver room u) (same_Ok {F = ValueFault} (v ∷ vs) ws (subst P so made)) (over_more room u v vs h))
-      ]) inside (λ vs got. refl)
-
   module _ (room : ℕ) (r : Read (List AbstractValue)) (e : ℕ → Read (List AbstractValue)) (most : room ≤ 1048576)
       (inside : (left : ℕ) → left ≤ 1048576 → Agrees true (Over left) r (e left)) where
     cut : (f : ValueFault) → ((vs : List AbstractValue) → r ≡ Ok vs → IsOver room u (v ∷ vs)) → Agrees true (Over room) (r >>= λ more. Ok (v ∷ more)) (Err f)
@@ -131,12 +121,11 @@ module _ (place : Site) (u : AbstractType) (v : AbstractValue) (In : Type 0) whe
     with_encoding None is = cut (TooLarge place) (λ vs got. over_none room u v vs is)
     with_encoding (Some os) is = with_octets os is (nat_le (length os) 1048576) refl
 
-  room_agrees : (sorted counts : Bool) (room : ℕ) (r : Read (List AbstractValue)) (e : ℕ → Read (List AbstractValue)) → room ≤ 1048576
+  room_agrees : (sorted : Bool) (room : ℕ) (r : Read (List AbstractValue)) (e : ℕ → Read (List AbstractValue)) → room ≤ 1048576
       → ((left : ℕ) → left ≤ 1048576 → Agrees sorted (Over left) r (e left))
-      → Agrees sorted (Over room) (r >>= λ more. Ok (kept sorted v ∷ more)) (room_after (sorted && counts) place u v room >>= λ left. e left >>= λ more. Ok (kept sorted v ∷ more))
-  room_agrees true true room r e most inside = with_encoding room r e most inside (der u v) refl
-  room_agrees true false room r e most inside = uncounted true room r (e room) (inside room most)
-  room_agrees false counts room r e most inside = uncounted false room r (e room) (inside room most)
+      → Agrees sorted (Over room) (r >>= λ more. Ok (kept sorted v ∷ more)) (room_after sorted place u v room >>= λ left. e left >>= λ more. Ok (kept sorted v ∷ more))
+  room_agrees true room r e most inside = with_encoding room r e most inside (der u v) refl
+  room_agrees false room r e most inside = agrees_then false (Over room) (Over room) r (e room) (λ more. Ok (kept false v ∷ more)) (λ more. Ok (kept false v ∷ more)) (λ vs ws got made so long. absurd cc) (inside room most) (λ vs got. refl)
 
 -- ---- forms with values inside
 
@@ -248,17 +237,17 @@ mutual
       agrees_then sorted (λ (v : AbstractValue). Long m u tree) (λ (vs : List AbstractValue). InEntry (HasLongEncoding m) kind (entry site None tree rest) ⊎ IsOver room u vs)
       (element_at short u site None (site_of tree) (read m sorted u tree)) (element_at short u site None (site_of tree) (build m sorted u tree))
       (λ v. read_elements m sorted short u rest >>= λ more. Ok (kept sorted v ∷ more))
-      (λ v. room_after (sorted && (short || is_plain u)) (site_of tree) u v room >>= λ left. build_elements m sorted short u left rest >>= λ more. Ok (kept sorted v ∷ more))
+      (λ v. room_after sorted (site_of tree) u v room >>= λ left. build_elements m sorted short u left rest >>= λ more. Ok (kept sorted v ∷ more))
       (λ v vs got made so long. inl (inl (u, is, long)))
       (agrees_then sorted (λ (v : AbstractValue). Long m u tree) (λ (v : AbstractValue). Long m u tree) (read m sorted u tree) (build m sorted u tree) (λ v. perhaps_limited short (site_of tree) u v) (λ v. perhaps_limited short (site_of tree) u v)
       (λ v w got made so long. long) (build_agrees m sorted tree u) (λ v got. agrees_self sorted (λ (w : AbstractValue). Long m u tree) (perhaps_limited short (site_of tree) u v)))
       (λ v got. agrees_in sorted (λ (vs : List AbstractValue). InEntry (HasLongEncoding m) kind rest ⊎ IsOver room u vs) (λ (vs : List AbstractValue). InEntry (HasLongEncoding m) kind (entry site None tree rest) ⊎ IsOver room u vs)
-      (read_elements m sorted short u rest >>= λ more. Ok (kept sorted v ∷ more)) (room_after (sorted && (short || is_plain u)) (site_of tree) u v room >>= λ left. build_elements m sorted short u left rest >>= λ more. Ok (kept sorted v ∷ more))
+      (read_elements m sorted short u rest >>= λ more. Ok (kept sorted v ∷ more)) (room_after sorted (site_of tree) u v room >>= λ left. build_elements m sorted short u left rest >>= λ more. Ok (kept sorted v ∷ more))
       (λ vs long. elim long [
         | inl h ↦ inl (inr h)
         | inr h ↦ inr h
       ])
-      (room_agrees (site_of tree) u v (InEntry (HasLongEncoding m) kind rest) sorted (short || is_plain u) room (read_elements m sorted short u rest) (λ left. build_elements m sorted short u left rest) most
+      (room_agrees (site_of tree) u v (InEntry (HasLongEncoding m) kind rest) sorted room (read_elements m sorted short u rest) (λ left. build_elements m sorted short u left rest) most
       (λ left within. elements_agree m sorted rest kind short u left within is)))
 
 -- ---- whole values
@@ -315,6 +304,20 @@ module _ (m : Meaning) (t : AbstractType) (tree : WrittenValue) where
         same_end ∙ ends ∙ sym long
     here (Err f) (Ok w) is h = absurd h
     here (Err f) (Err g) is h = same_end
+
+-- what is read of a form
+pub form_fits : (m : Meaning) → AreFitting m → (sorted : Bool) (t : AbstractType) (site : Site) (form : WrittenValueForm) (answer : Result Value ValueFault) → is_proper t ≡ true → Gives value_view named answer (build_form m sorted t site form)
+    → sorted ≡ true → IfOk answer (λ v. IsTrue (fits t (value_view v)))
+unfolding build
+form_fits m fit sorted t site form (Ok v) proper given so =
+    let P : Bool → Type 0 = λ b. build_form m b t site form ≡ Ok (value_view v) in
+    built_fits m t (value_node site form) fit (value_view v) proper (subst P so given)
+form_fits m fit sorted t site form (Err e) proper given so = tt
+
+-- what a name is read as
+pub reference_fits : (m : Meaning) → AreFitting m → (t : AbstractType) (site : Site) (name : List ℕ) (v : AbstractValue) → is_proper t ≡ true → read_reference m t site name ≡ Ok v → fits t v ≡ true
+unfolding build
+reference_fits m fit t site name v proper e = built_fits m t (value_node site (written.reference name)) fit v proper e
 
 -- ---- one element
 

@@ -1,5 +1,5 @@
 -- What the code reads, step by step: a value, or the first fault.
-use Rattle.std.specs.Prelude.{ℕ, suc, ◌-◌, ℤ, Bool, true, false, ◌&&◌, ◌||◌, List, [], ◌∷◌, nat_le, nat_lt, Option, Some, None, Result, Ok, Err, if◌then◌else◌}
+use Rattle.std.specs.Prelude.{ℕ, suc, ◌-◌, ℤ, Bool, true, false, ◌&&◌, List, [], ◌∷◌, nat_le, nat_lt, Option, Some, None, Result, Ok, Err, if◌then◌else◌}
 use Rattle.guard_model.specs.Answer.{◌>>=◌}
 use Rattle.guard_model.specs.declared.site.Site.{Site}
 use Rattle.guard_model.specs.AbstractType as type
@@ -235,26 +235,6 @@ unfoldable mutual
 
 -- ---- as the code reads
 
--- No component is inside: how long an encoding is can be told without comparing values with defaults.
-abbrev mutual
-  pub is_plain : AbstractType → Bool
-  is_plain (type.type_of tags kind cons) = is_plain_kind kind
-
-  pub is_plain_kind : AbstractKind → Bool
-  is_plain_kind type.boolean = true
-  is_plain_kind (type.integer ns) = true
-  is_plain_kind (type.bit_string names) = true
-  is_plain_kind type.octet_string = true
-  is_plain_kind type.null = true
-  is_plain_kind type.object_identifier = true
-  is_plain_kind (type.enumerated items) = true
-  is_plain_kind (type.characters k) = true
-  is_plain_kind (type.sequence cs) = false
-  is_plain_kind (type.set cs) = false
-  is_plain_kind (type.choice cs) = false
-  is_plain_kind (type.sequence_of t) = is_plain t
-  is_plain_kind (type.set_of t) = is_plain t
-
 -- how many octets are left after one more element
 abbrev pub room_without : Site → ℕ → Option ℕ → Read ℕ
 room_without site room None = Err (TooLarge site)
@@ -265,7 +245,7 @@ room_after true site t v room = room_without site room (short_length (der t v))
 room_after false site t v room = Ok room
 
 -- As `read`, but where SET OFs are sorted, a list ends at the first element from which on the encodings of its elements
--- have more than 1,048,576 octets in all. They are counted in a SET OF, where each is made, and in lists of plain types.
+-- have more than 1,048,576 octets in all.
 unfoldable mutual
   pub build : Meaning → Bool → AbstractType → WrittenValue → Read AbstractValue
   build m sorted t (value_node site form) = build_form m sorted t site form
@@ -293,7 +273,7 @@ unfoldable mutual
   build_elements m sorted short t room no_entries = Ok []
   build_elements m sorted short t room (entry site name tree rest) =
       element_at short t site name (site_of tree) (build m sorted t tree)
-      >>= λ v. room_after (sorted && (short || is_plain t)) (site_of tree) t v room
+      >>= λ v. room_after sorted (site_of tree) t v room
       >>= λ left. build_elements m sorted short t left rest >>= λ more. Ok (kept sorted v ∷ more)
 
 -- ---- what single calls read

@@ -51,6 +51,7 @@ pub mod SharedSlots
 pub mod OfTables
 -- ---- sets of slots as words, and what an absent default fails
 pub mod SlotWords
+pub mod LowestSlots
 pub mod TermWords
 pub mod LaidWords
 -- ---- numbers that fail nothing

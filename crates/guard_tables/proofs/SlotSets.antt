@@ -30,7 +30,7 @@ has_word m slot a b c d w =
     by_word (ltb slot 64) (ltb slot 128) (ltb slot 192) (bit_at m.first slot) (bit_at m.second (slot - 64)) (bit_at m.third (slot - 128)) (bit_at m.fourth (slot - 192))
     ∙ rw (w.first, w.second, w.third, w.fourth) refl
 
-zero_bit : (i : ℕ) → eqb (bit_at 0 i) 1 ≡ false
+pub zero_bit : (i : ℕ) → eqb (bit_at 0 i) 1 ≡ false
 zero_bit i = ap (λ (n : ℕ). eqb n 1) (bit_at-zero i)
 
 all_same : (w x y : Bool) (r : Bool) → cond w r (cond x r (cond y r r)) ≡ r

@@ -53,24 +53,24 @@ at_third w x y a b c d e f g = rw (e, f, g) refl
 at_fourth : (w x y : Bool) (a b c d : Bool) → w ≡ false → x ≡ false → y ≡ false → cond w a (cond x b (cond y c d)) ≡ d
 at_fourth w x y a b c d e f g = rw (e, f, g) refl
 
-in_first : (m : Slots) (i : ℕ) → i < 64 → has m i ≡ eqb (bit_at m.first i) 1
+pub in_first : (m : Slots) (i : ℕ) → i < 64 → has m i ≡ eqb (bit_at m.first i) 1
 in_first m i h = word_told m i ∙ at_first (ltb i 64) (ltb i 128) (ltb i 192) _ _ _ _ (lt-ltb i 64 h)
 
-in_second : (m : Slots) (i : ℕ) → i < 64 → has m (64 + i) ≡ eqb (bit_at m.second i) 1
+pub in_second : (m : Slots) (i : ℕ) → i < 64 → has m (64 + i) ≡ eqb (bit_at m.second i) 1
 in_second m i h =
     word_told m (64 + i)
     ∙ at_second (ltb (64 + i) 64) (ltb (64 + i) 128) (ltb (64 + i) 192) _ _ _ _ (le-ltb (64 + i) 64 (omega arith))
     (lt-ltb (64 + i) 128 (omega (arith, h)))
     ∙ ap (λ (n : ℕ). eqb (bit_at m.second n) 1) (omega arith)
 
-in_third : (m : Slots) (i : ℕ) → i < 64 → has m (128 + i) ≡ eqb (bit_at m.third i) 1
+pub in_third : (m : Slots) (i : ℕ) → i < 64 → has m (128 + i) ≡ eqb (bit_at m.third i) 1
 in_third m i h =
     word_told m (128 + i)
     ∙ at_third (ltb (128 + i) 64) (ltb (128 + i) 128) (ltb (128 + i) 192) _ _ _ _ (le-ltb (128 + i) 64 (omega arith))
     (le-ltb (128 + i) 128 (omega arith)) (lt-ltb (128 + i) 192 (omega (arith, h)))
     ∙ ap (λ (n : ℕ). eqb (bit_at m.third n) 1) (omega arith)
 
-in_fourth : (m : Slots) (i : ℕ) → has m (192 + i) ≡ eqb (bit_at m.fourth i) 1
+pub in_fourth : (m : Slots) (i : ℕ) → has m (192 + i) ≡ eqb (bit_at m.fourth i) 1
 in_fourth m i =
     word_told m (192 + i)
     ∙ at_fourth (ltb (192 + i) 64) (ltb (192 + i) 128) (ltb (192 + i) 192) _ _ _ _ (le-ltb (192 + i) 64 (omega arith))
@@ -91,7 +91,7 @@ same_bit (suc (suc a)) b p q e = absurd (omega (arith, p))
 same_at : (a b i : ℕ) → eqb (bit_at a i) 1 ≡ eqb (bit_at b i) 1 → bit_at a i ≡ bit_at b i
 same_at a b i e = same_bit (bit_at a i) (bit_at b i) (bit_at-lt a i) (bit_at-lt b i) e
 
-of_words : (m k : Slots) → m.first ≡ k.first → m.second ≡ k.second → m.third ≡ k.third → m.fourth ≡ k.fourth → m ≡ k
+pub of_words : (m k : Slots) → m.first ≡ k.first → m.second ≡ k.second → m.third ≡ k.third → m.fourth ≡ k.fourth → m ≡ k
 of_words m k e f g h =
     ap (λ (a : ℕ). one_word a m.second m.third m.fourth) e ∙ ap (λ (a : ℕ). one_word k.first a m.third m.fourth) f
     ∙ ap (λ (a : ℕ). one_word k.first k.second a m.fourth) g ∙ ap (λ (a : ℕ). one_word k.first k.second k.third a) h

@@ -1,6 +1,6 @@
 -- Sets of slots, as four words of 64 bits. Each thing that is asked of a value has a slot, and a set has those slots
 -- where it isn't met.
-use Rattle.std.specs.Prelude.{ℕ, ◌-◌, ◌^◌, Bool, nat_eq, nat_lt, if◌then◌else◌}
+use Rattle.std.specs.Prelude.{◌≡◌, ◌<◌, ℕ, ◌-◌, ◌^◌, Bool, true, false, Option, Some, None, nat_eq, nat_lt, if◌then◌else◌}
 use Rattle.std.specs.Int.{bit_at}
 use Rattle.std.specs.Int.Bits.{bit_and, bit_or, bit_xor}
 use Rattle.guard_tables.specs.declared.slots.Slots.{Slots}
@@ -61,3 +61,8 @@ bit_of m slot =
 
 unfoldable pub has : Slots → ℕ → Bool
 has m slot = nat_eq (bit_of m slot) 1
+
+-- This slot of the set has the lowest number. None says that the set is empty.
+abbrev pub IsLowest : Slots → Option ℕ → Type 0
+IsLowest m (Some slot) = (has m slot ≡ true) × ((i : ℕ) → i < slot → has m i ≡ false)
+IsLowest m None = m ≡ none

@@ -1,8 +1,8 @@
 //! Sets of slots: one for each thing that is asked of a value.
 ghost use Rattle.std.specs.Prelude.{◌≡◌, ◌<◌, nat_eq};
 ghost use Rattle.std.specs.Int.{bit_at};
-ghost use Rattle.guard_tables.specs.Slots.{none, only, added, below, without, low_bits, bits_without, has};
-ghost use Rattle.guard_tables.specs.inside.SlotWords.{InWords};
+ghost use Rattle.guard_tables.specs.Slots.{none, only, added, below, without, low_bits, bits_without, has, IsLowest};
+ghost use Rattle.guard_tables.specs.inside.SlotWords.{InWords, IsLowestBit};
 
 /// A set of slots, which are numbered from 0 to 255.
 #[derive(Clone, Copy, Debug, PartialEq, Eq)]
@@ -97,6 +97,25 @@ impl Slots {
         }
     }
 
+    /// The slot of the set that has the lowest number; None where the set is empty.
+    pub fn lowest(&self) -> Option<u8>
+        ensures { IsLowest self.now result }
+    {
+        if self.first != 0 {
+            return Some(lowest_bit(self.first));
+        }
+        if self.second != 0 {
+            return Some(64 + lowest_bit(self.second));
+        }
+        if self.third != 0 {
+            return Some(128 + lowest_bit(self.third));
+        }
+        if self.fourth != 0 {
+            return Some(192 + lowest_bit(self.fourth));
+        }
+        None
+    }
+
     /// What proofs need to know of the words; it does nothing when it runs.
     pub(crate) fn law_words(&self)
         ensures { InWords self.now }
@@ -122,6 +141,14 @@ fn bits_without(word: u64, other: u64) -> u64
     ensures { result ≡ bits_without word other }
 {
     word & (word ^ other)
+}
+
+/// The place of the lowest bit that is set. Condition: one is.
+fn lowest_bit(word: u64) -> u8
+    requires { 0 < word }
+    ensures { IsLowestBit word result }
+{
+    word.trailing_zeros() as u8
 }
 
 fn is_set(word: u64, bit: u8) -> bool

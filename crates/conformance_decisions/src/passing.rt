@@ -21,7 +21,7 @@ impl Judges for Passing<'_> {
     /// Whether `passes` is true exactly where the reason is to pass, and `passes_as_given` and `passes_as_last` answer
     /// so where some rule gives the route, and else none.
     fn agree(&self, alloc: Global, octets: &[u8]) -> Result<bool, AllocError> {
-        match self.policy.reason(alloc, &self.route, octets, None) {
+        match self.policy.reason(alloc, &self.route, octets) {
             Ok(reason) => {
                 let is_pass = matches!(reason, Verdict::Pass);
                 let as_given = if self.is_given { Some(is_pass) } else { None };

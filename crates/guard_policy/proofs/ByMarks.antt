@@ -1,6 +1,6 @@
 -- What the marks of a table say by a route's rules is what the rules say of the value.
-use Rattle.std.proofs.Common.{◌≡◌, ◌≤◌, ℕ, zero, suc, ◌+◌, List, length, [], ◌∷◌, map, slice_get, Bool, true, false, ◌&&◌, ◌||◌, not, cond, ◌↔◌, Option, None, Some, option_map, string_bytes, All, refl, ap, sym, ◌∙◌, subst, arith, inl, inr}
-use Rattle.std.specs.Prelude.{IsTrue, IfSome, bytes_eq}
+use Rattle.std.proofs.Common.{◌≡◌, ◌≢◌, ◌≤◌, ℕ, zero, suc, ◌+◌, List, length, [], ◌∷◌, map, slice_get, Bool, true, false, ◌&&◌, ◌||◌, not, cond, ◌↔◌, Option, None, Some, option_map, string_bytes, All, refl, ap, sym, ◌∙◌, subst, arith, inl, inr}
+use Rattle.std.specs.Prelude.{IsTrue, bytes_eq}
 use Rattle.std.specs.List.{list_any, list_all}
 use Rattle.std.proofs.lemmas.Option.{same_Some, slice_get-map, slice_get_within, get_or_from_slice_get}
 use Rattle.std.proofs.lemmas.List.Elements.{All-get_or}
@@ -26,23 +26,25 @@ use Rattle.guard_policy.specs.declared.policy.Effect.TheVariants.{Allow, Deny}
 use Rattle.guard_policy.specs.declared.routing.RouteRules.{RouteRules}
 use Rattle.guard_policy.specs.declared.routing.Routing.{Routing}
 use Rattle.guard_policy.specs.Consistency.{types_for}
-use Rattle.guard_policy.specs.Decisions.{NumberedRule, speaks_of, speaking, is_allowing, allows, denies, first_where, first_denying, first_allowing, judged, rules_of as route_rules, Goes, IsReason}
-use Rattle.guard_policy.specs.Verdicts.{AbstractVerdict, reason_view}
+use Rattle.guard_policy.specs.Decisions.{NumberedRule, speaks_of, speaking, is_allowing, allows, denies, first_where, first_denying, first_allowing, shortfalls, by_allowing, judged, rules_of as route_rules, Goes, IsReason}
+use Rattle.guard_policy.specs.declared.verdict.PlainReason.{PlainReason}
+use Rattle.guard_policy.specs.declared.verdict.PlainReason.TheVariants as plain
+use Rattle.guard_policy.specs.Verdicts.{AbstractVerdict, denied_by, not_allowed, no_rule, reason_view}
 use Rattle.guard_policy.specs.KeptView.{kept_message_view}
 use Rattle.guard_policy.specs.Names.{is_meant}
 use Rattle.guard_policy.specs.PolicyView.{policy_view}
 use Rattle.guard_policy.specs.Policies.{AbstractPolicy, AbstractMessage, AbstractRule, AbstractRoute, declared_type, declared_among}
 use Rattle.guard_policy.specs.inside.Keeping.{IsFirst}
 use Rattle.guard_policy.specs.inside.Listings.{numbers_for}
-use Rattle.guard_policy.specs.Told.{AreMarksOf, Tells}
-use Rattle.guard_policy.specs.inside.Passing.{LetsGo, AreMarks, EncodeNothing, IsAnswer, IsToldBy, IsMarked, first_in}
+use Rattle.guard_policy.specs.Told.{IsAllowedBy, IsToldReason, Tells}
+use Rattle.guard_policy.specs.inside.Passing.{AreMarks, EncodeNothing, IsAnswer, IsLetBy, IsLetByNone, IsToldBy, first_in}
 use Rattle.guard_policy.specs.inside.Routing.{rules_named, slots_where, has_effect, common, speaking_slots, slots_for, route_rules as rules_on, IsRouting, IsRouted}
 use Rattle.guard_policy.specs.inside.KeptRules.{messages_kept, rules_kept}
 use Rattle.guard_policy.proofs.Applicable.{declared_sound}
-use Rattle.guard_policy.proofs.Goes.{judged_denied, judged_undenied, nothing_allows}
+use Rattle.guard_policy.proofs.Goes.{judged_denied, judged_undenied, nothing_allows, none_allowed}
 use Rattle.guard_policy.proofs.Keeping.{first_named}
 use Rattle.guard_policy.proofs.Listed.{speaks_not, with_numbers, declared_pair}
-use Rattle.guard_policy.proofs.RuleSlots.{Says, true_at, any, says_slots, common_says, both_mapped, filled, empty, filled_any, empty_any, any_mapped}
+use Rattle.guard_policy.proofs.RuleSlots.{Says, true_at, any, says_slots, common_says, both_mapped, empty, filled_any, empty_any, any_mapped}
 use Rattle.guard_policy.proofs.RulesNamed.{types_named}
 
 -- ---- the rules of a message, by their slots
@@ -151,7 +153,7 @@ first_true [] ns = None
 first_true (b ∷ bs) [] = None
 first_true (b ∷ bs) (n ∷ ns) = cond b (Some n) (first_true bs ns)
 
-none_in : (m : Slots) (k : ℕ) (ns : List ℕ) → ((n slot : ℕ) → slot ≡ n + k → has m slot ≡ false) → first_in m k ns ≡ None
+pub none_in : (m : Slots) (k : ℕ) (ns : List ℕ) → ((n slot : ℕ) → slot ≡ n + k → has m slot ≡ false) → first_in m k ns ≡ None
 none_in m k [] shows = refl
 none_in m k (n ∷ ns) shows =
     ap (λ b. cond b (Some n) (first_in m (suc k) ns)) (shows 0 k (omega arith)) ∙ none_in m (suc k) ns (λ n slot e. shows (suc n) slot (omega (arith, e)))
@@ -190,14 +192,23 @@ first_speaking effect route v i (r ∷ rs) =
       | false ↦ λ other. more ∙ ap (λ b. first_where (said_by effect v) (cond b (x ∷ xs) xs)) (sym (speaks_not route r other))
     ]) refl
 
-as_many : (name : List ℕ) (i : ℕ) (rules : List AbstractRule) → length (numbers_for name i rules) ≡ length (rules_named name rules)
-as_many name i [] = refl
-as_many name i (r ∷ rs) =
-    elim (bytes_eq r.message name) as (λ (b : Bool). length (cond b (i ∷ numbers_for name (i + 1) rs) (numbers_for name (i + 1) rs))
-    ≡ length (cond b (r ∷ rules_named name rs) (rules_named name rs))) [
-      | true ↦ ap suc (as_many name (i + 1) rs)
-      | false ↦ as_many name (i + 1) rs
-    ]
+-- a rule that is the first to pass a test passes it
+some_first : (test : AbstractRule → Bool) (rs : List NumberedRule) (i : ℕ) → first_where test rs ≡ Some i → list_any (λ r. test r.rule) rs ≡ true
+some_first test [] i e = absurd cc
+some_first test (r ∷ rs) i e =
+    (elim (test r.rule) as (λ (b : Bool). cond b (Some r.number) (first_where test rs) ≡ Some i → (b || list_any (λ x. test x.rule) rs) ≡ true) [
+      | true ↦ λ here. refl
+      | false ↦ λ later. some_first test rs i later
+    ]) e
+
+-- and where one passes it, one is the first
+first_of_some : (test : AbstractRule → Bool) (rs : List NumberedRule) → list_any (λ r. test r.rule) rs ≡ true → (i : ℕ) × (first_where test rs ≡ Some i)
+first_of_some test [] e = absurd cc
+first_of_some test (r ∷ rs) e =
+    (elim (test r.rule) as (λ (b : Bool). (b || list_any (λ x. test x.rule) rs) ≡ true → (i : ℕ) × (cond b (Some r.number) (first_where test rs) ≡ Some i)) [
+      | true ↦ λ here. (r.number, refl)
+      | false ↦ λ later. first_of_some test rs later
+    ]) e
 
 -- ---- the message goes
 
@@ -234,9 +245,6 @@ module _ (p : Kept) (policy : AbstractPolicy) (route : AbstractRoute) (octets : 
       declared_sound (messages_kept p) (rules_kept p) route.message (declared_of m.table) p.consistent
       (ap (λ (ms : List AbstractMessage). declared_among ms route.message) (sym same_messages) ∙ declared)
 
-  abbrev Lets : Type 0
-  Lets = LetsGo (rules_on m.routing route) marks.members
-
   inside : IsTrue (has marks.members 0) → is_member (declared_of m.table) v ≡ true
   inside of_type = sym (has_marks 0) ∙ of_type
 
@@ -244,6 +252,9 @@ module _ (p : Kept) (policy : AbstractPolicy) (route : AbstractRoute) (octets : 
   undenied none_denies =
       all_not (says_of Deny v) (route_rules policy route)
       ∙ ap not (sym (said Deny) ∙ empty_any (map (answers Deny route v) named) (slots_of m.routing.denying) denied none_denies)
+
+  unallowed : common (rules_on m.routing route).allowing marks.members ≡ none → list_any (λ r. allows r.rule v) (route_rules policy route) ≡ false
+  unallowed none_allows = sym (said Allow) ∙ empty_any (map (answers Allow route v) named) (slots_of m.routing.allowing) allowed none_allows
 
   first_said : (effect : Effect) (own : Slots) → Says (map (answers effect route v) named) (slots_of own) → (numbers : List ℕ) → numbers ≡ numbers_for route.message 0 policy.rules
       → first_in (slots_of own) 1 numbers ≡ first_where (said_by effect v) (route_rules policy route)
@@ -263,39 +274,51 @@ module _ (p : Kept) (policy : AbstractPolicy) (route : AbstractRoute) (octets : 
       → first_in (slots_of m.routing.allowing) 1 numbers ≡ first_allowing (route_rules policy route) v
   first_allowed = first_said Allow m.routing.allowing allowed
 
-  goes : Lets → Goes policy route octets
-  goes (of_type, some, none_denies) = (
-    declared_of m.table,
-    v,
-    declared,
-    fitting,
-    encoded,
-    inside of_type,
-    sym (said Allow) ∙ filled_any (map (answers Allow route v) named) (slots_of m.routing.allowing) allowed some,
-    undenied none_denies,
-  )
+  module _ (numbers : List ℕ) (listed : numbers ≡ numbers_for route.message 0 policy.rules) where
+    goes : (rule : ℕ) → IsTrue (has marks.members 0) → IsLetBy (rules_on m.routing route) numbers marks.members rule → IsAllowedBy policy route octets rule
+    goes rule of_type (first, none_denies) =
+        let rs = route_rules policy route in
+        let is : first_allowing rs v ≡ Some rule = sym (first_allowed numbers listed) ∙ first in (
+          (declared_of m.table, v, declared, fitting, encoded, inside of_type, some_first (λ r. allows r v) rs rule is, undenied none_denies),
+          is,
+        )
 
-  only : Goes policy route octets → Lets
-  only (u, w, declared_too, fitting_too, encoded_too, is_in_too, some, none_denies) =
-      let same : u ≡ declared_of m.table = same_Some _ _ (sym declared_too ∙ declared) in
-      let is_v : w ≡ v = one_encoding (declared_of m.table) w v octets sound (subst (λ (x : AbstractType). IsTrue (fits x w)) same fitting_too) fitting (subst (λ (x : AbstractType). der x w ≡ Some octets) same encoded_too) encoded in (
-        has_marks 0 ∙ subst (λ (x : AbstractValue). is_member (declared_of m.table) x ≡ true) is_v (subst (λ (x : AbstractType). is_member x w ≡ true) same is_in_too),
-        filled (map (answers Allow route v) named) (slots_of m.routing.allowing) allowed
-            (said Allow ∙ subst (λ (x : AbstractValue). list_any (λ r. allows r.rule x) (route_rules policy route) ≡ true) is_v some),
-        empty (map (answers Deny route v) named) (slots_of m.routing.denying) denied
-            (said Deny ∙ is_false (list_any (says_of Deny v) (route_rules policy route)) (sym (all_not (says_of Deny v) (route_rules policy route))
-            ∙ subst (λ (x : AbstractValue). list_all (λ r. not (denies r.rule x)) (route_rules policy route) ≡ true) is_v none_denies)),
-      )
+    only : Goes policy route octets → IsTrue (has marks.members 0) × (rule : ℕ) × IsLetBy (rules_on m.routing route) numbers marks.members rule
+    only (u, w, declared_too, fitting_too, encoded_too, is_in_too, some, none_denies) =
+        let rs = route_rules policy route in
+        let same : u ≡ declared_of m.table = same_Some _ _ (sym declared_too ∙ declared) in
+        let is_v : w ≡ v = one_encoding (declared_of m.table) w v octets sound (subst (λ (x : AbstractType). IsTrue (fits x w)) same fitting_too) fitting (subst (λ (x : AbstractType). der x w ≡ Some octets) same encoded_too) encoded in
+        let first = first_of_some (λ r. allows r v) rs (subst (λ (x : AbstractValue). list_any (λ r. allows r.rule x) rs ≡ true) is_v some) in (
+          has_marks 0 ∙ subst (λ (x : AbstractValue). is_member (declared_of m.table) x ≡ true) is_v (subst (λ (x : AbstractType). is_member x w ≡ true) same is_in_too),
+          first.0,
+          (
+            first_allowed numbers listed ∙ first.1,
+            empty (map (answers Deny route v) named) (slots_of m.routing.denying) denied
+                (said Deny ∙ is_false (list_any (says_of Deny v) rs) (sym (all_not (says_of Deny v) rs)
+                ∙ subst (λ (x : AbstractValue). list_all (λ r. not (denies r.rule x)) rs ≡ true) is_v none_denies)),
+          ),
+        )
 
--- ---- no rule of the route allows anything
+-- ---- whether a rule of the route allows anything
 
-unallowing : (rules : List AbstractRule) (route : AbstractRoute) (m : KeptMessage) → IsRouted rules m → string_bytes m.name ≡ route.message
-    → (rules_on m.routing route).allowing ≡ none → list_any (λ r. is_allowing r.rule) (speaking route 0 rules) ≡ false
-unallowing rules route m routed name empty_now =
-    let named = rules_named (string_bytes m.name) rules in
-    let heard : AbstractRule → Bool = λ r. (is_meant r.from route.from && is_meant r.to route.to) && has_effect Allow r in
-    sym (any_mapped heard named ∙ ap (λ (n : List ℕ). list_any heard (rules_named n rules)) name ∙ any_heard (has_effect Allow) route 0 rules)
-    ∙ empty_any (map heard named) (rules_on m.routing route).allowing (effective Allow route named m.routing m.routing.allowing routed.routing routed.routing.allowing) empty_now
+module _ (rules : List AbstractRule) (route : AbstractRoute) (m : KeptMessage) (routed : IsRouted rules m) (name : string_bytes m.name ≡ route.message) where
+  abbrev of_message : List AbstractRule
+  of_message = rules_named (string_bytes m.name) rules
+
+  abbrev may_allow : AbstractRule → Bool
+  may_allow r = (is_meant r.from route.from && is_meant r.to route.to) && has_effect Allow r
+
+  some_may : any (map may_allow of_message) ≡ list_any (λ r. is_allowing r.rule) (speaking route 0 rules)
+  some_may = any_mapped may_allow of_message ∙ ap (λ (n : List ℕ). list_any may_allow (rules_named n rules)) name ∙ any_heard (has_effect Allow) route 0 rules
+
+  they_say : Says (map may_allow of_message) (rules_on m.routing route).allowing
+  they_say = effective Allow route of_message m.routing m.routing.allowing routed.routing routed.routing.allowing
+
+  unallowing : (rules_on m.routing route).allowing ≡ none → list_any (λ r. is_allowing r.rule) (speaking route 0 rules) ≡ false
+  unallowing empty_now = sym some_may ∙ empty_any (map may_allow of_message) (rules_on m.routing route).allowing they_say empty_now
+
+  allowing : (rules_on m.routing route).allowing ≢ none → list_any (λ r. is_allowing r.rule) (speaking route 0 rules) ≡ true
+  allowing filled_now = sym some_may ∙ filled_any (map may_allow of_message) (rules_on m.routing route).allowing they_say filled_now
 
 -- ---- as the code has it
 
@@ -313,16 +336,6 @@ routed_first messages rules name m routed first =
       ap (λ (x : AbstractMessage). x.name) (same_Some _ _ (sym viewed ∙ named.1)) ∙ named.2,
     )
 
-few_routed : (rules : List AbstractRule) (m : KeptMessage) → IsRouted rules m → length m.numbers.items ≤ 255
-few_routed rules m routed =
-    let a : length m.numbers.items ≡ length (numbers_for (string_bytes m.name) 0 rules) = ap (λ (ns : List ℕ). length ns) routed.numbers in
-    let b = as_many (string_bytes m.name) 0 rules in
-    let few = routed.few in
-    omega (arith, a, b, few)
-
-pub few_there : (policy : Policy) (place : ℕ) (m : KeptMessage) → slice_get policy.kept.messages.items place ≡ Some m → length m.numbers.items ≤ 255
-few_there policy place m there = few_routed (rules_kept policy.kept) m (routed_there policy.kept.messages.items (rules_kept policy.kept) place m policy.kept.routed there)
-
 module _ (policy : Policy) (route : AbstractRoute) (octets numbers : List ℕ) (m : KeptMessage)
     (listed : ◌≡◌ {A = Option (AbstractType × List ℕ)} (Some (declared_of m.table, numbers))
     (option_map (with_numbers (policy_view policy).rules route.message) (declared_type (policy_view policy) route.message)))
@@ -333,69 +346,14 @@ module _ (policy : Policy) (route : AbstractRoute) (octets numbers : List ℕ) (
   routed : IsRouted (rules_kept policy.kept) m × (string_bytes m.name ≡ route.message)
   routed = routed_first policy.kept.messages.items (rules_kept policy.kept) route.message m policy.kept.routed first
 
-  -- With the marks of the value that the octets encode, the message goes exactly where the declared type has it and the
-  -- route's rules let it go.
-  by_marks : (marks : Marks) → AreMarks m.table octets marks → LetsGo (rules_on m.routing route) marks.members ↔ Goes (policy_view policy) route octets
-  by_marks marks (v, fitting, encoded, has_marks) = (
-    goes policy.kept (policy_view policy) route octets m marks v refl refl declares routed.0 routed.1 fitting encoded has_marks,
-    only policy.kept (policy_view policy) route octets m marks v refl refl declares routed.0 routed.1 fitting encoded has_marks,
-  )
-
   -- what goes is the encoding of a value of the message's type
   encoded : Goes (policy_view policy) route octets → EncodeNothing m.table octets → ⊥
   encoded g nothing =
       let is : g.0 ≡ declared_of m.table = same_Some _ _ (sym g.2 ∙ declares) in
       nothing g.1 (subst (λ (t : AbstractType). IsTrue (fits t g.1)) is g.3) (subst (λ (t : AbstractType). der t g.1 ≡ Some octets) is g.4)
 
-  -- the types of the table have the values that the declared type and those of the rules have
-  same_types : (v : AbstractValue) (slot : ℕ)
-      → is_in (table_types m.table) v slot ≡ is_in (declared_of m.table ∷ types_for route.message (policy_view policy).rules) v slot
-  same_types v zero = refl
-  same_types v (suc n) = routed.0.types v n ∙ ap (λ (name : List ℕ). is_in (types_for name (rules_kept policy.kept)) v n) routed.1
-
-  marks_of : (marks : Marks) → AreMarks m.table octets marks → AreMarksOf (policy_view policy) route.message octets marks
-  marks_of marks (v, fitting, encoded, has_marks) = record {
-    ty = declared_of m.table;
-    value = v;
-    declared = declares;
-    fitting = fitting;
-    encoded = encoded;
-    marked = λ slot. has_marks slot ∙ same_types v slot;
-  }
-
-  in_table : (marks : Marks) (are : AreMarksOf (policy_view policy) route.message octets marks)
-      → IsTrue (fits (declared_of m.table) are.value) × (der (declared_of m.table) are.value ≡ Some octets) × HasMarks marks (table_types m.table) are.value
-  in_table marks are =
-      let is : are.ty ≡ declared_of m.table = same_Some _ _ (sym are.declared ∙ declares) in (
-        subst (λ (t : AbstractType). IsTrue (fits t are.value)) is are.fitting,
-        subst (λ (t : AbstractType). der t are.value ≡ Some octets) is are.encoded,
-        λ slot.
-            are.marked slot
-            ∙ ap (λ (t : AbstractType). is_in (t ∷ types_for route.message (policy_view policy).rules) are.value slot) is
-            ∙ sym (same_types are.value slot),
-      )
-
-  marks_in_table : (marks : Marks) → AreMarksOf (policy_view policy) route.message octets marks → AreMarks m.table octets marks
-  marks_in_table marks are = let t = in_table marks are in (are.value, t.0, t.1, t.2)
-
-  numbered : numbers ≡ numbers_for route.message 0 (policy_view policy).rules
-  numbered = (declared_pair (policy_view policy).rules route.message (declared_type (policy_view policy) route.message) (declared_of m.table) numbers listed).1
-
   own_numbers : m.numbers.items ≡ numbers_for route.message 0 (policy_view policy).rules
   own_numbers = routed.0.numbers ∙ ap (λ (name : List ℕ). numbers_for name 0 (rules_kept policy.kept)) routed.1
-
-  pub few_numbers : length numbers ≤ 255
-  few_numbers =
-      let same : length numbers ≡ length m.numbers.items = ap (λ (ns : List ℕ). length ns) (numbered ∙ sym own_numbers) in
-      let few = few_routed (rules_kept policy.kept) m routed.0 in
-      omega (arith, same, few)
-
-  pub first_allows : (rules : RouteRules) (marks : Marks) → rules ≡ rules_on m.routing route → (are : AreMarksOf (policy_view policy) route.message octets marks)
-      → first_in (common rules.allowing marks.members) 1 numbers ≡ first_allowing (route_rules (policy_view policy) route) are.value
-  first_allows rules marks is are =
-      let (fitting, encoded, has_marks) = in_table marks are in
-      ap (λ (r : RouteRules). first_in (common r.allowing marks.members) 1 numbers) is
-      ∙ first_allowed policy.kept (policy_view policy) route octets m marks are.value refl refl declares routed.0 routed.1 fitting encoded has_marks numbers numbered
 
   -- where no allowing rule speaks of the route, none of its rules allows anything
   unallowed_by : (rules : RouteRules) → rules ≡ rules_on m.routing route → rules.allowing ≡ none
@@ -403,49 +361,60 @@ module _ (policy : Policy) (route : AbstractRoute) (octets numbers : List ℕ) (
   unallowed_by rules are empty_now =
       unallowing (rules_kept policy.kept) route m routed.0 routed.1 (ap (λ (r : RouteRules). r.allowing) (sym are) ∙ empty_now)
 
+  allowed_by : (rules : RouteRules) → rules ≡ rules_on m.routing route → rules.allowing ≢ none
+      → list_any (λ r. is_allowing r.rule) (route_rules (policy_view policy) route) ≡ true
+  allowed_by rules are filled_now = allowing (rules_kept policy.kept) route m routed.0 routed.1 (subst (λ (r : RouteRules). r.allowing ≢ none) are filled_now)
+
   -- so what the marks tell is the reason
-  told_by_them : (own : List ℕ) → own ≡ numbers_for route.message 0 (policy_view policy).rules → (rules : RouteRules) (w : AbstractVerdict) (marks : Marks)
-      → rules ≡ rules_on m.routing route → AreMarks m.table octets marks
-      → IsTrue (has marks.members 0) → IsToldBy rules own marks.members w → IsReason (policy_view policy) route octets w
-  told_by_them own are_own rules w marks are (v, fitting, encoded, has_marks) of_type told =
-      let is_in = inside policy.kept (policy_view policy) route octets m marks v refl refl declares routed.0 routed.1 fitting encoded has_marks of_type in
-      let rs = route_rules (policy_view policy) route in
-      let slots : common rules.denying marks.members ≡ common (rules_on m.routing route).denying marks.members = ap (λ (r : RouteRules). common r.denying marks.members) are in
-      let judged_so : w ≡ judged (declared_of m.table) rs v = elim told [
-        | inl d ↦
-            d.2
-            ∙ sym (judged_denied (declared_of m.table) rs v d.0 fitting is_in
-            (sym (first_denied policy.kept (policy_view policy) route octets m marks v refl refl declares routed.0 routed.1 fitting encoded has_marks own are_own)
-            ∙ ap (λ (k : Slots). first_in k 1 own) (sym slots) ∙ d.1))
-        | inr n ↦
-            n.2
-            ∙ sym (judged_undenied (declared_of m.table) rs v fitting is_in
-            (undenied policy.kept (policy_view policy) route octets m marks v refl refl declares routed.0 routed.1 fitting encoded has_marks (sym slots ∙ n.0))
-            ∙ nothing_allows rs v (unallowed_by rules are n.1))
-      ] in
-      inr (declared_of m.table, declares, inr (v, fitting, encoded, judged_so))
+  module _ (own : List ℕ) (are_own : own ≡ numbers_for route.message 0 (policy_view policy).rules) (rules : RouteRules) (marks : Marks) (are : rules ≡ rules_on m.routing route)
+      (v : AbstractValue) (fitting : IsTrue (fits (declared_of m.table) v)) (encoded : der (declared_of m.table) v ≡ Some octets) (has_marks : HasMarks marks (table_types m.table) v)
+      (of_type : IsTrue (has marks.members 0)) where
+    abbrev rs : List NumberedRule
+    rs = route_rules (policy_view policy) route
 
-  pub told_by_marks : (rules : RouteRules) (w : AbstractVerdict) (marks : Option Marks) → rules ≡ rules_on m.routing route
-      → IfSome marks (AreMarksOf (policy_view policy) route.message octets) → IsMarked rules numbers marks w → IsReason (policy_view policy) route octets w
-  told_by_marks rules w None are known (marks, is, of_type, told) = absurd (let e = is in cc)
-  told_by_marks rules w (Some found) are known (marks, is, of_type, told) =
-      let same : found ≡ marks = same_Some _ _ is in
-      told_by_them numbers numbered rules w marks are
-      (marks_in_table marks (subst (AreMarksOf (policy_view policy) route.message octets) same known)) of_type told
+    is_of_type : is_member (declared_of m.table) v ≡ true
+    is_of_type = inside policy.kept (policy_view policy) route octets m marks v refl refl declares routed.0 routed.1 fitting encoded has_marks of_type
 
-  stays : (rules : RouteRules) (marks : Marks) → rules ≡ rules_on m.routing route → AreMarks m.table octets marks → (LetsGo rules marks.members → ⊥)
-      → Goes (policy_view policy) route octets → ⊥
-  stays rules marks are walked never goes_so = never (subst (λ (r : RouteRules). LetsGo r marks.members) (sym are) ((by_marks marks walked).1 goes_so))
+    because : (w : AbstractVerdict) → judged (declared_of m.table) rs v ≡ w → IsReason (policy_view policy) route octets w
+    because w e = inr (declared_of m.table, declares, inr (v, fitting, encoded, sym e))
+
+    undenied_so : common rules.denying marks.members ≡ none → judged (declared_of m.table) rs v ≡ by_allowing rs v
+    undenied_so none_denies =
+        judged_undenied (declared_of m.table) rs v fitting is_of_type
+        (undenied policy.kept (policy_view policy) route octets m marks v refl refl declares routed.0 routed.1 fitting encoded has_marks
+        (ap (λ (r : RouteRules). common r.denying marks.members) (sym are) ∙ none_denies))
+
+    told_by_them : (r : PlainReason) → IsToldBy rules own marks.members r → IsToldReason (policy_view policy) route octets (reason_view r)
+    told_by_them plain.UnknownMessage told = absurd told
+    told_by_them (plain.DeniedBy i) told = because (denied_by i)
+        (judged_denied (declared_of m.table) rs v i fitting is_of_type
+        (sym (first_denied policy.kept (policy_view policy) route octets m marks v refl refl declares routed.0 routed.1 fitting encoded has_marks own are_own)
+        ∙ ap (λ (r : RouteRules). first_in (common r.denying marks.members) 1 own) (sym are) ∙ told))
+    told_by_them plain.NotAllowed (none_denies, some, none_allows) = (
+      shortfalls rs v,
+      because (not_allowed (shortfalls rs v))
+          (undenied_so none_denies
+          ∙ none_allowed rs v
+          (unallowed policy.kept (policy_view policy) route octets m marks v refl refl declares routed.0 routed.1 fitting encoded has_marks
+          (ap (λ (r : RouteRules). common r.allowing marks.members) (sym are) ∙ none_allows))
+          (allowed_by rules are some)),
+    )
+    told_by_them plain.NoRule (none_denies, none_allows) = because no_rule (undenied_so none_denies ∙ nothing_allows rs v (unallowed_by rules are none_allows))
+
+  stays : (rules : RouteRules) (marks : Marks) → rules ≡ rules_on m.routing route → AreMarks m.table octets marks
+      → (IsTrue (has marks.members 0) → IsLetByNone rules m.numbers.items marks.members) → Goes (policy_view policy) route octets → ⊥
+  stays rules marks are (v, fitting, encoded, has_marks) never goes_so =
+      let by = only policy.kept (policy_view policy) route octets m marks v refl refl declares routed.0 routed.1 fitting encoded has_marks m.numbers.items own_numbers goes_so in
+      never by.0 by.1 (subst (λ (r : RouteRules). IsLetBy r m.numbers.items marks.members by.1) (sym are) by.2)
 
   pub tells : (rules : RouteRules) (answer : Passing) → rules ≡ rules_on m.routing route → IsAnswer m rules octets answer
       → Tells (policy_view policy) route octets answer
-  tells rules (passing.Goes marks) are (walked, lets) = (
-    (by_marks marks walked).0 (subst (λ (r : RouteRules). LetsGo r marks.members) are lets),
-    marks_of marks walked,
-  )
-  tells rules (passing.Stopped (Some reason)) are (marks, walked, never, of_type, told) = (
-    stays rules marks are walked never,
-    told_by_them m.numbers.items own_numbers rules (reason_view reason) marks are walked of_type told,
+  tells rules (passing.Goes rule) are (marks, (v, fitting, encoded, has_marks), of_type, by) =
+      goes policy.kept (policy_view policy) route octets m marks v refl refl declares routed.0 routed.1 fitting encoded has_marks m.numbers.items own_numbers rule of_type
+      (subst (λ (r : RouteRules). IsLetBy r m.numbers.items marks.members rule) are by)
+  tells rules (passing.Stopped (Some reason)) are (marks, walked, of_type, never, told) = (
+    stays rules marks are walked (λ typed. never),
+    told_by_them m.numbers.items own_numbers rules marks are walked.0 walked.1 walked.2 walked.3 of_type reason told,
   )
   tells rules (passing.Stopped None) are told = (
     λ goes. elim told [

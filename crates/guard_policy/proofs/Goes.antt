@@ -106,6 +106,30 @@ nothing_allows rules v e =
     ap (λ x. cond x pass (cond (some_allowing rules) (not_allowed (shortfalls rules v)) no_rule)) (none_allows rules v e)
     ∙ ap (λ x. cond x (not_allowed (shortfalls rules v)) no_rule) e
 
+-- with an allowing rule, but none that has the value, each of them falls short
+pub none_allowed : (rules : List NumberedRule) (v : AbstractValue) → some_allows rules v ≡ false → some_allowing rules ≡ true → by_allowing rules v ≡ not_allowed (shortfalls rules v)
+none_allowed rules v none some =
+    ap (λ x. cond x pass (cond (some_allowing rules) (not_allowed (shortfalls rules v)) no_rule)) none
+    ∙ ap (λ x. cond x (not_allowed (shortfalls rules v)) no_rule) some
+
+-- ---- that verdict is up to the allowing rules
+
+no_violation : (x : Option AbstractViolation) (k : AbstractVerdict) (found : List (ℕ × AbstractViolation))
+    → (elim x [ Some w ↦ outside_type w | None ↦ k ]) ≡ not_allowed found → (elim x [ Some w ↦ outside_type w | None ↦ k ]) ≡ k
+no_violation None k found e = refl
+no_violation (Some w) k found e = absurd cc
+
+no_denial : (x : Option ℕ) (k : AbstractVerdict) (found : List (ℕ × AbstractViolation))
+    → (elim x [ Some i ↦ denied_by i | None ↦ k ]) ≡ not_allowed found → (elim x [ Some i ↦ denied_by i | None ↦ k ]) ≡ k
+no_denial None k found e = refl
+no_denial (Some i) k found e = absurd cc
+
+pub judged_unallowed : (t : AbstractType) (rules : List NumberedRule) (v : AbstractValue) (found : List (ℕ × AbstractViolation)) → judged t rules v ≡ not_allowed found
+    → judged t rules v ≡ by_allowing rules v
+judged_unallowed t rules v found e =
+    let inside_it = no_violation (violation t v) (by_rules rules v) found e in
+    inside_it ∙ no_denial (first_denying rules v) (by_allowing rules v) found (sym inside_it ∙ e)
+
 pub passes_from_goes : (p : AbstractPolicy) (route : AbstractRoute) (octets : List ℕ) → Goes p route octets → IsReason p route octets pass
 unfolding none_denies
 passes_from_goes p route octets (t, v, declared, fitting, encoded, is_in, some, none) =

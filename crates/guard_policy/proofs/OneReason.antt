@@ -7,12 +7,13 @@ use Rattle.guard_der.specs.Der.{der}
 use Rattle.guard_der.specs.Fits.{fits}
 use Rattle.guard_der.specs.Breach.{AbstractBreach, IsBreach}
 use Rattle.guard_der.proofs.Types.Messages.{never_both, one_breach, one_encoding}
-use Rattle.guard_policy.specs.Verdicts.{AbstractVerdict, undecodable, unknown_message, pass}
+use Rattle.guard_policy.specs.Verdicts.{AbstractVerdict, undecodable, unknown_message, not_allowed, pass}
 use Rattle.guard_policy.specs.Consistency.{IsConsistent}
 use Rattle.guard_policy.specs.Policies.{AbstractPolicy, AbstractRoute, declared_type}
-use Rattle.guard_policy.specs.Decisions.{rules_of, judged, IsReason, Goes}
+use Rattle.guard_policy.specs.Decisions.{NumberedRule, rules_of, by_allowing, judged, IsReason, Goes}
+use Rattle.guard_policy.specs.Told.{IsToldReason}
 use Rattle.guard_policy.proofs.Applicable.{declared_sound}
-use Rattle.guard_policy.proofs.Goes.{passes_from_goes, goes_from_passes}
+use Rattle.guard_policy.proofs.Goes.{judged_unallowed, passes_from_goes, goes_from_passes}
 use Rattle.guard_policy.proofs.Reasons.{value_read, breach_read, reason_of_value, reason_of_breach}
 
 -- a reason of octets that are the encoding of a value, or have a breach
@@ -41,6 +42,14 @@ one_reason p route octets v w c (inr (t, declared, inr (x, fitting, encoded, e))
     e ∙ reason_of_value p route octets t x w declared
     (λ u fits_too encoded_too. ap value_read (one_encoding t u x octets sound fits_too fitting encoded_too encoded))
     (λ b broken. absurd (never_both t octets x b sound fitting encoded broken)) reason
+
+-- where the reason of a value is told to be that no allowing rule has it, the verdict is up to the allowing rules
+pub up_to_allowing : (p : AbstractPolicy) (route : AbstractRoute) (octets : List ℕ) (t : AbstractType) (v : AbstractValue) (rules : List NumberedRule) → IsConsistent p.messages p.rules
+    → declared_type p route.message ≡ Some t → IsTrue (fits t v) → der t v ≡ Some octets → rules ≡ rules_of p route → IsToldReason p route octets None
+    → judged t rules v ≡ by_allowing rules v
+up_to_allowing p route octets t v rules c declared fitting encoded listed (found, reason) =
+    judged_unallowed t rules v found
+    (one_reason p route octets (judged t rules v) (not_allowed found) c (inr (t, declared, inr (v, fitting, encoded, ap (λ (rs : List NumberedRule). judged t rs v) listed))) reason)
 
 -- where a reason is to pass, the message goes, and where it goes, that is its reason
 pub passes_exactly : (p : AbstractPolicy) (route : AbstractRoute) (octets : List ℕ) (w : AbstractVerdict) → IsConsistent p.messages p.rules → IsReason p route octets w

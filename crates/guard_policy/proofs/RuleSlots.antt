@@ -168,7 +168,7 @@ no_place (true ∷ bs) n e = absurd cc
 no_place (false ∷ bs) zero e = refl
 no_place (false ∷ bs) (suc n) e = no_place bs n e
 
-pub filled : (bs : List Bool) (m : Slots) → Says bs m → any bs ≡ true → m ≢ none
+filled : (bs : List Bool) (m : Slots) → Says bs m → any bs ≡ true → m ≢ none
 filled bs m p e empty =
     let place = some_place bs e in
     false≢true (sym (none_law (suc place.0)) ∙ ap (λ (k : Slots). has k (suc place.0)) (sym empty) ∙ p.others place.0 ∙ place.1)

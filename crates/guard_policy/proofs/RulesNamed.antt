@@ -64,7 +64,6 @@ few_named rules name declared table named types is =
 pub routed_here : (rules : List AbstractRule) (name : List ℕ) (m : KeptMessage) (declared : AbstractType) → string_bytes m.name ≡ name
     → m.numbers.items ≡ numbers_for name 0 rules → table_types m.table ≡ declared ∷ types_for name rules → IsRouting (rules_named name rules) m.routing → IsRouted rules m
 routed_here rules name m declared named numbers types routing = record {
-  few = subst (λ (n : List ℕ). length (rules_named n rules) ≤ 255) (sym named) (few_of rules name declared m.table types);
   numbers = numbers ∙ ap (λ (n : List ℕ). numbers_for n 0 rules) (sym named);
   types = λ v place. ap (λ (ts : List AbstractType). is_in (rest_of ts) v place) types ∙ ap (λ (n : List ℕ). is_in (types_for n rules) v place) (sym named);
   routing = subst (λ (n : List ℕ). IsRouting (rules_named n rules) m.routing) (sym named) routing;

@@ -1,5 +1,5 @@
 -- Verdicts as the definitions see them.
-use Rattle.std.specs.Prelude.{ℕ, List, map}
+use Rattle.std.specs.Prelude.{ℕ, List, Option, Some, None, map}
 use Rattle.guard_der.specs.Breach.{AbstractBreach}
 use Rattle.guard_der.specs.Views.{breach_view}
 use Rattle.guard_policy.specs.declared.verdict.Verdict.{Verdict}
@@ -26,7 +26,9 @@ verdict_view (verdict.DeniedBy i) = denied_by i
 verdict_view (verdict.NotAllowed rules) = not_allowed (map shortfall_view rules.items)
 verdict_view verdict.NoRule = no_rule
 
-abbrev pub reason_view : PlainReason → AbstractVerdict
-reason_view plain.UnknownMessage = unknown_message
-reason_view (plain.DeniedBy i) = denied_by i
-reason_view plain.NoRule = no_rule
+-- the verdict with this reason; none where violations belong to it
+abbrev pub reason_view : PlainReason → Option AbstractVerdict
+reason_view plain.UnknownMessage = Some unknown_message
+reason_view (plain.DeniedBy i) = Some (denied_by i)
+reason_view plain.NotAllowed = None
+reason_view plain.NoRule = Some no_rule

@@ -1,5 +1,5 @@
 //! What becomes of a message.
-ghost use Rattle.std.specs.Prelude.{◌≡◌, ◌&&◌, map, option_map, IsTrue, IfOk};
+ghost use Rattle.std.specs.Prelude.{◌≡◌, ◌&&◌, true, map, option_map, IsTrue, IfOk};
 ghost use Rattle.guard_model.specs.TypeView.{type_view};
 ghost use Rattle.guard_model.specs.ValueView.{value_view};
 ghost use Rattle.guard_der.specs.Fits.{fits};
@@ -20,8 +20,9 @@ use guard_eval::{first_violation, member};
 use guard_model::{OutOfMemory, Ty, Value};
 use std::alloc::Global;
 
-/// The verdict on a value of the declared type, by the rules of these numbers. Conditions: the type is sound, the value
-/// fits it, and it fits the type of each rule that speaks of the route.
+/// The verdict on a value of the declared type, by the rules of these numbers. Where it is known that no allowing rule
+/// has the value, and this is why, neither the declared type nor a denying rule is asked of it. Conditions: the type is
+/// sound, the value fits it, and it fits the type of each rule that speaks of the route.
 pub fn judge(
     alloc: Global,
     kept: &Kept,
@@ -29,14 +30,23 @@ pub fn judge(
     route: &Route,
     ty: &Ty,
     value: &Value,
+    is_unallowed: bool,
 ) -> Result<Verdict, OutOfMemory>
     requires type_sound { IsTrue (is_sound (type_view ty.now)) }
     requires value_fits { IsTrue (fits (type_view ty.now) (value_view value.now)) }
     requires rules_applicable { AreApplicable (route_view route.now) (value_view value.now) (rules_kept kept.now) }
+    requires unallowed { is_unallowed ≡ true
+        → judged (type_view ty.now) (heard (route_view route.now) (rules_at (rules_kept kept.now) numbers.now))
+        (value_view value.now)
+        ≡ by_allowing (heard (route_view route.now) (rules_at (rules_kept kept.now) numbers.now))
+        (value_view value.now) }
     ensures { IfOk result (λ w. verdict_view w
         ≡ judged (type_view ty.now) (heard (route_view route.now) (rules_at (rules_kept kept.now) numbers.now))
         (value_view value.now)) }
 {
+    if is_unallowed {
+        return judge_by_allowing(alloc, kept, numbers, route, value);
+    }
     if let Some(violation) = first_violation(ty, value) {
         return Ok(Verdict::OutsideType(violation));
     }

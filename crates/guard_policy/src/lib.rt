@@ -10,8 +10,7 @@
 //! | Which rules speak of a route? | `speaking.rt` | `specs/Decisions.antt` |
 //! | Which verdicts are there? | `verdict.rt` | `specs/Verdicts.antt` |
 //! | When does a message go? | `passing.rt` (`passes`) | `specs/Decisions.antt` |
-//! | What is told of it, whether it goes or stays? | `passing.rt` (`look_at`) | `specs/Told.antt` |
-//! | Which rule let it go? | `passing.rt` (`allowing_rule`) | `specs/Decisions.antt` |
+//! | By which rule does it go, what is told where it stays? | `passing.rt` (`look_at`) | `specs/Told.antt` |
 //! | How does a route lead to its rules? | `routing.rt` | `specs/inside/Routing.antt` |
 //! | Which routes do rules give by names? | `leads.rt`, `route_octets.rt` | `specs/NamedRoutes.antt` |
 //! | Where is a route looked for first? | `last_route.rt`, `passing.rt` (`passes_as_last`) | `specs/NamedRoutes.antt` |
@@ -62,7 +61,6 @@ pub use entry::{Entry, Key};
 pub use fault::PolicyFault;
 pub use files::module_files;
 pub use guard_der::named_types::Types;
-pub use guard_reader::Marks;
 pub use last_route::LastRoute;
 pub use passing::Passing;
 pub use policy::{Effect, Policy, SaidRule};

@@ -1,9 +1,7 @@
 //! Whether a message goes: one pass over its octets, without memory. What it costs grows neither with rules nor with
 //! messages nor with names.
-ghost use Rattle.std.specs.Prelude.{◌≡◌, ◌≢◌, ◌↔◌, ◌≤◌, length, IsTrue};
-ghost use Rattle.guard_tables.specs.Slots.{none};
-ghost use Rattle.guard_policy.specs.inside.Passing.{IsAnswer};
-ghost use Rattle.guard_policy.specs.inside.Routing.{common};
+ghost use Rattle.std.specs.Prelude.{◌≡◌, None, IfSome};
+ghost use Rattle.guard_policy.specs.inside.Passing.{IsAnswer, IsLetBy, IsLetByNone};
 
 use super::kept::KeptMessage;
 use super::last_route::LastRoute;
@@ -12,14 +10,15 @@ use super::reason::{first_in, told_by};
 use super::route::Route;
 use super::routing::{RouteRules, common, meets};
 use super::verdict::PlainReason;
-use guard_reader::{Marks, walk};
+use guard_reader::walk;
 use guard_tables::Slots;
 
 /// Whether a message goes, and what the pass over its octets told of it.
 #[derive(Clone, Copy)]
 pub enum Passing {
-    /// The octets encode a value that some rule of the route allows and none denies, with the marks of this value.
-    Goes(Marks),
+    /// The octets encode a value that some rule of the route allows and none denies; the first rule in file order that
+    /// allows it has this number, from 0.
+    Goes(usize),
     /// The message is stopped, for this reason; none is told where a value has to be made of the octets to find it.
     Stopped(Option<PlainReason>),
 }
@@ -43,9 +42,9 @@ impl Policy {
     ghost use Rattle.std.specs.Prelude.{◌≡◌, ◌↔◌, ◌++◌, ℕ, List, IsTrue, IfSome, None};
     ghost use Rattle.guard_policy.specs.PolicyView.{policy_view, route_view};
     ghost use Rattle.guard_policy.specs.Policies.{AbstractRoute};
-    ghost use Rattle.guard_policy.specs.Decisions.{Goes, rules_of, first_allowing};
+    ghost use Rattle.guard_policy.specs.Decisions.{Goes};
     ghost use Rattle.guard_policy.specs.NamedRoutes.{IsGiven};
-    ghost use Rattle.guard_policy.specs.Told.{AreMarksOf, Tells};
+    ghost use Rattle.guard_policy.specs.Told.{Tells};
 
     /// Whether a message goes on its route: its octets are the encoding of a value of its declared type that some rule
     /// of the route allows and none denies. No memory is taken.
@@ -55,8 +54,8 @@ impl Policy {
         self.look_at(route, octets).goes()
     }
 
-    /// Whether a message goes on its route, and what `reason` need not find out again where it stays. No memory is
-    /// taken.
+    /// Whether a message goes on its route, by which rule where it does, and what `reason` need not find out again where
+    /// it stays. No memory is taken.
     pub fn look_at(&self, route: &Route, octets: &[u8]) -> Passing
         ensures { Tells (policy_view self.now) (route_view route.now) octets.now result }
     {
@@ -65,19 +64,6 @@ impl Policy {
         };
         let rules = message.routing.rules(route);
         told_by_walk(message, &rules, octets)
-    }
-
-    /// The number, from 0, of the first rule in file order that speaks of the route and allows the value of a message
-    /// whose marks these are; None where no rule does. So it tells which rule let a message go, by the marks that
-    /// `look_at` told with it. No memory is taken, and no pass is made over the message's octets.
-    pub fn allowing_rule(&self, route: &Route, marks: &Marks) -> Option<usize>
-        ensures { (octets : List ℕ)
-            (are : AreMarksOf (policy_view self.now) (route_view route.now).message octets marks.now)
-            → result ≡ first_allowing (rules_of (policy_view self.now) (route_view route.now)) are.value }
-    {
-        let (message, numbers) = self.found(route.message)?;
-        let rules = message.routing.rules(route);
-        first_in(&common(&rules.allowing, &marks.members), numbers)
     }
 
     /// Whether a message goes on the route that these octets are: three names, each after one octet with its length, as
@@ -130,10 +116,9 @@ impl Policy {
     }
 }
 
-/// Whether the octets are the encoding of a value of the message's declared type that some of these rules allows and
-/// none denies; its marks where it is, and else the reason that marks tell. Condition: there are at most 255 rules.
+/// By which of these rules the octets go: the first one that allows the value of the message's declared type that they
+/// encode, where none denies it. Where they stay, the reason that marks tell.
 fn told_by_walk(message: &KeptMessage, rules: &RouteRules, octets: &[u8]) -> Passing
-    requires few { length message.now.numbers.items ≤ 255 }
     ensures { IsAnswer message.now rules.now octets.now result }
 {
     let Some(marks) = walk(&message.table, octets) else {
@@ -142,16 +127,20 @@ fn told_by_walk(message: &KeptMessage, rules: &RouteRules, octets: &[u8]) -> Pas
     if !marks.of_type() {
         return Passing::Stopped(None);
     }
-    if lets_go(rules, &marks.members) {
-        return Passing::Goes(marks);
+    if let Some(rule) = let_by(rules, &message.numbers, &marks.members) {
+        return Passing::Goes(rule);
     }
     Passing::Stopped(told_by(rules, &message.numbers, &marks.members))
 }
 
-/// Whether some allowing rule and no denying one is among those that have the value.
-fn lets_go(rules: &RouteRules, members: &Slots) -> bool
-    ensures { IsTrue result ↔ ((common rules.now.allowing members.now ≢ none)
-        × (common rules.now.denying members.now ≡ none)) }
+/// The number of the rule that lets a value of the declared type go, by the slots of the types that have it: of the first
+/// allowing rule that has it. None where there is none, or where a denying one has it.
+fn let_by(rules: &RouteRules, numbers: &[usize], members: &Slots) -> Option<usize>
+    ensures some { IfSome result (IsLetBy rules.now numbers.now members.now) }
+    ensures none { result ≡ None → IsLetByNone rules.now numbers.now members.now }
 {
-    meets(&rules.allowing, members) && !meets(&rules.denying, members)
+    if meets(&rules.denying, members) {
+        return None;
+    }
+    first_in(&common(&rules.allowing, members), numbers)
 }

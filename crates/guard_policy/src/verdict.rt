@@ -1,5 +1,5 @@
 //! What becomes of a message, and why.
-ghost use Rattle.std.specs.Prelude.{◌≡◌};
+ghost use Rattle.std.specs.Prelude.{◌≡◌, option_map};
 ghost use Rattle.guard_policy.specs.Verdicts.{verdict_view, reason_view};
 
 use guard_der::Breach;
@@ -25,26 +25,30 @@ pub enum Verdict {
     NoRule,
 }
 
-/// A reason for which a message stays that names no part of its value: the verdicts that are found without making one.
+/// The reason for which a message stays, without the parts of its value that the verdict names: what is found without
+/// making a value.
 #[derive(Clone, Copy, Debug, PartialEq, Eq)]
 pub enum PlainReason {
     /// The policy declares no message of this name.
     UnknownMessage,
     /// This denying rule has the value; it is the first one of the route.
     DeniedBy(usize),
+    /// No allowing rule of the route has the value: each has a first violation, which only the value shows.
+    NotAllowed,
     /// The route has no allowing rule.
     NoRule,
 }
 
 impl PlainReason {
-    /// The verdict with this reason.
-    pub fn verdict(self) -> Verdict
-        ensures { verdict_view result ≡ reason_view self }
+    /// The verdict with this reason; None for NotAllowed, as its verdict names violations.
+    pub fn verdict(self) -> Option<Verdict>
+        ensures { option_map verdict_view result ≡ reason_view self }
     {
         match self {
-            PlainReason::UnknownMessage => Verdict::UnknownMessage,
-            PlainReason::DeniedBy(rule) => Verdict::DeniedBy(rule),
-            PlainReason::NoRule => Verdict::NoRule,
+            PlainReason::UnknownMessage => Some(Verdict::UnknownMessage),
+            PlainReason::DeniedBy(rule) => Some(Verdict::DeniedBy(rule)),
+            PlainReason::NotAllowed => None,
+            PlainReason::NoRule => Some(Verdict::NoRule),
         }
     }
 }

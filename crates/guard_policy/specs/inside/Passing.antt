@@ -13,13 +13,9 @@ use Rattle.guard_policy.specs.declared.kept.KeptMessage.{KeptMessage}
 use Rattle.guard_policy.specs.declared.passing.Passing.{Passing}
 use Rattle.guard_policy.specs.declared.passing.Passing.TheVariants as passing
 use Rattle.guard_policy.specs.declared.routing.RouteRules.{RouteRules}
-use Rattle.guard_policy.specs.Verdicts.{AbstractVerdict, reason_view, denied_by, no_rule}
+use Rattle.guard_policy.specs.declared.verdict.PlainReason.{PlainReason}
+use Rattle.guard_policy.specs.declared.verdict.PlainReason.TheVariants as plain
 use Rattle.guard_policy.specs.inside.Routing.{common}
-
--- Of a value that the types in these slots have: the declared type has it, some allowing rule has and no denying one.
-abbrev pub LetsGo : RouteRules → Slots → Type 0
-LetsGo rules members =
-    IsTrue (has members 0) × (common rules.allowing members ≢ none) × (common rules.denying members ≡ none)
 
 -- the octets are the encoding of a value of the declared type, which has these marks
 abbrev pub AreMarks : Table → List ℕ → Marks → Type 0
@@ -37,24 +33,34 @@ abbrev pub first_in : Slots → ℕ → List ℕ → Option ℕ
 first_in m slot [] = None
 first_in m slot (n ∷ ns) = if has m slot then Some n else first_in m (suc slot) ns
 
--- Of a value that the types in these slots have, the declared one among them: a denying rule is the first that has it,
--- or there is none, and no rule that may allow it.
-abbrev pub IsToldBy : RouteRules → List ℕ → Slots → AbstractVerdict → Type 0
-IsToldBy rules numbers members w =
-    ((i : ℕ) × (first_in (common rules.denying members) 1 numbers ≡ Some i) × (w ≡ denied_by i))
-    ⊎ ((common rules.denying members ≡ none) × (rules.allowing ≡ none) × (w ≡ no_rule))
+-- Of a value that the types in these slots have, the declared one among them: this rule, by its number, is the first
+-- allowing one that has it, and no denying one has it.
+abbrev pub IsLetBy : RouteRules → List ℕ → Slots → ℕ → Type 0
+IsLetBy rules numbers members rule =
+    (first_in (common rules.allowing members) 1 numbers ≡ Some rule) × (common rules.denying members ≡ none)
 
--- the verdict, as marks tell it
-abbrev pub IsMarked : RouteRules → List ℕ → Option Marks → AbstractVerdict → Type 0
-IsMarked rules numbers told w =
-    (marks : Marks) × (told ≡ Some marks) × IsTrue (has marks.members 0) × IsToldBy rules numbers marks.members w
+abbrev pub IsLetByNone : RouteRules → List ℕ → Slots → Type 0
+IsLetByNone rules numbers members = (rule : ℕ) → IsLetBy rules numbers members rule → ⊥
+
+-- Of a value that the types in these slots have, the declared one among them: a denying rule is the first that has it;
+-- or there is none, and no allowing rule has it, or there is no allowing rule.
+abbrev pub IsToldBy : RouteRules → List ℕ → Slots → PlainReason → Type 0
+IsToldBy rules numbers members plain.UnknownMessage = ⊥
+IsToldBy rules numbers members (plain.DeniedBy i) = first_in (common rules.denying members) 1 numbers ≡ Some i
+IsToldBy rules numbers members plain.NotAllowed =
+    (common rules.denying members ≡ none) × (rules.allowing ≢ none) × (common rules.allowing members ≡ none)
+IsToldBy rules numbers members plain.NoRule = (common rules.denying members ≡ none) × (rules.allowing ≡ none)
 
 -- what is told of the octets of the message under these rules
 abbrev pub IsAnswer : KeptMessage → RouteRules → List ℕ → Passing → Type 0
-IsAnswer m rules octets (passing.Goes marks) = AreMarks m.table octets marks × LetsGo rules marks.members
+IsAnswer m rules octets (passing.Goes rule) =
+    (marks : Marks) × AreMarks m.table octets marks × IsTrue (has marks.members 0)
+    × IsLetBy rules m.numbers.items marks.members rule
 IsAnswer m rules octets (passing.Stopped (Some reason)) =
-    (marks : Marks) × AreMarks m.table octets marks × (LetsGo rules marks.members → ⊥)
-    × IsTrue (has marks.members 0) × IsToldBy rules m.numbers.items marks.members (reason_view reason)
+    (marks : Marks) × AreMarks m.table octets marks × IsTrue (has marks.members 0)
+    × IsLetByNone rules m.numbers.items marks.members
+    × IsToldBy rules m.numbers.items marks.members reason
 IsAnswer m rules octets (passing.Stopped None) =
     EncodeNothing m.table octets
-    ⊎ ((marks : Marks) × AreMarks m.table octets marks × (LetsGo rules marks.members → ⊥))
+    ⊎ ((marks : Marks) × AreMarks m.table octets marks
+    × (IsTrue (has marks.members 0) → IsLetByNone rules m.numbers.items marks.members))

@@ -1,6 +1,6 @@
 -- Which rules of a message speak of a route, as sets of the slots that their types have in the message's table. The
 -- first rule has slot 1, since slot 0 is that of the declared type.
-use Rattle.std.specs.Prelude.{◌≡◌, ◌≤◌, ℕ, suc, Bool, not, List, [], ◌∷◌, length, map, bytes_eq, string_bytes, unwrap_or, if◌then◌else◌}
+use Rattle.std.specs.Prelude.{◌≡◌, ℕ, suc, Bool, not, List, [], ◌∷◌, map, bytes_eq, string_bytes, unwrap_or, if◌then◌else◌}
 use Rattle.std.specs.Map.{lookup}
 use Rattle.guard_model.specs.AbstractValue.{AbstractValue}
 use Rattle.guard_reader.specs.Marking.{is_in}
@@ -83,10 +83,9 @@ route_rules r route = record {
   denying = common (speaking_slots r route) r.denying;
 }
 
--- No more than 255 rules speak of the message, which has their numbers. Each type of its table but the declared one has
--- the values that the type of the rule at its place has, and its routing leads to the rules.
+-- The message has the numbers of the rules that speak of it. Each type of its table but the declared one has the values
+-- that the type of the rule at its place has, and its routing leads to the rules.
 pub record IsRouted (rules : List AbstractRule) (m : KeptMessage) : Type 0 where
-  pub few : length (rules_named (string_bytes m.name) rules) ≤ 255
   pub numbers : m.numbers.items ≡ numbers_for (string_bytes m.name) 0 rules
   pub types : (v : AbstractValue) (place : ℕ)
       → is_in (rules_of m.table) v place ≡ is_in (types_for (string_bytes m.name) rules) v place

@@ -1,4 +1,4 @@
-use Rattle.std.proofs.Common.{List, ℕ, Option, Some, None, sym, ◌∙◌, inl, inr}
+use Rattle.std.proofs.Common.{List, ℕ, Option, Some, None, refl, sym, ◌∙◌, inl, inr}
 use Rattle.std.specs.Prelude.{IsTrue, IfSome}
 use Rattle.std.proofs.lemmas.Bool.{false≢true}
 use Rattle.guard_reader.specs.declared.marks.Marks.{Marks}
@@ -7,15 +7,15 @@ use Rattle.guard_policy.specs.declared.kept.KeptMessage.{KeptMessage}
 use Rattle.guard_policy.specs.declared.passing.Passing.TheVariants as passing
 use Rattle.guard_policy.specs.declared.routing.RouteRules.{RouteRules}
 use Rattle.guard_policy.specs.declared.verdict.PlainReason.{PlainReason}
-use Rattle.guard_policy.specs.Verdicts.{reason_view}
-use Rattle.guard_policy.specs.inside.Passing.{LetsGo, AreMarks, IsAnswer, IsToldBy}
+use Rattle.guard_policy.specs.inside.Passing.{AreMarks, IsAnswer, IsLetByNone, IsToldBy}
 use Rattle.guard_policy.proofs.passing.told_by_walk.Goals as goal
 
-stopped : (m : KeptMessage) (rules : RouteRules) (octets : List ℕ) (marks : Marks) → AreMarks m.table octets marks → (LetsGo rules marks.members → ⊥)
-    → IsTrue (has marks.members 0) → (told : Option PlainReason) → IfSome told (λ r. IsToldBy rules m.numbers.items marks.members (reason_view r))
+stopped : (m : KeptMessage) (rules : RouteRules) (octets : List ℕ) (marks : Marks) → AreMarks m.table octets marks → IsTrue (has marks.members 0)
+    → IsLetByNone rules m.numbers.items marks.members
+    → (told : Option PlainReason) → IfSome told (IsToldBy rules m.numbers.items marks.members)
     → IsAnswer m rules octets (passing.Stopped told)
-stopped m rules octets marks are stays of_type None told = inr (marks, are, stays)
-stopped m rules octets marks are stays of_type (Some reason) told = (marks, are, stays, of_type, told)
+stopped m rules octets marks are of_type never None told = inr (marks, are, λ typed. never)
+stopped m rules octets marks are of_type never (Some reason) told = (marks, are, of_type, never, told)
 
 pub returns-in_default : goal.returns-in_default
 returns-in_default c = inl (λ v fitting encoded. false≢true (c.in_default.ensures.only v fitting encoded))
@@ -24,16 +24,18 @@ pub returns-then-not-of_type : goal.returns-then-not-of_type
 returns-then-not-of_type c = inr (
   c.in-Some.marks,
   c.in-Some.ensures.marks,
-  λ l. false≢true (sym (sym c.of_type.ensures ∙ c.if-not-of_type.true) ∙ l.0),
+  λ typed. absurd (false≢true (sym (sym c.of_type.ensures ∙ c.if-not-of_type.true) ∙ typed)),
 )
 
-pub returns-then-lets_go : goal.returns-then-lets_go
-returns-then-lets_go c =
-    let l = c.lets_go.ensures.0 c.if-lets_go.true in
-    (c.in-Some.ensures.marks, (sym c.of_type.ensures ∙ c.if-not-of_type.false, l.0, l.1))
+pub returns-in-Some-let_by : goal.returns-in-Some-let_by
+returns-in-Some-let_by c = (
+  c.in-Some.marks,
+  c.in-Some.ensures.marks,
+  sym c.of_type.ensures ∙ c.if-not-of_type.false,
+  rw c.deref.ensures.value at c.in-Some-let_by.ensures.some,
+)
 
 pub returns : goal.returns
 returns c =
     stopped c.args.message.now c.args.rules.now c.args.octets.now c.in-Some.marks c.in-Some.ensures.marks
-    (λ l. false≢true (sym c.if-lets_go.false ∙ c.lets_go.ensures.1 (l.1, l.2)))
-    (sym c.of_type.ensures ∙ c.if-not-of_type.false) c.told_by.result (rw c.deref.ensures.value at c.told_by.ensures)
+    (sym c.of_type.ensures ∙ c.if-not-of_type.false) (rw c.deref.ensures.value at c.in_default-let_by.ensures.none refl) c.told_by.result (rw c.deref-2.ensures.value at c.told_by.ensures)

@@ -1,6 +1,5 @@
-use Rattle.std.proofs.Common.{sym}
 use Rattle.guard_policy.specs.PolicyView.{policy_view, route_view}
-use Rattle.guard_policy.proofs.ByMarks.{few_there, tells}
+use Rattle.guard_policy.proofs.ByMarks.{tells}
 use Rattle.guard_policy.proofs.Looks.{undeclared_stays}
 use Rattle.guard_policy.proofs.policy.Policy.look_at.Goals as goal
 
@@ -12,8 +11,3 @@ pub returns : goal.returns
 returns c =
     tells c.args.self.now (route_view c.args.route.now) c.args.octets.now c.in-Some.field-0-1.now c.in-Some.message.now
     c.in-Some.ensures.listed c.in-Some.ensures.first c.rules-rules.result c.told_by_walk.result c.rules-rules.ensures c.told_by_walk.ensures
-
-pub told_by_walk-requires : goal.told_by_walk-requires
-told_by_walk-requires c = record {
-  few = few_there c.args.self.now c.in-Some.ensures.first.place c.in-Some.message.now c.in-Some.ensures.first.there;
-}

@@ -1,4 +1,3 @@
-use Rattle.std.proofs.Common.{sym}
 use Rattle.guard_policy.specs.PolicyView.{policy_view, route_view}
 use Rattle.guard_policy.proofs.Looks.{tells_exactly}
 use Rattle.guard_policy.proofs.policy.Policy.passes.Goals as goal

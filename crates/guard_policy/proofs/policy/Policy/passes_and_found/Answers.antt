@@ -1,6 +1,5 @@
 use Rattle.std.proofs.Common.{Some, None, sym}
 use Rattle.guard_policy.proofs.AsGiven.{leads_on, message_there, given_tells}
-use Rattle.guard_policy.proofs.ByMarks.{few_there}
 use Rattle.guard_policy.proofs.Listed.{item_there}
 use Rattle.guard_policy.proofs.policy.Policy.passes_and_found.Goals as goal
 
@@ -20,11 +19,3 @@ returns-clause-given c =
     let at = rw c.deref.ensures.value at c.in_ok-message.ensures.lookup in
     given_tells c.args.self.now c.args.names.now lead (sym c.in_ok-place.ensures) c.in_ok-message.message.now
     (sym (item_there messages lead.place (Some c.in_ok-message.message) at)) c.args.octets.now c.told_by_walk.result c.told_by_walk.ensures
-
-pub told_by_walk-requires : goal.told_by_walk-requires
-told_by_walk-requires c =
-    let at = rw c.deref.ensures.value at c.in_ok-message.ensures.lookup in
-    record {
-      few = few_there c.args.self.now c.in_ok-place.lead.now.place c.in_ok-message.message.now
-          (sym (item_there c.args.self.now.kept.messages.items c.in_ok-place.lead.now.place (Some c.in_ok-message.message) at));
-    }

@@ -1,5 +1,6 @@
 mod Writing
 mod Items
+mod Headers
 mod Tries
 mod Answered
 pub mod Notes

@@ -13,6 +13,7 @@
 //! | Where are the parts of what is in braces? | `layout.rt` | `specs/Layouts.antt` |
 //! | How is a message shown with its parts' places, or its breach? | `showing.rt`, `noted.rt` | `specs/Shown.antt` |
 //! | Where do the encodings of a value's parts begin? | `places.rt` | `specs/Places.antt` |
+//! | What does a type know of its parts and items? | `path.rt`, `values.rt`, `strings.rt` | `specs/ValueText.antt` |
 //! | What holds of the texts for every value? | `laws.rt` | `specs/Shown.antt` |
 //! | Which part of a value does a path name? | `parts.rt` (`value_at`, `type_at`, `part_text`) | `specs/Parts.antt` |
 #![tactic(auto)]
@@ -32,7 +33,12 @@ mod values;
 mod words;
 
 pub use layout::Layout;
-pub use lines::{add_line, line};
+pub use lines::{add_line, add_route, line};
 pub use parts::{part_text, type_at, value_at};
+pub use path::{component_at, element_type, part_type};
+pub use places::{header_there, inside_value};
 pub use showing::{Shown, shown_text};
+pub use strings::name_of;
 pub use text::verdict_text;
+pub use values::items_known;
+pub use words::add;

@@ -53,7 +53,9 @@ pub fn add_line(
     add(line, b"\n")
 }
 
-fn add_route(line: &mut Vec<u8>, route: &Route) -> Result<(), OutOfMemory>
+/// Appends who sends what to whom: `FROM>TO` and the message's name. OutOfMemory is the only error; a part of it may
+/// have come to the buffer then.
+pub fn add_route(line: &mut Vec<u8>, route: &Route) -> Result<(), OutOfMemory>
     ensures { OnOk result (line.new.items ≡ line.old.items ++ route_text (route_view route.now)) }
 {
     add(line, route.from)?;

@@ -1,5 +1,5 @@
 //! Where the encodings of a value's parts begin in the octets of a message.
-ghost use Rattle.std.specs.Prelude.{◌≡◌, option_map};
+ghost use Rattle.std.specs.Prelude.{◌≡◌, ◌≤◌, length, option_map, IfSome};
 ghost use Rattle.guard_model.specs.TypeView.{type_view};
 ghost use Rattle.guard_model.specs.ValueView.{value_view};
 ghost use Rattle.guard_report.specs.Places.{header_there, inside_element, after_element, inside_tags, inside_value};
@@ -11,8 +11,9 @@ use guard_der::{Header, header, is_left_out, outermost};
 use guard_model::{Kind, MOST_COMPONENTS, Tag, Ty, Value};
 
 /// The header of the element that begins at the offset; None without an offset, and where the octets have none there.
-fn header_there(octets: &[u8], at: Option<usize>) -> Option<Header>
-    ensures { result ≡ header_there octets.now at }
+pub fn header_there(octets: &[u8], at: Option<usize>) -> Option<Header>
+    ensures header { result ≡ header_there octets.now at }
+    ensures within { IfSome at (λ at. IfSome result (λ h. (at ≤ h.end) × (h.end ≤ length octets.now))) }
 {
     let at = at?;
     if octets.len() < at {

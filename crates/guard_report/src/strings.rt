@@ -105,8 +105,8 @@ fn add_binary(text: &mut Vec<u8>, bits: &[u8]) -> Result<(), OutOfMemory>
 
 // ---- named bits
 
-/// The first name of this number; None where none has it.
-pub(crate) fn name_of(names: &[Named], number: i128) -> Option<&str>
+/// The first name of this number, among items (X.680 clause 20) or named bits (clause 22); None where none has it.
+pub fn name_of(names: &[Named], number: i128) -> Option<&str>
     ensures { option_map (λ name. name.now) result ≡ name_of (map named_view names.now) number }
 {
     for named in names {

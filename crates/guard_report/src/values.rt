@@ -183,8 +183,8 @@ fn add_arc(text: &mut Vec<u8>, arc: u128) -> Result<(), OutOfMemory>
 
 // ---- what the type knows
 
-/// The items of an ENUMERATED; none where no type is known, or of another one.
-fn items_known(ty: Option<&Ty>) -> &[Named]
+/// The items of an ENUMERATED (X.680 clause 20); none where no type is known, or of another one.
+pub fn items_known(ty: Option<&Ty>) -> &[Named]
     ensures { map named_view result.now ≡ items_known (option_map (λ ty. type_view ty.now) ty.entry) }
 {
     let Some(ty) = ty else { return &[] };

@@ -5,7 +5,7 @@ ghost use Rattle.guard_report.specs.Text.{name_or_number};
 use guard_model::OutOfMemory;
 use itoa::Buffer;
 
-/// Appends the octets.
+/// Appends the octets. OutOfMemory is the only error.
 pub fn add(text: &mut Vec<u8>, octets: &[u8]) -> Result<(), OutOfMemory>
     ensures { OnOk result (text.new.items ≡ text.old.items ++ octets.now) }
 {

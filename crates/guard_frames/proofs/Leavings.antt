@@ -1,6 +1,6 @@
 -- What a run leaves in its link where that is closed.
 use Rattle.std.proofs.Common.{◌≡◌, ◌<◌, ◌+◌, ◌⊎◌, inl, inr, ap, sym, refl, subst, ℕ, Bool, true, List, ◌∙◌, length}
-use Rattle.std.specs.Prelude.{Option, Result, Ok, Err}
+use Rattle.std.specs.Prelude.{Result, Ok, Err}
 use Rattle.guard_frames.specs.declared.totals.Totals.{Totals}
 use Rattle.guard_frames.specs.declared.running.RunFault.{RunFault}
 use Rattle.guard_frames.specs.declared.running.RunFault.TheVariants as run
@@ -43,7 +43,7 @@ leaves_closed d l read held ReportsFailed a Ended o r soon h left failed = (h, i
 leaves_closed d l read held (TornFrame count) a Ended o r soon h left failed = absurd h
 
 -- what a watch was told then
-pub watched_closed : {W : Type 0} (Gives : Reason → List ℕ → Type 0) (Lets : AbstractBody → Option ℕ → Type 0) (notes : W → Told → W → Type 0) (d : Decision) (old last new : W)
+pub watched_closed : {W : Type 0} (Gives : Reason → List ℕ → Type 0) (Lets : AbstractBody → ℕ → Type 0) (notes : W → Told → W → Type 0) (d : Decision) (old last new : W)
     (closing : Closing) (read : List ℕ) (front back : Added) (o r : Bool) → HasFailed closing o r → Watched d Gives Lets notes old read front last →
     NotedBy (Err closing) (λ z. Noted Gives Lets notes last z new) back → IsWatched (Err (run_fault closing))
     (Watched d Gives Lets notes old read (joined front back) new) (WatchedInPart (r ≡ true) d Gives Lets notes old read (joined front back) new)

@@ -12,7 +12,6 @@ pub mod NameSizes
 pub mod BodyDecisions
 pub mod Reporting
 pub mod LineOfFrame
-pub mod LastRules
 -- ---- frames that are decided one after another
 pub mod Going
 pub mod Counting

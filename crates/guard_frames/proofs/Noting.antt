@@ -1,6 +1,6 @@
 -- What a watch is told, part by part.
 use Rattle.std.proofs.Common.{◌≡◌, ℕ, List, [], ◌∷◌, ◌++◌, ◌∙◌, ap, sym, refl, subst, drop, length, append_assoc}
-use Rattle.std.specs.Prelude.{Option, Result, Ok, Err}
+use Rattle.std.specs.Prelude.{Result, Ok, Err}
 use Rattle.std.proofs.lemmas.List.{append-nil}
 use Rattle.guard_frames.specs.declared.totals.Totals.{Totals}
 use Rattle.guard_frames.specs.declared.why.Reason.{Reason}
@@ -42,14 +42,14 @@ abbrev Never : List ℕ → Added → Totals → Type 0
 Never read front t = ⊥
 
 -- no piece came where there was no pause
-none_read : (Gives : Reason → List ℕ → Type 0) (Lets : AbstractBody → Option ℕ → Type 0) (told : List Told) (read : List ℕ) (a : Added) → IsPaused told → Tells Never Gives Lets told read a → ⊥
+none_read : (Gives : Reason → List ℕ → Type 0) (Lets : AbstractBody → ℕ → Type 0) (told : List Told) (read : List ℕ) (a : Added) → IsPaused told → Tells Never Gives Lets told read a → ⊥
 none_read Gives Lets [] read a p h = p
 none_read Gives Lets (pauses t ∷ told) read a p h = h.0
 none_read Gives Lets (reads n ∷ told) read a p h = p
 none_read Gives Lets (goes n rule ∷ told) read a p h = p
 none_read Gives Lets (stays why ∷ told) read a p h = p
 
-tells_on : (At : List ℕ → Added → Totals → Type 0) (Gives : Reason → List ℕ → Type 0) (Lets : AbstractBody → Option ℕ → Type 0) (xs ys : List Told) (read : List ℕ) (a b : Added) →
+tells_on : (At : List ℕ → Added → Totals → Type 0) (Gives : Reason → List ℕ → Type 0) (Lets : AbstractBody → ℕ → Type 0) (xs ys : List Told) (read : List ℕ) (a b : Added) →
     Tells At Gives Lets xs read a → Tells Never Gives Lets ys [] b → Tells At Gives Lets (ys ++ xs) read (joined a b)
 tells_on At Gives Lets xs [] read a b h k =
     subst (Tells At Gives Lets xs read) (sym (ap (joined a) k.1 ∙ joined_nothing a)) h
@@ -65,7 +65,7 @@ module _ (W : Type 0) (notes : W → Told → W → Type 0) where
   is_told_on a b c xs [] h k = subst (IsTold notes a xs) (sym k) h
   is_told_on a b c xs (y ∷ ys) h (last, k, noted) = (last, is_told_on a b last xs ys h k, noted)
 
-module _ (W : Type 0) (Gives : Reason → List ℕ → Type 0) (Lets : AbstractBody → Option ℕ → Type 0) (notes : W → Told → W → Type 0) where
+module _ (W : Type 0) (Gives : Reason → List ℕ → Type 0) (Lets : AbstractBody → ℕ → Type 0) (notes : W → Told → W → Type 0) where
   pub noted_none : (a : W) → Noted Gives Lets notes a nothing a
   noted_none a = ([], (refl, refl), refl)
 
@@ -77,9 +77,9 @@ module _ (W : Type 0) (Gives : Reason → List ℕ → Type 0) (Lets : AbstractB
       (q.0 ++ p.0, tells_on Never Gives Lets p.0 q.0 [] x y p.1 q.1, is_told_on W notes a b c p.0 q.0 p.2 q.2)
 
   -- one more frame goes
-  pub noted_going : (a b c : W) (x : Added) (frame body : List ℕ) → Noted Gives Lets notes a x b → IsFrame frame → body ≡ drop 4 frame
-      → ((rule : Option ℕ) × GoesBy Lets body rule × notes b (goes (length frame) rule) c) → Noted Gives Lets notes a (sent_more x frame) c
-  noted_going a b c x frame body p is same (rule, by, noted) =
+  pub noted_going : (a b c : W) (x : Added) (frame body : List ℕ) (rule : ℕ) → Noted Gives Lets notes a x b → IsFrame frame → body ≡ drop 4 frame
+      → GoesBy Lets body rule → notes b (goes (length frame) rule) c → Noted Gives Lets notes a (sent_more x frame) c
+  noted_going a b c x frame body rule p is same by noted =
       (goes (length frame) rule ∷ p.0, (x, frame, refl, is, refl, subst (λ (s : List ℕ). GoesBy Lets s rule) same by, p.1), (b, p.2, noted))
 
   -- one more stays

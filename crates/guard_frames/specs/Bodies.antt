@@ -47,10 +47,6 @@ body_in octets = do
   b ← parts_in octets
   if has_names b then Some b else None
 
--- the same names before another message
-abbrev pub with_message : AbstractBody → List ℕ → AbstractBody
-with_message b octets = record b { message_octets = octets }
-
 -- a name as a header has it: one octet of length, and its octets
 abbrev pub named : List ℕ → List ℕ
 named name = with_length name

@@ -1,5 +1,5 @@
 -- What a run leaves in its link, by its answer, beside what it adds; and what it told a watch.
-use Rattle.std.specs.Prelude.{◌≡◌, ◌⊎◌, ℕ, List, length, Option, Result, Ok, Err}
+use Rattle.std.specs.Prelude.{◌≡◌, ◌⊎◌, ℕ, List, length, Result, Ok, Err}
 use Rattle.guard_frames.specs.declared.running.RunFault.{RunFault}
 use Rattle.guard_frames.specs.declared.running.RunFault.TheVariants.{FrameTooLong, WriteFailed, TornFrame, ReadFailed, OutOfMemory}
 use Rattle.guard_frames.specs.Bodies.{AbstractBody}
@@ -38,7 +38,7 @@ AllDecided d read added t = (held : List ℕ) × Decides d no_frames read held t
 
 -- A watch was told of what was read and added, and paused where all frames of what was read so far were decided, and out
 -- or reported.
-abbrev pub Watched : {W : Type 0} → Decision → (Reason → List ℕ → Type 0) → (AbstractBody → Option ℕ → Type 0) →
+abbrev pub Watched : {W : Type 0} → Decision → (Reason → List ℕ → Type 0) → (AbstractBody → ℕ → Type 0) →
     (W → Told → W → Type 0) → W → List ℕ → Added → W → Type 0
 Watched d Gives Lets notes old read added new =
     (told : List Told) × Tells (AllDecided d) Gives Lets told read added × IsTold notes old told new
@@ -46,7 +46,7 @@ Watched d Gives Lets notes old read added new =
 -- The same, where a sink failed in the last piece: it was told of what that adds, and of frames that go and aren't out.
 -- `Broken` says that the sink of the reports has failed: it is known only that there was no pause then.
 pub record WatchedInPart {W : Type 0} (Broken : Type 0) (d : Decision) (Gives : Reason → List ℕ → Type 0)
-    (Lets : AbstractBody → Option ℕ → Type 0) (notes : W → Told → W → Type 0) (old : W) (read : List ℕ) (added : Added)
+    (Lets : AbstractBody → ℕ → Type 0) (notes : W → Told → W → Type 0) (old : W) (read : List ℕ) (added : Added)
     (new : W) : Type 0 where
   pub front : Added
   pub back : Added

@@ -1,15 +1,10 @@
 -- What a policy decides of the body of a frame.
-use Rattle.std.specs.Prelude.{◌≡◌, ℕ, List, Option, Some, IsTrue}
-use Rattle.guard_model.specs.AbstractType.{AbstractType}
-use Rattle.guard_model.specs.AbstractValue.{AbstractValue}
-use Rattle.guard_der.specs.Der.{der}
-use Rattle.guard_der.specs.Fits.{fits}
-use Rattle.guard_reader.specs.declared.marks.Marks.{Marks}
-use Rattle.guard_policy.specs.Policies.{AbstractPolicy, AbstractRoute, declared_type}
+use Rattle.std.specs.Prelude.{◌≡◌, ℕ, List, Some}
+use Rattle.guard_policy.specs.Policies.{AbstractPolicy, AbstractRoute}
 use Rattle.guard_policy.specs.declared.verdict.PlainReason.{PlainReason}
 use Rattle.guard_policy.specs.Verdicts.{AbstractVerdict, reason_view}
-use Rattle.guard_policy.specs.Decisions.{Goes, IsReason, rules_of, first_allowing}
-use Rattle.guard_policy.specs.Told.{AreMarksOf}
+use Rattle.guard_policy.specs.Decisions.{Goes, IsReason}
+use Rattle.guard_policy.specs.Told.{IsAllowedBy, IsToldReason}
 use Rattle.guard_report.specs.Lines.{line_octets}
 use Rattle.guard_frames.specs.Bodies.{AbstractBody, HasNames}
 use Rattle.guard_frames.specs.Outcomes.{Decision}
@@ -33,17 +28,10 @@ abbrev pub gives_of : AbstractPolicy → Reason → List ℕ → Type 0
 gives_of p reason line = (n : ℕ) × (b : AbstractBody) × (w : AbstractVerdict) × HasNames b
     × IsReason p (route_of b) b.message_octets w × (reason_of w ≡ Some reason) × (line ≡ line_octets p (route_of b) n w)
 
--- The message is the encoding of a value of its declared type, and this rule, by its number, is the first of the route
--- that allows the value.
-abbrev pub lets_of : AbstractPolicy → AbstractBody → Option ℕ → Type 0
-lets_of p b rule = (t : AbstractType) × (v : AbstractValue)
-    × (declared_type p b.name ≡ Some t) × IsTrue (fits t v) × (der t v ≡ Some b.message_octets)
-    × (rule ≡ first_allowing (rules_of p (route_of b)) v)
+-- The message goes, and this rule, by its number, is the first of the route that allows it.
+abbrev pub lets_of : AbstractPolicy → AbstractBody → ℕ → Type 0
+lets_of p b rule = IsAllowedBy p (route_of b) b.message_octets rule
 
--- the marks of its message
-abbrev pub marks_of : AbstractPolicy → AbstractBody → Marks → Type 0
-marks_of p b marks = AreMarksOf p b.name b.message_octets marks
-
--- the reason of its message
+-- the reason of its message, as it is told
 abbrev pub reasons_of : AbstractPolicy → AbstractBody → PlainReason → Type 0
-reasons_of p b reason = IsReason p (route_of b) b.message_octets (reason_view reason)
+reasons_of p b reason = IsToldReason p (route_of b) b.message_octets (reason_view reason)

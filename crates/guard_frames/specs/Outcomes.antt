@@ -1,6 +1,5 @@
 -- What becomes of each frame of a stream: it goes out, or it stays.
-use Rattle.std.specs.Prelude.{ℕ, Bool, true, false, List, drop, map, Option, IfSome}
-use Rattle.guard_reader.specs.declared.marks.Marks.{Marks}
+use Rattle.std.specs.Prelude.{ℕ, Bool, true, false, List, drop, map, IfSome}
 use Rattle.guard_policy.specs.declared.passing.Passing.{Passing}
 use Rattle.guard_policy.specs.declared.passing.Passing.TheVariants as passing
 use Rattle.guard_policy.specs.declared.verdict.PlainReason.{PlainReason}
@@ -17,27 +16,17 @@ pub record BodyGoes (d : Decision) (octets : List ℕ) : Type 0 where
   pub is : IsBody octets body
   pub decided : d.LetsGo body
 
--- The octets are a body that goes by this rule; `Lets` says by which rule a body goes, and that it has none where no
--- rule is told.
-abbrev pub GoesBy : (AbstractBody → Option ℕ → Type 0) → List ℕ → Option ℕ → Type 0
+-- The octets are a body that goes by this rule; `Lets` says by which rule a body goes.
+abbrev pub GoesBy : (AbstractBody → ℕ → Type 0) → List ℕ → ℕ → Type 0
 GoesBy Lets octets rule = (b : AbstractBody) × IsBody octets b × Lets b rule
 
--- The octets are a body with these marks, and it goes by some rule.
-pub record GoesMarked (MarksOf : AbstractBody → Marks → Type 0) (Lets : AbstractBody → Option ℕ → Type 0)
-    (octets : List ℕ) (marks : Marks) : Type 0 where
-  pub body : AbstractBody
-  pub is : IsBody octets body
-  pub marked : MarksOf body marks
-  pub rule : Option ℕ
-  pub lets : Lets body rule
-
--- What was decided of the octets of a body is right. Where the decision is to go, the octets go, and the marks are those
--- of the body. Where it is to stay, they don't, and the reason that comes with the decision, if one does, is that of the
--- body which the octets make.
-abbrev pub IsDecided : Decision → (AbstractBody → Marks → Type 0) → (AbstractBody → Option ℕ → Type 0) →
-    (AbstractBody → PlainReason → Type 0) → List ℕ → Passing → Type 0
-IsDecided d MarksOf Lets ReasonsOf octets (passing.Goes marks) = BodyGoes d octets × GoesMarked MarksOf Lets octets marks
-IsDecided d MarksOf Lets ReasonsOf octets (passing.Stopped reason) =
+-- What was decided of the octets of a body is right. Where the decision is to go, the octets go, by this rule. Where it is
+-- to stay, they don't, and the reason that comes with the decision, if one does, is that of the body which the octets
+-- make.
+abbrev pub IsDecided : Decision → (AbstractBody → ℕ → Type 0) → (AbstractBody → PlainReason → Type 0) → List ℕ →
+    Passing → Type 0
+IsDecided d Lets ReasonsOf octets (passing.Goes rule) = BodyGoes d octets × GoesBy Lets octets rule
+IsDecided d Lets ReasonsOf octets (passing.Stopped reason) =
     (BodyGoes d octets → ⊥) × IfSome reason (λ r. (b : AbstractBody) → IsBody octets b → ReasonsOf b r)
 
 -- a frame goes where what follows its four octets of length goes

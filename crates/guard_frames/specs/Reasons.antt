@@ -33,7 +33,7 @@ pub data Told : Type 0 where
   -- so many octets came
   reads : ℕ → Told
   -- the next frame goes, with so many octets, by the rule of this number
-  goes : ℕ → Option ℕ → Told
+  goes : ℕ → ℕ → Told
   -- the next frame stays, for this reason
   stays : Why → Told
 
@@ -48,7 +48,7 @@ IsPaused (stays why ∷ before) = ⊥
 -- All this, the last first, was told of what was read and added: of each piece, which came after a pause, how many octets
 -- it has, of each frame that goes out how many it has and by which rule it goes, as `Lets` says, and of each line that is
 -- reported what it says. At each pause this holds of what was read and added before it, and of its totals.
-abbrev pub Tells : (List ℕ → Added → Totals → Type 0) → (Reason → List ℕ → Type 0) → (AbstractBody → Option ℕ → Type 0) →
+abbrev pub Tells : (List ℕ → Added → Totals → Type 0) → (Reason → List ℕ → Type 0) → (AbstractBody → ℕ → Type 0) →
     List Told → List ℕ → Added → Type 0
 Tells At Gives Lets [] read added = (read ≡ []) × (added ≡ nothing)
 Tells At Gives Lets (pauses t ∷ before) read added = At read added t × Tells At Gives Lets before read added
@@ -68,7 +68,7 @@ IsTold {W} notes old [] new = new ≡ old
 IsTold {W} notes old (told ∷ before) new = (last : W) × IsTold notes old before last × notes last told new
 
 -- A watch was told of all frames of which this was added. There was no pause.
-abbrev pub Noted : {W : Type 0} → (Reason → List ℕ → Type 0) → (AbstractBody → Option ℕ → Type 0) → (W → Told → W → Type 0) →
+abbrev pub Noted : {W : Type 0} → (Reason → List ℕ → Type 0) → (AbstractBody → ℕ → Type 0) → (W → Told → W → Type 0) →
     W → Added → W → Type 0
 Noted Gives Lets notes old added new =
     (told : List Told) × Tells (λ read front t. ⊥) Gives Lets told [] added × IsTold notes old told new

@@ -1,7 +1,6 @@
 -- What private contracts alone cite: the parts of the code.
 pub mod Closing
 pub mod Judged
-pub mod LastRule
 pub mod Putting
 pub mod Seats
 pub mod Waiting

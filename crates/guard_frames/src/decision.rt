@@ -1,9 +1,8 @@
 //! What decides which messages go.
 
-ghost use Rattle.std.specs.Prelude.{ℕ, List, Option, IfOk, IfSome};
-ghost use Rattle.guard_reader.specs.declared.marks.Marks.{Marks};
+ghost use Rattle.std.specs.Prelude.{ℕ, List, IfOk, IfSome};
 ghost use Rattle.guard_policy.specs.declared.verdict.PlainReason.{PlainReason};
-ghost use Rattle.guard_frames.specs.Bodies.{AbstractBody, IsBody, with_message, body_view, HasNames};
+ghost use Rattle.guard_frames.specs.Bodies.{AbstractBody, body_view, HasNames};
 ghost use Rattle.guard_frames.specs.Calls.{EndsLine};
 ghost use Rattle.guard_frames.specs.Outcomes.{Decision, IsDecided};
 ghost use Rattle.guard_frames.specs.declared.why.Reason.{Reason};
@@ -11,7 +10,7 @@ ghost use Rattle.guard_frames.specs.declared.why.Reason.{Reason};
 use crate::body::Body;
 use crate::why::Reason;
 use guard_model::OutOfMemory;
-use guard_policy::{LastRoute, Marks, Passing, PlainReason};
+use guard_policy::{LastRoute, Passing, PlainReason};
 use std::alloc::Global;
 
 /// Decides which bodies of frames go, and says of each other one why it stays.
@@ -19,11 +18,8 @@ pub trait Decide {
     /// Which bodies go, and the report line of each other one.
     ghost decides: { Self → Decision };
 
-    /// Which marks are those of a body's message.
-    ghost marks_of: { Self → AbstractBody → Marks → Type 0 };
-
-    /// By which rule, of this number, a body goes; None says that it is by none.
-    ghost lets: { Self → AbstractBody → Option ℕ → Type 0 };
+    /// By which rule, of this number, a body goes.
+    ghost lets: { Self → AbstractBody → ℕ → Type 0 };
 
     /// For which reasons a body stays.
     ghost reasons_of: { Self → AbstractBody → PlainReason → Type 0 };
@@ -32,23 +28,15 @@ pub trait Decide {
     ghost gives: { Self → Reason → List ℕ → Type 0 };
 
     /// Whether a frame goes, by the octets that follow its four octets of length: they are three names and a message,
-    /// and this body is decided to go. The marks of one that goes are told, for `allowing`, and the reason of one that
-    /// stays may be, for `line`. No memory is taken. The place where the frame's route was found may be kept in `last`,
-    /// so that the next frame's is compared with that one first; no answer depends on it.
+    /// and this body is decided to go. The rule is told by which one goes, and the reason of one that stays may be, for
+    /// `line`. No memory is taken. The place where the frame's route was found may be kept in `last`, so that the next
+    /// frame's is compared with that one first; no answer depends on it.
     fn goes(&self, body: &[u8], last: &mut LastRoute) -> Passing
-        ensures { IsDecided (decides self.now) (marks_of self.now) (lets self.now) (reasons_of self.now) body.now
-            result };
-
-    /// By which rule a frame goes, by the octets that follow its four octets of length and by its marks; None says
-    /// that it is by none. So does each other frame with the same names and marks. No memory is taken, and the frame's
-    /// message isn't read again.
-    fn allowing(&self, body: &[u8], marks: &Marks) -> Option<usize>
-        ensures { (b : AbstractBody) (message : List ℕ) → IsBody body.now b
-            → marks_of self.now (with_message b message) marks.now → lets self.now (with_message b message) result };
+        ensures { IsDecided (decides self.now) (lets self.now) (reasons_of self.now) body.now result };
 
     /// The report line of the frame of this number and with this body, with its line feed, and the reason that it gives.
     /// Conditions: the body has three names, it is decided to stay, and a reason that is given is the one that `goes`
-    /// told of it, by which its message isn't read again. OutOfMemory is the only error.
+    /// told of it, so that no more is asked of its message than this reason leaves open. OutOfMemory is the only error.
     fn line(
         &self,
         alloc: Global,

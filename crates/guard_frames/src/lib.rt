@@ -9,7 +9,7 @@
 //! | Which bodies go, and what is reported of the others? | `decision.rt` (`Decide`) | `specs/Outcomes.antt` |
 //! | What becomes of one frame? | `report.rt` (`judge`) | `specs/Guarding.antt` (`Adds`), `specs/inside/Judged.antt` |
 //! | Why does a frame stay, and who is told? | `why.rt` (`Why`, `Watch`) | `specs/Reasons.antt` |
-//! | By which rule does a frame go? | `decision.rt` (`Decide`), `last_rule.rt` | `specs/Outcomes.antt` (`GoesBy`) |
+//! | By which rule does a frame go? | `decision.rt` (`Decide`) | `specs/Outcomes.antt` (`GoesBy`) |
 //! | What goes out of octets in memory? | `putting.rt` (`put_frames`) | `specs/Guarding.antt` (`text_out`) |
 //! | What is reported of them? | `putting.rt` | `specs/Guarding.antt` (`AllAdd`), `specs/inside/Putting.antt` |
 //! | How many frames were there? | `totals.rt` (`Totals`) | `specs/Totals.antt`, `specs/Guarding.antt` (`Counts`) |
@@ -50,7 +50,6 @@ mod gateway;
 mod guarding;
 mod header;
 mod kept;
-mod last_rule;
 pub mod laws;
 mod link;
 mod policies;

@@ -1,11 +1,12 @@
 //! A policy decides which bodies go: those whose message goes.
 
-ghost use Rattle.std.specs.Prelude.{◌≡◌, Some, IfOk};
+ghost use Rattle.std.specs.Prelude.{◌≡◌, Some, IfOk, IfSome};
 ghost use Rattle.guard_policy.specs.PolicyView.{policy_view, route_view};
-ghost use Rattle.guard_policy.specs.Verdicts.{verdict_view, pass};
+ghost use Rattle.guard_policy.specs.Verdicts.{verdict_view, reason_view, pass};
+ghost use Rattle.guard_policy.specs.declared.verdict.PlainReason.{PlainReason};
 ghost use Rattle.guard_report.specs.Lines.{line_octets};
 ghost use Rattle.guard_frames.specs.Bodies.{body_view};
-ghost use Rattle.guard_frames.specs.OfPolicy.{route_of, decision_of, marks_of, lets_of, reasons_of, gives_of};
+ghost use Rattle.guard_frames.specs.OfPolicy.{route_of, decision_of, lets_of, reasons_of, gives_of};
 ghost use Rattle.guard_frames.specs.Outcomes.{IsDecided};
 ghost use Rattle.guard_frames.specs.Reasons.{reason_of};
 
@@ -14,14 +15,12 @@ use crate::decision::Decide;
 use crate::header::{cut_body, has_names};
 use crate::why::{Reason, reason_of};
 use guard_model::OutOfMemory;
-use guard_policy::{LastRoute, Marks, Passing, PlainReason, Policy, Route, Verdict};
+use guard_policy::{LastRoute, Passing, PlainReason, Policy, Route, Verdict};
 use guard_report::line;
 use std::alloc::Global;
 
 impl Decide for Policy {
     ghost decides = { λ policy. decision_of (policy_view policy) };
-
-    ghost marks_of = { λ policy. marks_of (policy_view policy) };
 
     ghost lets = { λ policy. lets_of (policy_view policy) };
 
@@ -36,11 +35,6 @@ impl Decide for Policy {
         }
     }
 
-    fn allowing(&self, octets: &[u8], marks: &Marks) -> Option<usize> {
-        let body = cut_body(octets)?;
-        self.allowing_rule(&route_of(&body), marks)
-    }
-
     fn line(
         &self,
         alloc: Global,
@@ -50,11 +44,21 @@ impl Decide for Policy {
     ) -> Result<(Vec<u8>, Reason), OutOfMemory> {
         let route = route_of(body);
         // A verdict is large: one that is told isn't handed up.
-        if let Some(reason) = told {
-            return line_of(alloc, number, &route, &reason.verdict(), self);
+        if let Some(verdict) = verdict_told(told) {
+            return line_of(alloc, number, &route, &verdict, self);
         }
-        let verdict = self.reason(alloc, &route, body.message_octets, None)?;
+        let verdict = self.reason_as_told(alloc, &route, body.message_octets, told)?;
         line_of(alloc, number, &route, &verdict, self)
+    }
+}
+
+/// The verdict of a reason that is told; None where none is, and where violations belong to it.
+fn verdict_told(told: Option<PlainReason>) -> Option<Verdict>
+    ensures { IfSome result (λ w. (r : PlainReason) × (told ≡ Some r) × (Some (verdict_view w) ≡ reason_view r)) }
+{
+    match told {
+        Some(reason) => reason.verdict(),
+        None => None,
     }
 }
 
@@ -78,8 +82,8 @@ fn line_of(
 /// Whether a frame goes, whose names are read and looked up. Where no rule gives them, whether they are names is asked
 /// last, and not of a frame whose message stays: its report asks it.
 fn goes_as_read(policy: &Policy, octets: &[u8], last: &mut LastRoute) -> Passing
-    ensures { IsDecided (decision_of (policy_view policy.now)) (marks_of (policy_view policy.now))
-        (lets_of (policy_view policy.now)) (reasons_of (policy_view policy.now)) octets.now result }
+    ensures { IsDecided (decision_of (policy_view policy.now)) (lets_of (policy_view policy.now))
+        (reasons_of (policy_view policy.now)) octets.now result }
 {
     let Some(body) = cut_body(octets) else {
         return Passing::Stopped(None);

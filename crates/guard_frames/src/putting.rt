@@ -9,7 +9,6 @@ ghost use Rattle.guard_frames.specs.inside.Putting.{ArePut, IsBroken, SinkFailed
 use crate::cut::{Cut, Rest, first_cut};
 use crate::decision::Decide;
 use crate::devices::Sink;
-use crate::last_rule::asked;
 use crate::report::{Ruling, judge, line_of};
 use crate::sending::{Broken, put_going};
 use crate::short_line::ShortLine;
@@ -60,7 +59,6 @@ pub fn put_frames<D: Decide, O: Sink, R: Sink, W: Watch>(
     let mut sent = 0;
     let mut end = 0;
     let mut last = LastRoute::none();
-    let mut rule_before = None;
     let mut waiting = Waiting::none(alloc);
     loop {
         let frame = match first_cut(&octets[end..]) {
@@ -73,9 +71,8 @@ pub fn put_frames<D: Decide, O: Sink, R: Sink, W: Watch>(
         };
         let number = totals.next_number();
         match judge(alloc, policy, number, &frame, &mut last) {
-            Ruling::Goes(marks) => {
+            Ruling::Goes(rule) => {
                 waiting.put(reports)?;
-                let rule = asked(policy, watch, frame.body, &marks, &mut rule_before);
                 watch.goes(frame.octets.len(), rule);
                 end += frame.octets.len();
                 totals = totals.after_going();

@@ -5,7 +5,7 @@ ghost use Rattle.std.specs.Io.KnownBytes.{Appends};
 ghost use Rattle.guard_frames.specs.Calls.{EndsLine, AsksLines};
 ghost use Rattle.guard_frames.specs.Prefix.{IsProperPrefix};
 ghost use Rattle.guard_frames.specs.inside.Judged.{IsJudged, IsReportOf, ReportEnds, RulingEnds, report_line};
-ghost use Rattle.guard_frames.specs.inside.Judged.{ReportGives, RulingGives, RulingMarks};
+ghost use Rattle.guard_frames.specs.inside.Judged.{ReportGives, RulingGives, RulingLets};
 ghost use Rattle.guard_frames.specs.Bodies.{body_view, HasNames};
 
 use crate::body::Body;
@@ -15,15 +15,15 @@ use crate::devices::{Failed, Sink, put_all};
 use crate::header::read_body;
 use crate::short_line::{ShortLine, append};
 use crate::why::{Reason, Why};
-use guard_policy::{LastRoute, Marks, Passing, PlainReason};
+use guard_policy::{LastRoute, Passing, PlainReason};
 use itoa::Buffer;
 use std::alloc::Global;
 
 /// What becomes of a frame.
 #[derive(Drop)]
 pub enum Ruling {
-    /// The frame goes out, and its body has these marks.
-    Goes(Marks),
+    /// The frame goes out, by the rule of this number.
+    Goes(usize),
     /// The frame stays, and this is reported of it.
     Stopped(Report),
 }
@@ -68,10 +68,10 @@ pub fn judge<D: Decide>(
     ensures judged { IsJudged (D.decides policy.now) number frame.now.octets.now result }
     ensures ends { RulingEnds result }
     ensures gives { RulingGives (D.gives policy.now) result }
-    ensures marks { RulingMarks (D.marks_of policy.now) (D.lets policy.now) frame.now.body.now result }
+    ensures lets { RulingLets (D.lets policy.now) frame.now.body.now result }
 {
     let told = match policy.goes(frame.body, last) {
-        Passing::Goes(marks) => return Ruling::Goes(marks),
+        Passing::Goes(rule) => return Ruling::Goes(rule),
         Passing::Stopped(told) => told,
     };
     match read_body(frame.body) {

@@ -1,6 +1,6 @@
 //! Why frames stay, and who is told what becomes of each.
 
-ghost use Rattle.std.specs.Prelude.{◌≡◌, ℕ, Bool, true, false, Option, Some};
+ghost use Rattle.std.specs.Prelude.{◌≡◌, Some};
 ghost use Rattle.guard_policy.specs.Verdicts.{verdict_view, pass};
 ghost use Rattle.guard_frames.specs.Reasons.{reason_of, Told};
 ghost use Rattle.guard_frames.specs.Reasons.Told.{pauses, reads, goes, stays};
@@ -53,13 +53,6 @@ pub trait Watch {
     /// What each thing that is told changes.
     ghost notes: { Self → Told → Self → Type 0 };
 
-    /// Whether it is to be told by which rule a frame goes.
-    ghost wants_rules: { Self → Bool };
-
-    /// Whether it is to be told by which rule a frame goes, which costs something to find.
-    fn asks(&self) -> bool
-        ensures { result ≡ wants_rules self.now };
-
     /// What comes next may have to be waited for. All frames so far, of which these are the totals, are out or reported.
     fn pauses(&mut self, totals: Totals)
         ensures { notes self.old (pauses totals) self.new };
@@ -68,11 +61,9 @@ pub trait Watch {
     fn reads(&mut self, octets: usize)
         ensures { notes self.old (reads octets) self.new };
 
-    /// The next frame goes, with so many octets, and by the rule of this number, where it asks for that. Where it
-    /// doesn't, what it notes is right of whichever rule that is. The frame may not be out yet.
-    fn goes(&mut self, octets: usize, rule: Option<usize>)
-        ensures { (by : Option ℕ) → (wants_rules self.old ≡ true → by ≡ rule) →
-            notes self.old (goes octets by) self.new };
+    /// The next frame goes, with so many octets, and by the rule of this number. It may not be out yet.
+    fn goes(&mut self, octets: usize, rule: usize)
+        ensures { notes self.old (goes octets rule) self.new };
 
     /// The next frame stays, for this reason.
     fn stays(&mut self, why: Why)
@@ -86,17 +77,11 @@ pub struct Unwatched;
 impl Watch for Unwatched {
     ghost notes = { λ old told new. Unit {0} };
 
-    ghost wants_rules = { λ watch. false };
-
-    fn asks(&self) -> bool {
-        false
-    }
-
     fn pauses(&mut self, _totals: Totals) {}
 
     fn reads(&mut self, _octets: usize) {}
 
-    fn goes(&mut self, _octets: usize, _rule: Option<usize>) {}
+    fn goes(&mut self, _octets: usize, _rule: usize) {}
 
     fn stays(&mut self, _why: Why) {}
 }

@@ -1,8 +1,7 @@
 -- What becomes of one frame, and its line.
-use Rattle.std.specs.Prelude.{ℕ, List, ◌++◌, Option, codes, decimal}
+use Rattle.std.specs.Prelude.{ℕ, List, ◌++◌, codes, decimal}
 use Rattle.guard_frames.specs.Bodies.{AbstractBody}
-use Rattle.guard_reader.specs.declared.marks.Marks.{Marks}
-use Rattle.guard_frames.specs.Outcomes.{Decision, FrameGoes, GoesMarked, staying}
+use Rattle.guard_frames.specs.Outcomes.{Decision, FrameGoes, GoesBy, staying}
 use Rattle.guard_frames.specs.Guarding.{Adds}
 use Rattle.guard_frames.specs.Calls.{EndsLine}
 use Rattle.guard_frames.specs.declared.why.Reason.{Reason}
@@ -38,7 +37,7 @@ ReportEnds NoMemory = Unit {0}
 ReportEnds BadHeader = Unit {0}
 
 abbrev pub RulingEnds : Ruling → Type 0
-RulingEnds (ruling.Goes marks) = Unit {0}
+RulingEnds (ruling.Goes rule) = Unit {0}
 RulingEnds (ruling.Stopped report) = ReportEnds report
 
 -- the line of a report, where it has one, gives its reason
@@ -48,15 +47,15 @@ ReportGives Gives NoMemory = Unit {0}
 ReportGives Gives BadHeader = Unit {0}
 
 abbrev pub RulingGives : (Reason → List ℕ → Type 0) → Ruling → Type 0
-RulingGives Gives (ruling.Goes marks) = Unit {0}
+RulingGives Gives (ruling.Goes rule) = Unit {0}
 RulingGives Gives (ruling.Stopped report) = ReportGives Gives report
 
--- the octets of a body that goes have these marks, and it goes by some rule
-abbrev pub RulingMarks : (AbstractBody → Marks → Type 0) → (AbstractBody → Option ℕ → Type 0) → List ℕ → Ruling → Type 0
-RulingMarks MarksOf Lets octets (ruling.Goes marks) = GoesMarked MarksOf Lets octets marks
-RulingMarks MarksOf Lets octets (ruling.Stopped report) = Unit {0}
+-- the octets of a body that goes do so by this rule
+abbrev pub RulingLets : (AbstractBody → ℕ → Type 0) → List ℕ → Ruling → Type 0
+RulingLets Lets octets (ruling.Goes rule) = GoesBy Lets octets rule
+RulingLets Lets octets (ruling.Stopped report) = Unit {0}
 
 -- the frame of this number goes, or stays and adds this report
 abbrev pub IsJudged : Decision → ℕ → List ℕ → Ruling → Type 0
-IsJudged d n frame (ruling.Goes marks) = FrameGoes d frame
+IsJudged d n frame (ruling.Goes rule) = FrameGoes d frame
 IsJudged d n frame (ruling.Stopped report) = Adds d n (staying frame) (report_line n report)

@@ -4,7 +4,7 @@
 --     Small ::= Order (WITH COMPONENTS { qty (1..9) })
 --
 -- One rule lets the small orders of north to south through.
-use Rattle.std.specs.Prelude.{◌≡◌, ℕ, suc, pos, false, List, [], ◌∷◌, ◌++◌, codes, None, refl}
+use Rattle.std.specs.Prelude.{◌≡◌, ℕ, suc, pos, false, List, [], ◌∷◌, ◌++◌, codes, drop, None, refl}
 use Rattle.std.proofs.Common.{inl, inr}
 use Rattle.std.specs.Fmt.{digits}
 use Rattle.guard_model.specs.declared.site.Step.TheVariants.{Component}
@@ -22,6 +22,7 @@ use Rattle.guard_frames.specs.Added.{nothing}
 use Rattle.guard_frames.specs.Bodies.{AbstractBody}
 use Rattle.guard_frames.specs.Headline.{MayGo, IsLineOf}
 use Rattle.guard_frames.specs.OfPolicy.{gives_of, lets_of}
+use Rattle.guard_frames.specs.Outcomes.{GoesBy}
 use Rattle.guard_frames.specs.Reasons.{Noted}
 use Rattle.guard_frames.specs.Reasons.Told.{stays}
 use Rattle.guard_frames.specs.declared.why.Reason.TheVariants.{NotAllowed}
@@ -85,6 +86,15 @@ five_goes = (
   refl,
   refl,
   refl,
+)
+
+-- and that rule, which is the first of the policy, is the one by which five goes
+five_by_small : GoesBy (lets_of policy) (drop 4 (frame 5)) 0
+unfolding fewest unsigned_octets signed_octets identifier_octets length_octets element
+five_by_small = (
+  body 5,
+  record { joined = refl; names = record { sender = refl; receiver = refl; name = refl } },
+  ((order_type no_constraints, order 5, refl, refl, refl, refl, refl, refl), refl),
 )
 
 -- fifty isn't allowed, by the range in column 40 of the module

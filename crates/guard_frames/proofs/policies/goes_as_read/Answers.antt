@@ -4,7 +4,7 @@ use Rattle.guard_policy.specs.Policies.{AbstractRoute}
 use Rattle.guard_policy.specs.PolicyView.{policy_view, route_view}
 use Rattle.guard_policy.specs.Told.{Tells, is_going}
 use Rattle.guard_frames.specs.Bodies.{body_view, has_names}
-use Rattle.guard_frames.specs.OfPolicy.{route_of, decision_of, marks_of, lets_of, reasons_of}
+use Rattle.guard_frames.specs.OfPolicy.{route_of, decision_of, lets_of, reasons_of}
 use Rattle.guard_frames.proofs.HeaderLaws.{no_parts}
 use Rattle.guard_frames.proofs.BodyDecisions.{message_within, names_before, decided_as_given, decided_as_named, stays_misnamed, stays_without}
 use Rattle.guard_frames.proofs.policies.goes_as_read.Goals as goal
@@ -16,7 +16,7 @@ slice_bounds-names-count c = message_within c.args.octets.now (body_view c.in-So
 pub returns-in_default : goal.returns-in_default
 returns-in_default c =
     let p = policy_view c.args.policy.now in
-    stays_without (decision_of p) (marks_of p) (lets_of p) (reasons_of p) c.args.octets.now (no_parts c.args.octets.now c.in_default.ensures)
+    stays_without (decision_of p) (lets_of p) (reasons_of p) c.args.octets.now (no_parts c.args.octets.now c.in_default.ensures)
 
 pub returns-in-Some-passes_and_found : goal.returns-in-Some-passes_and_found
 returns-in-Some-passes_and_found c =
@@ -26,7 +26,7 @@ returns-in-Some-passes_and_found c =
 pub returns-then-not-has_names : goal.returns-then-not-has_names
 returns-then-not-has_names c =
     let p = policy_view c.args.policy.now in
-    stays_misnamed (decision_of p) (marks_of p) (lets_of p) (reasons_of p) c.args.octets.now (body_view c.in-Some.body) c.in-Some.ensures
+    stays_misnamed (decision_of p) (lets_of p) (reasons_of p) c.args.octets.now (body_view c.in-Some.body) c.in-Some.ensures
     (sym c.has_names.ensures ∙ c.if-not-has_names.true)
 
 pub returns : goal.returns

@@ -20,7 +20,6 @@ loop-frame-init g c = (
   no_lines c.none-waiting.result.lines.items c.none-waiting.ensures,
   subst (λ (x : List ℕ). Noted (g.D.Decide.gives c.args.policy.now) (g.D.Decide.lets c.args.policy.now) g.W.Watch.notes c.args.watch.now
       (so_far_told nothing c.args.octets.now x 0 0) c.args.watch.now) (sym c.none-waiting.ensures) (noted_none _ (g.D.Decide.gives c.args.policy.now) (g.D.Decide.lets c.args.policy.now) g.W.Watch.notes c.args.watch.now),
-  tt,
 )
 
 -- ---- no whole frame is left
@@ -94,7 +93,6 @@ pub loop-frame-preserved-in-Goes : goal.loop-frame-preserved-in-Goes
 loop-frame-preserved-in-Goes g c =
     let d = g.D.Decide.decides c.args.policy.now in
     let h = c.loop-frame.invariant in
-    let by = c.asked-rule.ensures.rule in
     let s = c.args.octets.now in
     let f = c.in-Frame.frame in
     let at = first_at s c.loop-frame.end f h.1.so_far.within c.in-Frame.ensures in (
@@ -108,8 +106,8 @@ loop-frame-preserved-in-Goes g c =
           (told_going s f.octets.now c.loop-frame.waiting.lines.items c.put-in-Goes.new.self.lines.items c.loop-frame.sent c.loop-frame.end h.0
           h.1.so_far.ordered at c.in_ok-put-in-Goes.ensures.none)
           (noted_going _ (g.D.Decide.gives c.args.policy.now) (g.D.Decide.lets c.args.policy.now) g.W.Watch.notes c.args.watch.now c.loop-frame.watch c.goes.new.self
-          (so_far_told h.0 s c.loop-frame.waiting.lines.items c.loop-frame.sent c.loop-frame.end) f.octets.now f.body.now h.5 at.frame c.in-Frame.ensures.body (by.0, by.1, c.goes.ensures by.0 by.2)),
-      c.asked-rule.ensures.kept,
+          (so_far_told h.0 s c.loop-frame.waiting.lines.items c.loop-frame.sent c.loop-frame.end) f.octets.now f.body.now c.in-Goes.rule h.5 at.frame c.in-Frame.ensures.body
+          c.in-Goes.ensures.lets c.goes.ensures),
     )
 
 -- ---- a frame stays
@@ -179,7 +177,6 @@ loop-frame-preserved-in_ok-add-in-Stopped g c =
           (noted_staying _ (g.D.Decide.gives c.args.policy.now) (g.D.Decide.lets c.args.policy.now) g.W.Watch.notes c.args.watch.now c.loop-frame.watch c.stays.new.self
           c.next_number-number.result c.in-Stopped.report (so_far_told h.0 s c.loop-frame.waiting.lines.items c.loop-frame.sent c.loop-frame.end)
           c.line_of.result.now h.5 c.line_of.ensures.line c.in-Stopped.ensures.gives (rw c.why.ensures at c.stays.ensures)),
-      h.6,
     )
 
 pub loop-frame-preserved : goal.loop-frame-preserved
@@ -205,7 +202,6 @@ loop-frame-preserved g c =
           (noted_staying _ (g.D.Decide.gives c.args.policy.now) (g.D.Decide.lets c.args.policy.now) g.W.Watch.notes c.args.watch.now c.loop-frame.watch c.stays.new.self
           c.next_number-number.result c.in-Stopped.report (so_far_told h.0 s c.loop-frame.waiting.lines.items c.loop-frame.sent c.loop-frame.end)
           c.line_of.result.now h.5 c.line_of.ensures.line c.in-Stopped.ensures.gives (rw c.why.ensures at c.stays.ensures)),
-      h.6,
     )
 
 -- ---- each call ends a line

@@ -2,7 +2,6 @@ use Rattle.std.proofs.Common.{◌-◌, length}
 use Rattle.guard_frames.specs.Added.{Added, BothAppend}
 use Rattle.guard_frames.specs.Calls.{AsksLines}
 use Rattle.guard_frames.specs.Reasons.{Noted}
-use Rattle.guard_frames.specs.inside.LastRule.{IsKept}
 use Rattle.guard_frames.specs.inside.Waiting.{AreLines}
 use Rattle.guard_frames.proofs.Waits.{Waits, so_far_told}
 use Rattle.guard_frames.proofs.putting.put_frames.Given as goal
@@ -15,7 +14,6 @@ invariant-loop-frame g l = (added : Added)
     × AsksLines (g.R.Sink.asked l.initial.reports) (g.R.Sink.asked l.reports) × AreLines l.waiting.lines.items
     × Noted (g.D.Decide.gives l.policy) (g.D.Decide.lets l.policy) g.W.Watch.notes l.initial.watch
     (so_far_told added l.octets l.waiting.lines.items l.sent l.end) l.watch
-    × IsKept (g.D.Decide.marks_of l.policy) (g.D.Decide.lets l.policy) l.rule_before
 
 abbrev pub decreases-loop-frame : goal.decreases-loop-frame
 decreases-loop-frame g l = length l.octets - l.end

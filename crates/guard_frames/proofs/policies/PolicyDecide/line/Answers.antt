@@ -1,9 +1,11 @@
-use Rattle.std.proofs.Common.{◌≡◌, ◌∙◌, List, ℕ, Result, Some, ap, sym, subst}
-use Rattle.std.specs.Prelude.{IfOk}
+use Rattle.std.proofs.Common.{◌≡◌, List, ℕ, Option, Result, Some, ap, sym, subst, ◌∙◌}
+use Rattle.std.specs.Prelude.{IfOk, IfSome}
 use Rattle.guard_policy.specs.Policies.{AbstractPolicy, AbstractRoute}
 use Rattle.guard_policy.specs.PolicyView.{policy_view, route_view}
-use Rattle.guard_policy.specs.Verdicts.{AbstractVerdict, verdict_view, pass}
+use Rattle.guard_policy.specs.declared.verdict.PlainReason.{PlainReason}
+use Rattle.guard_policy.specs.Verdicts.{AbstractVerdict, verdict_view, reason_view, pass}
 use Rattle.guard_policy.specs.Decisions.{IsReason}
+use Rattle.guard_policy.specs.Told.{IsToldReason}
 use Rattle.guard_policy.proofs.Goes.{goes_from_passes}
 use Rattle.guard_policy.proofs.Reasons.{if_ok_map}
 use Rattle.guard_report.specs.Lines.{line_octets}
@@ -27,22 +29,43 @@ module _ {A E : Type 0} (items : A → List ℕ) (reason : A → Reason) (p : Ab
   gives names = if_ok_map IsLine (λ x. gives_of p (reason x) (items x)) said
       (λ x l. (n, b, w, names, is, l.1, l.0 ∙ ap (λ (y : AbstractRoute). line_octets p y n w) same)) lines
 
+-- the verdict of a reason that is told is the reason
+told_is : (p : AbstractPolicy) (b : AbstractBody) (told : Option PlainReason) (w : AbstractVerdict)
+    → (r : PlainReason) × (told ≡ Some r) × (Some w ≡ reason_view r)
+    → IfSome told (λ x. IsToldReason p (route_of b) b.message_octets (reason_view x)) → IsReason p (route_of b) b.message_octets w
+told_is p b told w (r, is, whole) reason =
+    subst (λ (o : Option AbstractVerdict). IsToldReason p (route_of b) b.message_octets o) (sym whole)
+    (subst (λ (o : Option PlainReason). IfSome o (λ x. IsToldReason p (route_of b) b.message_octets (reason_view x))) is reason)
+
 pub line_of-requires : goal.line_of-requires
 line_of-requires c = λ passes.
     let p = policy_view c.args.self.now in
     let b = body_view c.args.body.now in
     c.requires.stays (goes_from_passes p (route_of b) b.message_octets
-    (subst (λ (w : AbstractVerdict). IsReason p (route_of b) b.message_octets w) (sym c.verdict.ensures ∙ passes) (rw c.in-Some.is at c.requires.told)))
+    (subst (λ (w : AbstractVerdict). IsReason p (route_of b) b.message_octets w) passes
+    (told_is p b c.args.told (verdict_view c.in-Some.verdict) c.in-Some.ensures c.requires.told)))
 
 pub returns-in-Some-clause-reports : goal.returns-in-Some-clause-reports
 returns-in-Some-clause-reports c =
-    reports (λ x. x.0.items) (λ x. x.1) (policy_view c.args.self.now) (body_view c.args.body.now) (route_view c.route_of-route.result) c.args.number (verdict_view c.verdict.result)
-    c.line_of.result c.route_of-route.ensures (rw c.verdict.ensures (rw c.in-Some.is at c.requires.told)) c.line_of.ensures
+    let p = policy_view c.args.self.now in
+    let b = body_view c.args.body.now in
+    let w = verdict_view c.in-Some.verdict in
+    reports (λ x. x.0.items) (λ x. x.1) p b (route_view c.route_of-route.result) c.args.number w c.line_of.result c.route_of-route.ensures
+    (told_is p b c.args.told w c.in-Some.ensures c.requires.told) c.line_of.ensures
 
 pub returns-in-Some-clause-gives : goal.returns-in-Some-clause-gives
 returns-in-Some-clause-gives c =
-    gives (λ x. x.0.items) (λ x. x.1) (policy_view c.args.self.now) (body_view c.args.body.now) (route_view c.route_of-route.result) c.args.number (verdict_view c.verdict.result)
-    c.line_of.result c.route_of-route.ensures (rw c.verdict.ensures (rw c.in-Some.is at c.requires.told)) c.line_of.ensures c.requires.names
+    let p = policy_view c.args.self.now in
+    let b = body_view c.args.body.now in
+    let w = verdict_view c.in-Some.verdict in
+    gives (λ x. x.0.items) (λ x. x.1) p b (route_view c.route_of-route.result) c.args.number w c.line_of.result c.route_of-route.ensures
+    (told_is p b c.args.told w c.in-Some.ensures c.requires.told) c.line_of.ensures c.requires.names
+
+pub reason_as_told-requires : goal.reason_as_told-requires
+reason_as_told-requires c =
+    let b = body_view c.args.body.now in
+    subst (λ (r : AbstractRoute). IfSome c.args.told (λ x. IsToldReason (policy_view c.args.self.now) r b.message_octets (reason_view x)))
+    (sym c.route_of-route.ensures) c.requires.told
 
 pub line_of-requires-2 : goal.line_of-requires-2
 line_of-requires-2 c = λ passes.

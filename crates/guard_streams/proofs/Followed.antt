@@ -43,7 +43,7 @@ unfolding followed_all
 none_followed [] = refl
 none_followed (t ∷ before) = ap (λ (c : Option AbstractCounted). followed_one c t) (none_followed before)
 
-record Sums (old : AbstractCounted) (whys : List Why) (rules : List (Option ℕ)) (a : Added) (new : AbstractCounted) : Type 0 where
+record Sums (old : AbstractCounted) (whys : List Why) (rules : List ℕ) (a : Added) (new : AbstractCounted) : Type 0 where
   counts : new.tally.counts ≡ count_all old.tally.counts whys
   force : new.force ≡ allow_all (deny_all old.force whys) rules
   went : (n : ℕ) → later new.tally.went n ≡ later old.tally.went (length a.out + n)

@@ -1,6 +1,6 @@
 -- How often rules decided, one by one.
-use Rattle.std.proofs.Common.{◌≡◌, ◌≤◌, ◌<◌, ◌+◌, ◌∙◌, ℕ, zero, suc, List, [], ◌∷◌, ◌++◌, ap, sym, refl, length, map, take, drop, get_or, slice_set, slice_get, arith}
-use Rattle.std.specs.Prelude.{slice_index_or, min, Option, None, Some}
+use Rattle.std.proofs.Common.{◌≡◌, ◌≤◌, ◌<◌, ◌+◌, ◌∙◌, ℕ, zero, suc, List, [], ◌∷◌, ◌++◌, ap, sym, refl, length, map, take, slice_set, slice_get, arith}
+use Rattle.std.specs.Prelude.{slice_index_or, min, Some}
 use Rattle.std.proofs.lemmas.List.{map-append}
 use Rattle.std.proofs.lemmas.Option.{same_Some, none-some}
 use Rattle.std.proofs.Math.Numerals.{add-one}
@@ -36,19 +36,18 @@ one_more_each (c ∷ counts) zero (suc j) = refl
 one_more_each (c ∷ counts) (suc i) zero = refl
 one_more_each (c ∷ counts) (suc i) (suc j) = ap (λ (xs : List AbstractCount). c ∷ xs) (one_more_each counts i j)
 
-deny_allow : (f : AbstractForce) (rule : Option ℕ) (why : Why) → deny_one (allow_one f rule) why ≡ allow_one (deny_one f why) rule
-deny_allow f None why = refl
-deny_allow f (Some i) BadHeader = refl
-deny_allow f (Some i) NoMemory = refl
-deny_allow f (Some i) (Decided UnknownMessage) = refl
-deny_allow f (Some i) (Decided Undecodable) = refl
-deny_allow f (Some i) (Decided OutsideType) = refl
-deny_allow f (Some i) (Decided (DeniedBy j)) =
+deny_allow : (f : AbstractForce) (rule : ℕ) (why : Why) → deny_one (allow_one f rule) why ≡ allow_one (deny_one f why) rule
+deny_allow f i BadHeader = refl
+deny_allow f i NoMemory = refl
+deny_allow f i (Decided UnknownMessage) = refl
+deny_allow f i (Decided Undecodable) = refl
+deny_allow f i (Decided OutsideType) = refl
+deny_allow f i (Decided (DeniedBy j)) =
     ap (λ (rules : List AbstractCount). record f { rules = rules }) (one_more_each f.rules i j)
-deny_allow f (Some i) (Decided NotAllowed) = refl
-deny_allow f (Some i) (Decided NoRule) = refl
+deny_allow f i (Decided NotAllowed) = refl
+deny_allow f i (Decided NoRule) = refl
 
-pub deny_allowed : (f : AbstractForce) (rules : List (Option ℕ)) (why : Why) → deny_one (allow_all f rules) why ≡ allow_all (deny_one f why) rules
+pub deny_allowed : (f : AbstractForce) (rules : List ℕ) (why : Why) → deny_one (allow_all f rules) why ≡ allow_all (deny_one f why) rules
 deny_allowed f [] why = refl
 deny_allowed f (rule ∷ before) why =
     deny_allow (allow_all f before) rule why ∙ ap (λ (g : AbstractForce). allow_one g rule) (deny_allowed f before why)

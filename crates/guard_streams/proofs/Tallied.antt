@@ -1,6 +1,6 @@
 -- What counters have counted and shown, once they were told of what was read and added.
-use Rattle.std.proofs.Common.{◌≡◌, ◌⊎◌, inl, inr, ℕ, ◌+◌, List, [], ◌∷◌, ◌++◌, ◌∙◌, ap, sym, refl, subst, length, append_assoc, length-append, arith}
-use Rattle.std.specs.Prelude.{string_bytes, Option}
+use Rattle.std.proofs.Common.{◌≡◌, inl, inr, ℕ, ◌+◌, List, [], ◌∷◌, ◌++◌, ◌∙◌, ap, sym, refl, subst, length, append_assoc, length-append, arith}
+use Rattle.std.specs.Prelude.{string_bytes}
 use Rattle.std.specs.List.{All}
 use Rattle.std.proofs.lemmas.List.{append-nil}
 use Rattle.std.proofs.lemmas.List.Elements.{All-cons, All-nil}
@@ -8,9 +8,9 @@ use Rattle.guard_policy.specs.Policies.{AbstractPolicy}
 use Rattle.guard_frames.specs.declared.totals.Totals.{Totals}
 use Rattle.guard_frames.specs.declared.why.Why.{Why}
 use Rattle.guard_frames.specs.Added.{Added, nothing, joined, sent_more, reported_more}
-use Rattle.guard_frames.specs.Leaving.{AllDecided, Watched}
+use Rattle.guard_frames.specs.Leaving.{AllDecided}
 use Rattle.guard_frames.specs.OfPolicy.{decision_of, gives_of, lets_of}
-use Rattle.guard_frames.specs.Reasons.{Told, Tells, IsTold, Noted}
+use Rattle.guard_frames.specs.Reasons.{Told, Tells, IsTold}
 use Rattle.guard_frames.specs.Reasons.Told.{pauses, reads, goes, stays}
 use Rattle.guard_frames.specs.Guarding.{Counts as Count}
 use Rattle.guard_frames.specs.Runs.{RunsAll}
@@ -48,7 +48,7 @@ counters_all c (told ∷ before) = counters_one (counters_all c before) told
 -- ---- what is counted
 
 -- all but the totals
-record Sums (place : List ℕ) (f : AbstractForce) (whys : List Why) (rules : List (Option ℕ)) (read : List ℕ) (a : Added) (c : AbstractCounters) : Type 0 where
+record Sums (place : List ℕ) (f : AbstractForce) (whys : List Why) (rules : List ℕ) (read : List ℕ) (a : Added) (c : AbstractCounters) : Type 0 where
   path : c.path ≡ place
   counts : c.counted.tally.counts ≡ count_all no_counts whys
   force : c.counted.force ≡ allow_all (deny_all f whys) rules
@@ -58,7 +58,7 @@ record Sums (place : List ℕ) (f : AbstractForce) (whys : List Why) (rules : Li
   faults : c.counted.tally.faults ≡ no_faults
 
 -- the same numbers, where more was read or added
-sums_as : (path : List ℕ) (f : AbstractForce) (whys : List Why) (rules : List (Option ℕ)) (first read : List ℕ) (a b : Added) (c d : AbstractCounters) → Sums path f whys rules first a c →
+sums_as : (path : List ℕ) (f : AbstractForce) (whys : List Why) (rules : List ℕ) (first read : List ℕ) (a b : Added) (c d : AbstractCounters) → Sums path f whys rules first a c →
     d.path ≡ c.path → d.counted.tally.counts ≡ c.counted.tally.counts → d.counted.force ≡ c.counted.force → d.counted.tally.reloads ≡ c.counted.tally.reloads → d.counted.tally.faults ≡ c.counted.tally.faults →
     d.counted.tally.came ≡ later 0 (length read) → d.counted.tally.went ≡ later 0 (length b.out) → Sums path f whys rules read b d
 sums_as path f whys rules first read a b c d h same counts force reloads faults came went = record {

@@ -1,7 +1,6 @@
 -- What follows from what a watch was told: of the lines that were reported what they say, of the frames that went out by
 -- which rules they go, and what a watch that counts has counted.
 use Rattle.std.proofs.Common.{◌≡◌, ◌⊎◌, inl, inr, ℕ, List, [], ◌∷◌, ◌++◌, ◌∙◌, ap, sym, refl, subst, append_assoc}
-use Rattle.std.specs.Prelude.{Option}
 use Rattle.std.proofs.lemmas.List.{append-nil}
 use Rattle.guard_policy.specs.Policies.{AbstractPolicy}
 use Rattle.guard_frames.specs.declared.totals.Totals.{Totals}
@@ -24,7 +23,7 @@ whys_of (goes n rule ∷ before) = whys_of before
 whys_of (stays why ∷ before) = why ∷ whys_of before
 
 -- by which rules those go of which it was told
-unfoldable pub rules_in : List Told → List (Option ℕ)
+unfoldable pub rules_in : List Told → List ℕ
 rules_in [] = []
 rules_in (pauses t ∷ before) = rules_in before
 rules_in (reads n ∷ before) = rules_in before

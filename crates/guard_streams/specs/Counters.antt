@@ -1,6 +1,6 @@
 -- The text that shows what is counted, in the format that Prometheus' node exporter reads from its folder of text files:
 -- for each counter a line with its help, one with its type, and its samples, each with a name, labels and a number.
-use Rattle.std.specs.Prelude.{◌≡◌, ℕ, zero, suc, Bool, true, false, List, [], ◌∷◌, ◌++◌, map, string_bytes, codes, decimal, if◌then◌else◌, Option, None, Some}
+use Rattle.std.specs.Prelude.{ℕ, zero, suc, Bool, true, false, List, [], ◌∷◌, ◌++◌, map, string_bytes, codes, decimal, if◌then◌else◌}
 use Rattle.std.specs.List.{concat}
 use Rattle.hex.specs.Hex.{encode_lower}
 use Rattle.guard_policy.specs.Policies.{AbstractPolicy, AbstractRule}
@@ -90,12 +90,11 @@ deny_all f [] = f
 deny_all f (why ∷ before) = deny_one (deny_all f before) why
 
 -- a frame goes: the rule by which it does has decided
-abbrev pub allow_one : AbstractForce → Option ℕ → AbstractForce
-allow_one f None = f
-allow_one f (Some i) = record f { rules = one_more f.rules i }
+abbrev pub allow_one : AbstractForce → ℕ → AbstractForce
+allow_one f rule = record f { rules = one_more f.rules rule }
 
 -- and where these go, the last first
-abbrev pub allow_all : AbstractForce → List (Option ℕ) → AbstractForce
+abbrev pub allow_all : AbstractForce → List ℕ → AbstractForce
 allow_all f [] = f
 allow_all f (rule ∷ before) = allow_one (allow_all f before) rule
 

@@ -102,7 +102,7 @@ pub record IsTally (p : AbstractPolicy) (digest read : List ℕ) (added : Added)
   pub whys : List Why
   pub said : AreSaid p whys added.reports
   pub counts : c.tally.counts ≡ count_all no_counts whys
-  pub rules : List (Option ℕ)
+  pub rules : List ℕ
   pub by : AreLet p rules added.out
   pub force : c.force ≡ allow_all (deny_all (force_of p digest) whys) rules
   pub came : c.tally.came ≡ later 0 (length read)

@@ -31,7 +31,7 @@ pub record CountsPiece (p : AbstractPolicy) (old : AbstractCounted) (answer : Re
   pub whys : List Why
   pub said : AreSaid p whys added.reports
   pub counts : new.tally.counts ≡ count_all old.tally.counts whys
-  pub rules : List (Option ℕ)
+  pub rules : List ℕ
   pub by : AreLet p rules added.out
   pub force : new.force ≡ allow_all (deny_all old.force whys) rules
   pub came : IsMore old.tally.came (length octets) new.tally.came

@@ -46,16 +46,10 @@ impl Counted {
 }
 
 impl Watch for Counted {
-    ghost use Rattle.std.specs.Prelude.{◌≡◌, true};
+    ghost use Rattle.std.specs.Prelude.{◌≡◌};
     ghost use Rattle.guard_streams.specs.Counters.{counted_view, counted_one};
 
     ghost notes = { λ old told new. counted_view new ≡ counted_one (counted_view old) told };
-
-    ghost wants_rules = { λ counted. true };
-
-    fn asks(&self) -> bool {
-        true
-    }
 
     fn pauses(&mut self, totals: Totals) {
         self.tally.totals = totals;
@@ -65,7 +59,7 @@ impl Watch for Counted {
         self.tally.came = self.tally.came.saturating_add(octets as u64);
     }
 
-    fn goes(&mut self, octets: usize, rule: Option<usize>) {
+    fn goes(&mut self, octets: usize, rule: usize) {
         self.tally.went = self.tally.went.saturating_add(octets as u64);
         self.force.goes(rule);
     }

@@ -130,15 +130,8 @@ impl<B: Board> Waits for Counters<B> {
 
 impl<B: Board> Watch for Counters<B> {
     ghost use Rattle.guard_streams.specs.Counting.{IsTelling};
-    ghost use Rattle.std.specs.Prelude.{true};
 
     ghost notes = { λ old told new. IsTelling B.shown old told new };
-
-    ghost wants_rules = { λ counters. true };
-
-    fn asks(&self) -> bool {
-        true
-    }
 
     fn pauses(&mut self, totals: Totals) {
         self.counted.pauses(totals);
@@ -151,7 +144,7 @@ impl<B: Board> Watch for Counters<B> {
         self.counted.reads(octets);
     }
 
-    fn goes(&mut self, octets: usize, rule: Option<usize>) {
+    fn goes(&mut self, octets: usize, rule: usize) {
         self.counted.goes(octets, rule);
     }
 

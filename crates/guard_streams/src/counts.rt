@@ -36,22 +36,16 @@ impl Counts {
 }
 
 impl Watch for Counts {
-    ghost use Rattle.std.specs.Prelude.{◌≡◌, false};
+    ghost use Rattle.std.specs.Prelude.{◌≡◌};
     ghost use Rattle.guard_streams.specs.Counted.{count_told};
 
     ghost notes = { λ old told new. new ≡ count_told old told };
-
-    ghost wants_rules = { λ counts. false };
-
-    fn asks(&self) -> bool {
-        false
-    }
 
     fn pauses(&mut self, _totals: Totals) {}
 
     fn reads(&mut self, _octets: usize) {}
 
-    fn goes(&mut self, _octets: usize, _rule: Option<usize>) {}
+    fn goes(&mut self, _octets: usize, _rule: usize) {}
 
     fn stays(&mut self, why: Why) {
         match why {

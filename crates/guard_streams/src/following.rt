@@ -12,21 +12,15 @@ pub struct Following {
 }
 
 impl Watch for Following {
-    ghost use Rattle.guard_streams.specs.inside.Following.{Follows, is_counting};
+    ghost use Rattle.guard_streams.specs.inside.Following.{Follows};
 
     ghost notes = { λ old told new. Follows old told new };
-
-    ghost wants_rules = { λ following. is_counting following.counted };
-
-    fn asks(&self) -> bool {
-        self.counted.is_some()
-    }
 
     fn pauses(&mut self, _totals: Totals) {}
 
     fn reads(&mut self, _octets: usize) {}
 
-    fn goes(&mut self, octets: usize, rule: Option<usize>) {
+    fn goes(&mut self, octets: usize, rule: usize) {
         if let Some(counted) = &mut self.counted {
             counted.goes(octets, rule);
         }

@@ -54,12 +54,9 @@ impl InForce {
     }
 
     /// One more frame goes, by the rule of this number.
-    pub fn goes(&mut self, rule: Option<usize>)
+    pub fn goes(&mut self, rule: usize)
         ensures { force_view self.new ≡ allow_one (force_view self.old) rule }
     {
-        let Some(rule) = rule else {
-            return;
-        };
         count_at(&mut self.rules, rule);
     }
 }

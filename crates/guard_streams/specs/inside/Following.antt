@@ -1,5 +1,5 @@
 -- What follows the frames of a piece, and what is counted once it was taken.
-use Rattle.std.specs.Prelude.{◌≡◌, ℕ, Bool, true, false, List, length, Option, Some, None, Result}
+use Rattle.std.specs.Prelude.{◌≡◌, ℕ, List, length, Option, Some, None, Result}
 use Rattle.guard_policy.specs.Policies.{AbstractPolicy}
 use Rattle.guard_frames.specs.declared.link.LinkFault.{LinkFault}
 use Rattle.guard_frames.specs.declared.totals.Totals.{Totals}
@@ -9,7 +9,6 @@ use Rattle.guard_frames.specs.LinkView.{AbstractLink}
 use Rattle.guard_frames.specs.Reasons.{Told}
 use Rattle.guard_frames.specs.Reasons.Told.{pauses, reads, goes, stays}
 use Rattle.guard_frames.specs.Totals.{later, no_frames}
-use Rattle.guard_streams.specs.declared.counted.Counted.{Counted}
 use Rattle.guard_streams.specs.declared.following.Following.{Following}
 use Rattle.guard_streams.specs.Allowed.{AreLet}
 use Rattle.guard_streams.specs.Counted.{count_told, count_all, AreSaid, AreCounted}
@@ -17,11 +16,6 @@ use Rattle.guard_streams.specs.Counters.{AbstractCounted, counted_one, deny_all,
 use Rattle.guard_streams.specs.Faults.{faulted}
 use Rattle.guard_streams.specs.LinksCounted.{maybe_counted, IsMore}
 use Rattle.guard_streams.specs.Tallying.{with_links}
-
--- more than reasons is counted, and so by which rules frames go
-abbrev pub is_counting : Option Counted → Bool
-is_counting None = false
-is_counting (Some c) = true
 
 -- of a frame; octets that come and pauses are counted elsewhere
 abbrev pub followed_one : Option AbstractCounted → Told → Option AbstractCounted
@@ -40,7 +34,7 @@ pub record Follow (p : AbstractPolicy) (old : AbstractCounted) (added : Added) (
   pub whys : List Why
   pub said : AreSaid p whys added.reports
   pub counts : new.tally.counts ≡ count_all old.tally.counts whys
-  pub rules : List (Option ℕ)
+  pub rules : List ℕ
   pub by : AreLet p rules added.out
   pub force : new.force ≡ allow_all (deny_all old.force whys) rules
   pub went : IsMore old.tally.went (length added.out) new.tally.went

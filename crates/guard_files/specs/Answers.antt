@@ -3,8 +3,7 @@ use Rattle.std.specs.Prelude.{◌⊎◌, ℕ, List}
 use Rattle.guard_files.specs.declared.answer.Answer.{Answer}
 use Rattle.guard_files.specs.declared.fault.Fault.{Fault}
 use Rattle.guard_files.specs.Devices.{Device, IsUntouched}
-use Rattle.guard_files.specs.Explaining.{TellsWith}
-use Rattle.guard_files.specs.Writing.{Writes, Tells}
+use Rattle.guard_files.specs.Writing.{Writes, TellsWith}
 
 -- what goes to standard output, and the status
 pub record AbstractAnswer : Type 0 where
@@ -14,14 +13,8 @@ pub record AbstractAnswer : Type 0 where
 abbrev pub answer_view : Answer → AbstractAnswer
 answer_view a = record { out = a.out.items; status = a.status }
 
--- Such an answer is written, or such a fault is reported.
-abbrev pub Gives : (AbstractAnswer → Type 0) → (Fault → Type 0) → Device → Device → ℕ → Type 0
-Gives IsAnswer IsFault out err status =
-    ((a : AbstractAnswer) × IsAnswer a × Writes a.out a.status out err status)
-    ⊎ ((f : Fault) × IsFault f × IsUntouched out × Tells f err status)
-
 -- Such an answer is written, or such a fault is reported with what explains it.
-abbrev pub GivesExplained : (AbstractAnswer → Type 0) → (Fault → List ℕ → Type 0) → Device → Device → ℕ → Type 0
-GivesExplained IsAnswer IsFault out err status =
+abbrev pub Gives : (AbstractAnswer → Type 0) → (Fault → List ℕ → Type 0) → Device → Device → ℕ → Type 0
+Gives IsAnswer IsFault out err status =
     ((a : AbstractAnswer) × IsAnswer a × Writes a.out a.status out err status)
     ⊎ ((f : Fault) × (note : List ℕ) × IsFault f note × IsUntouched out × TellsWith f note err status)

@@ -8,11 +8,9 @@ use Rattle.guard_files.specs.declared.fault.Fault.{Fault}
 use Rattle.guard_files.specs.declared.fault.Fault.TheVariants.{BadHex, CannotRead, TooLarge, Schema, Policy, Run, NoMemory}
 use Rattle.guard_files.specs.declared.files.Obstacle.{Obstacle}
 use Rattle.guard_files.specs.declared.files.Obstacle.TheVariants.{Untold, NoFile, LostLink, Folder, NotAllowed}
-use Rattle.guard_files.specs.Devices.{Device}
-use Rattle.guard_files.specs.Faults.{IsText, fault_status}
 use Rattle.guard_files.specs.Files.{Told, HasText, after_read}
 use Rattle.guard_files.specs.Reading.{HaveTexts, IsNoPolicyAt, SayNothing, folder}
-use Rattle.guard_files.specs.Writing.{TellsOctets, TellsNoMemory, line_of}
+pub use Rattle.guard_files.specs.Writing.{TellsWith}
 
 abbrev pub hex_note : List ℕ
 hex_note = codes "  A message is written by pairs of hexadecimal digits, 0 to 9 and a to f. Mend the digits.\n"
@@ -76,11 +74,3 @@ IsExplained told path NoMemory note = IsNoPolicyAt told path NoMemory × (note �
 abbrev pub IsNoPolicyWith : Bool → Told → List ℕ → Fault → List ℕ → Type 0
 IsNoPolicyWith false told path f note = IsNoPolicyAt told path f × (note ≡ [])
 IsNoPolicyWith true told path f note = IsExplained told path f note
-
--- ---- what is written
-
--- a fault is reported with what comes after it, with its status
-abbrev pub TellsWith : Fault → List ℕ → Device → ℕ → Type 0
-TellsWith f note err result =
-    ((text : List ℕ) × IsText f text × TellsOctets (line_of text ++ note) (fault_status f) err result)
-    ⊎ TellsNoMemory err result

@@ -1,5 +1,5 @@
 -- What goes to standard output and standard error, and with which status the program ends.
-use Rattle.std.specs.Prelude.{◌≡◌, ◌⊎◌, ℕ, true, List, ◌++◌, codes}
+use Rattle.std.specs.Prelude.{◌≡◌, ◌⊎◌, ℕ, true, List, [], ◌++◌, codes}
 use Rattle.std.specs.Io.KnownBytes.{Appends}
 use Rattle.guard_frames.specs.declared.link.LinkFault.TheVariants.{WriteFailed}
 use Rattle.guard_frames.specs.FaultTexts.{fault_text}
@@ -42,10 +42,15 @@ IsFaultLine f line status =
 abbrev pub TellsText : List ℕ → ℕ → Device → ℕ → Type 0
 TellsText text status err result = TellsLine text status err result ⊎ TellsNoMemory err result
 
--- a fault is reported, with its status
+-- a fault is reported with what comes after its line, with its status
+abbrev pub TellsWith : Fault → List ℕ → Device → ℕ → Type 0
+TellsWith f note err result =
+    ((text : List ℕ) × IsText f text × TellsOctets (line_of text ++ note) (fault_status f) err result)
+    ⊎ TellsNoMemory err result
+
+-- a fault is reported, and nothing after its line
 abbrev pub Tells : Fault → Device → ℕ → Type 0
-Tells f err result =
-    ((text : List ℕ) × IsText f text × TellsLine text (fault_status f) err result) ⊎ TellsNoMemory err result
+Tells f err result = TellsWith f [] err result
 
 -- The octets go to standard output, and the status is this one; or it failed, which is reported, and the status is 3.
 abbrev pub Writes : List ℕ → ℕ → Device → Device → ℕ → Type 0

@@ -1,8 +1,10 @@
 //! What comes after the line of a fault where it is to be explained.
 ghost use Rattle.std.specs.Prelude.{◌≡◌, [], map, string_bytes, IfOk};
 ghost use Rattle.guard_notes.specs.Sources.{sources, sources_view};
-ghost use Rattle.guard_files.specs.Explaining.{IsExplanation, IsRefused, obstacle_line, unread_note};
-ghost use Rattle.guard_files.specs.declared.fault.Fault.TheVariants.{NoMemory};
+ghost use Rattle.guard_files.specs.Explaining.{AreTextsOf, IsExplanation, IsNoPolicyWith, IsRefused};
+ghost use Rattle.guard_files.specs.Explaining.{obstacle_line, unread_note};
+ghost use Rattle.guard_files.specs.Files.{Told};
+ghost use Rattle.guard_files.specs.Reading.{SayNoneLoaded};
 
 use crate::fault::Fault;
 use crate::files::Obstacle;
@@ -42,9 +44,21 @@ pub struct Refusal {
 }
 
 impl Refusal {
+    /// The fault by which these texts, of the policy at the path and of its modules, say none, explained where that is
+    /// asked for; or NoMemory without a word, where there is no memory to explain it.
+    pub fn over(alloc: Global, explain: bool, path: &str, texts: &Texts, fault: Fault) -> Refusal
+        ensures { (told : Told) → AreTextsOf told path.now texts.now.policy.items
+            (map string_bytes texts.now.files.items) (map (λ text. text.items) texts.now.modules.items)
+            → SayNoneLoaded (map (λ text. text.items) texts.now.modules.items) texts.now.policy.items fault
+            → IsNoPolicyWith explain told path.now result.fault (string_bytes result.note) }
+    {
+        let sources = sources_of(path, texts);
+        Refusal::new(alloc, explain, &sources, &texts.policy, fault)
+    }
+
     /// The fault, explained over these texts and that of the policy where that is asked for; or NoMemory without a
     /// word, where there is no memory to explain it.
-    pub fn new(
+    pub(crate) fn new(
         alloc: Global,
         explain: bool,
         sources: &Sources,
@@ -55,24 +69,21 @@ impl Refusal {
             (string_bytes result.note) }
     {
         if !explain {
-            return Refusal {
-                fault,
-                note: String::new(alloc),
-            };
+            return Refusal::plain(alloc, fault);
         }
         match explanation(alloc, sources, policy, &fault) {
             Ok(note) => Refusal { fault, note },
-            Err(_) => Refusal::no_memory(alloc),
+            Err(_) => Refusal::plain(alloc, Fault::NoMemory),
         }
     }
 
-    /// That memory ran out, of which nothing more is said.
-    pub fn no_memory(alloc: Global) -> Refusal
-        ensures fault { result.fault ≡ NoMemory }
+    /// The fault, of which nothing more is said.
+    pub fn plain(alloc: Global, fault: Fault) -> Refusal
+        ensures fault { result.fault ≡ fault }
         ensures silent { string_bytes result.note ≡ [] }
     {
         Refusal {
-            fault: Fault::NoMemory,
+            fault,
             note: String::new(alloc),
         }
     }

@@ -1,11 +1,11 @@
 //! A policy with its modules, in which values are written.
-ghost use Rattle.std.specs.Prelude.{ℕ, List, map, Ok, IfOk, IfErr};
+ghost use Rattle.std.specs.Prelude.{map, Ok, IfOk, IfErr};
 ghost use Rattle.guard_schema.specs.Accepts.{ReadsModules};
-ghost use Rattle.guard_schema.specs.Texts.{AreOfTexts};
 ghost use Rattle.guard_syntax.specs.ModuleViews.{module_view};
 ghost use Rattle.guard_files.specs.Reading.{loaded_view, SayLoaded, SayNoneLoaded};
 
 use crate::fault::Fault;
+use crate::texts::Texts;
 use guard_policy::Policy;
 use guard_schema::BuiltModules;
 use guard_syntax::Module;
@@ -17,29 +17,34 @@ use std::alloc::Global;
 pub struct Loaded<'m, 'a> {
     pub policy: Policy,
     pub modules: BuiltModules<'m, 'a>,
+    /// The trees of the modules.
+    pub trees: &'m [Module<'a>],
 }
 
 impl<'m, 'a> Loaded<'m, 'a> {
-    /// The policy that the text says over these modules, which texts are.
+    /// The policy that the texts say, with its modules, whose trees are kept in the room.
     ///
-    /// It refuses with Schema or Policy, by the first fault of names or definitions in the modules, or of the policy's
-    /// text over them.
+    /// It refuses with Schema or Policy, by the first fault of the modules, or of the policy's text over them.
     pub fn of(
         alloc: Global,
-        modules: &'m [Module<'a>],
-        text: &[u8],
+        texts: &'a Texts,
+        room: &'m mut Vec<Module<'a>>,
     ) -> Result<Loaded<'m, 'a>, Fault>
-        requires { AreOfTexts (map module_view modules.now) }
-        ensures said { (texts : List (List ℕ)) → ReadsModules texts (Ok (map module_view modules.now))
-            → IfOk result (λ l. SayLoaded texts text.now (loaded_view l)) }
-        ensures none { (texts : List (List ℕ)) → ReadsModules texts (Ok (map module_view modules.now))
-            → IfErr result (SayNoneLoaded texts text.now) }
+        ensures said { IfOk result (λ l. SayLoaded (map (λ text. text.items) texts.now.modules.items)
+            texts.now.policy.items (loaded_view l)) }
+        ensures trees { IfOk result (λ l. ReadsModules (map (λ text. text.items) texts.now.modules.items)
+            (Ok (map module_view l.trees.now))) }
+        ensures none { IfErr result (SayNoneLoaded (map (λ text. text.items) texts.now.modules.items)
+            texts.now.policy.items) }
     {
-        let built = BuiltModules::of(alloc, modules)?;
-        let policy = Policy::load(alloc, text, &built.schema)?;
+        *room = texts.trees(alloc)?;
+        let trees = room.as_slice();
+        let built = BuiltModules::of(alloc, trees)?;
+        let policy = Policy::load(alloc, &texts.policy, &built.schema)?;
         Ok(Loaded {
             policy,
             modules: built,
+            trees,
         })
     }
 }

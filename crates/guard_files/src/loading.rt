@@ -8,7 +8,7 @@ ghost use Rattle.guard_files.specs.Files.{IsLater};
 ghost use Rattle.guard_files.specs.Reading.{IsPolicyAt, IsNoPolicyAt, SayNoneLoaded};
 
 use crate::digest::digest_of;
-use crate::explaining::{Refusal, sources_of, sources_of_path};
+use crate::explaining::{Refusal, sources_of_path};
 use crate::fault::Fault;
 use crate::files::Files;
 use crate::texts::{Texts, beside_policy, read};
@@ -39,34 +39,29 @@ pub fn load_numbered<F: Files>(
     ensures none { IfErr result (IsNoPolicyAt (F.told files.old) path.now) }
     ensures later { IsLater (F.told files.old) (F.told files.new) }
 {
-    let texts = Texts::read(alloc, path, files)?;
-    let policy = said_by(alloc, &texts)?;
-    Ok((policy, digest_of(&texts)))
+    match load_noted(alloc, path, false, files) {
+        Ok(found) => Ok(found),
+        Err(refusal) => Err(refusal.fault),
+    }
 }
 
-/// The policy at the path, as `load` finds it; or why there is none, explained where that is asked for.
+/// The policy at the path with the number of its texts; or why there is none, explained where that is asked for.
 pub fn load_noted<F: Files>(
     alloc: Global,
     path: &str,
     explain: bool,
     files: &mut F,
-) -> Result<Policy, Refusal>
-    ensures there { IfOk result (λ p. IsPolicyAt (F.told files.old) path.now (policy_view p)) }
+) -> Result<(Policy, [u8; 32]), Refusal>
+    ensures there { IfOk result (λ p. IsPolicyAt (F.told files.old) path.now (policy_view p.0)) }
+    ensures numbered { IfOk result (λ p. IsNumberedAt (F.told files.old) path.now (policy_view p.0) p.1) }
     ensures none { IfErr result (λ r. IsNoPolicyWith explain (F.told files.old) path.now r.fault
         (string_bytes r.note)) }
+    ensures later { IsLater (F.told files.old) (F.told files.new) }
 {
     let texts = read_noted(alloc, path, explain, files)?;
     match said_by(alloc, &texts) {
-        Ok(policy) => Ok(policy),
-        Err(fault) => {
-            Err(Refusal::new(
-                alloc,
-                explain,
-                &sources_of(path, &texts),
-                &texts.policy,
-                fault,
-            ))
-        }
+        Ok(policy) => Ok((policy, digest_of(&texts))),
+        Err(fault) => Err(Refusal::over(alloc, explain, path, &texts, fault)),
     }
 }
 
@@ -81,6 +76,7 @@ pub fn read_noted<F: Files>(
         (map string_bytes texts.files.items) (map (λ text. text.items) texts.modules.items)) }
     ensures none { IfErr result (λ r. IsNoPolicyWith explain (F.told files.old) path.now r.fault
         (string_bytes r.note)) }
+    ensures later { IsLater (F.told files.old) (F.told files.new) }
 {
     let sources = sources_of_path(path);
     let policy = match read(alloc, path, files) {

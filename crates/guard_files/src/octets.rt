@@ -1,15 +1,8 @@
-//! Octets at the end of others.
+//! A line at the end of a text.
 ghost use Rattle.std.specs.Prelude.{◌≡◌, ◌++◌, OnOk, codes};
 
 use guard_model::OutOfMemory;
-
-/// Appends the octets.
-pub fn add(text: &mut Vec<u8>, octets: &[u8]) -> Result<(), OutOfMemory>
-    ensures { OnOk result (text.new.items ≡ text.old.items ++ octets.now) }
-{
-    text.extend_from_slice(octets)?;
-    Ok(())
-}
+use guard_report::add;
 
 /// Adds a line of this name, behind how it begins.
 pub fn add_line(text: &mut Vec<u8>, start: &[u8], name: &str) -> Result<(), OutOfMemory>

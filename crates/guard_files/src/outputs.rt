@@ -55,10 +55,7 @@ pub fn write_remarked<O: Sink, E: Sink>(answer: &Remarked, out: &mut O, err: &mu
 pub fn tell<E: Sink>(alloc: Global, fault: &Fault, err: &mut E) -> u8
     ensures { Tells fault.now (device_of E.taken E.has_failed err.old err.new) result }
 {
-    match report(alloc, fault, err) {
-        Ok(status) => status,
-        Err(_) => FAILED,
-    }
+    tell_with(alloc, fault, "", err)
 }
 
 /// Reports a fault after `derguard: `, and answers its status, or 3 where there was no memory to say it. It fails where

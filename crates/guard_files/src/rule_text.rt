@@ -1,12 +1,11 @@
 //! The text of a rule.
 ghost use Rattle.std.specs.Prelude.{◌≡◌, ◌++◌, OnOk};
-ghost use Rattle.guard_policy.specs.PolicyView.{route_view, said_view};
-ghost use Rattle.guard_report.specs.Lines.{route_text};
+ghost use Rattle.guard_policy.specs.PolicyView.{said_view};
 ghost use Rattle.guard_files.specs.RuleText.{effect_text, said_text};
 
-use crate::octets::add;
 use guard_model::OutOfMemory;
-use guard_policy::{Effect, Route, SaidRule};
+use guard_policy::{Effect, SaidRule};
+use guard_report::{add, add_route};
 
 /// Adds a rule's route, its effect and its name.
 pub fn add_said(text: &mut Vec<u8>, rule: &SaidRule) -> Result<(), OutOfMemory>
@@ -16,17 +15,6 @@ pub fn add_said(text: &mut Vec<u8>, rule: &SaidRule) -> Result<(), OutOfMemory>
     add_route(text, &rule.route())?;
     add(text, effect_text(rule.effect))?;
     add(text, rule.name.as_bytes())
-}
-
-/// Adds who sends what to whom.
-fn add_route(text: &mut Vec<u8>, route: &Route) -> Result<(), OutOfMemory>
-    ensures { OnOk result (text.new.items ≡ text.old.items ++ route_text (route_view route.now)) }
-{
-    add(text, route.from)?;
-    add(text, b">")?;
-    add(text, route.to)?;
-    add(text, b" ")?;
-    add(text, route.message)
 }
 
 fn effect_text(effect: Effect) -> &'static [u8]

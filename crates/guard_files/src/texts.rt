@@ -12,6 +12,7 @@ ghost use Rattle.guard_files.specs.inside.Texts.{CannotAllBeRead, IsBeforeModule
 
 use crate::fault::Fault;
 use crate::files::{Files, FilesFault};
+use crate::loading::read_noted;
 use guard_notes::beside;
 use guard_policy::module_files;
 use guard_schema::read_modules;
@@ -45,13 +46,10 @@ impl Texts {
         ensures missing { IfErr result (IsNoPolicyAt (F.told files.old) path.now) }
         ensures later { IsLater (F.told files.old) (F.told files.new) }
     {
-        let policy = read(alloc, path, files)?;
-        let (listed, modules) = beside_policy(alloc, path, &policy, files)?;
-        Ok(Texts {
-            policy,
-            files: listed,
-            modules,
-        })
+        match read_noted(alloc, path, false, files) {
+            Ok(texts) => Ok(texts),
+            Err(refusal) => Err(refusal.fault),
+        }
     }
 
     /// The texts of the modules, as a schema is built from them.
@@ -68,7 +66,7 @@ impl Texts {
 
     /// The trees of the modules. It refuses with Schema, by the first fault of tokens or grammar, or where there are
     /// too many modules.
-    pub fn trees(&self, alloc: Global) -> Result<Vec<Module<'_>>, Fault>
+    pub(crate) fn trees(&self, alloc: Global) -> Result<Vec<Module<'_>>, Fault>
         ensures read { IfOk result (λ trees. ReadsModules (map (λ text. text.items) self.now.modules.items)
             (Ok (map module_view trees.items))) }
         ensures kept { IfOk result (λ trees. AreOfTexts (map module_view trees.items)) }

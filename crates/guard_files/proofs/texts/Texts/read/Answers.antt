@@ -1,10 +1,10 @@
-use Rattle.guard_files.proofs.ReadingTexts.{read_later}
+use Rattle.std.proofs.Common.{map, string_bytes}
 use Rattle.guard_files.proofs.texts.Texts.read.Goals as goal
 
-pub returns-in_err-listed-clause-later : goal.returns-in_err-listed-clause-later
-returns-in_err-listed-clause-later g c =
-    read_later (g.F.Files.told c.args.files.now) (g.F.Files.told c.read.new.files) (g.F.Files.told c.beside_policy.new.files) c.read.ensures.next c.beside_policy.ensures.later
+pub returns-in-Ok-clause-read : goal.returns-in-Ok-clause-read
+returns-in-Ok-clause-read g c =
+    let l = c.in-Ok.ensures.listed in
+    (l.0, (map string_bytes c.in-Ok.texts.files.items, l.1, l.2))
 
-pub returns-clause-later : goal.returns-clause-later
-returns-clause-later g c =
-    read_later (g.F.Files.told c.args.files.now) (g.F.Files.told c.read.new.files) (g.F.Files.told c.beside_policy.new.files) c.read.ensures.next c.beside_policy.ensures.later
+pub returns-in-Err-clause-missing : goal.returns-in-Err-clause-missing
+returns-in-Err-clause-missing g c = c.in-Err.ensures.none.0

@@ -7,7 +7,6 @@ pub mod LinkedFrames
 pub mod MessageLaws
 pub mod CapturedFrames
 pub mod Dues
-pub mod Headers
 pub mod JsonNumbers
 pub mod SoundParts
 pub mod Spots

@@ -8,6 +8,7 @@ use Rattle.guard_policy.specs.Decisions.{IsReason}
 use Rattle.guard_report.specs.Text.{verdict_octets}
 use Rattle.guard_notes.specs.Sources.{AbstractSources, sources}
 use Rattle.guard_frames.specs.Bodies.{AbstractBody}
+use Rattle.guard_frames.specs.OfPolicy.{route_of}
 use Rattle.guard_frames.specs.Texts.{SayPolicy}
 use Rattle.guard_files.specs.Explaining.{AreTextsOf}
 use Rattle.guard_files.specs.Files.{Told}
@@ -33,13 +34,10 @@ IsVerdict explain g p route octets a =
     (w : AbstractVerdict) × (note : List ℕ) × IsReason p route octets w × NotesVerdict explain g p route octets w note
     × (a.out ≡ verdict_octets p route w ++ codes "\n" ++ note) × (a.status ≡ verdict_status w)
 
-abbrev pub body_route : AbstractBody → AbstractRoute
-body_route b = record { from = b.sender; to = b.receiver; message = b.name }
-
 -- What is answered to it, by its route and its octets. A frame that isn't three names and a message is said to be none,
 -- as a report says it.
 abbrev pub OfHeld : (AbstractRoute → List ℕ → AbstractAnswer → Type 0) → Option AbstractBody → AbstractAnswer → Type 0
-OfHeld IsAnswer (Some b) a = IsAnswer (body_route b) b.message_octets a
+OfHeld IsAnswer (Some b) a = IsAnswer (route_of b) b.message_octets a
 OfHeld IsAnswer None a = (a.out ≡ codes "bad-header\n") × (a.status ≡ 1)
 
 -- the verdict on it, under the policy that these texts say, over the trees that those of the modules are; and below it

@@ -2,12 +2,12 @@
 use Rattle.std.specs.Prelude.{ℕ, Bool, true, false, List, codes, Option, Some, None}
 use Rattle.guard_policy.specs.Policies.{AbstractPolicy, AbstractRoute}
 use Rattle.guard_frames.specs.Bodies.{AbstractBody, body_in}
-use Rattle.guard_files.specs.Answers.{AbstractAnswer, Gives, GivesExplained}
+use Rattle.guard_files.specs.Answers.{AbstractAnswer, Gives}
 use Rattle.guard_files.specs.Devices.{Input, Device, IsUnread, IsUntouched}
 use Rattle.guard_files.specs.Explaining.{IsNoPolicyWith}
 use Rattle.guard_files.specs.Files.{Told}
 use Rattle.guard_files.specs.Bodies.{route_body}
-use Rattle.guard_files.specs.Reading.{IsPolicyAt, IsNoPolicyAt}
+use Rattle.guard_files.specs.Reading.{IsPolicyAt}
 use Rattle.guard_files.specs.Writing.{TellsText}
 use Rattle.guard_messages.specs.Decided.{IsHeldDecided}
 use Rattle.guard_messages.specs.Finding.{AnswersFound, CapturesFrame}
@@ -36,7 +36,7 @@ TellsUnasked input out err status = IsUnread input × IsUntouched out × TellsTe
 abbrev pub GivesHeld : Bool → Told → List ℕ → AbstractSpot → Option AbstractBody → List ℕ → Device → Device → ℕ
     → Type 0
 GivesHeld explain told path spot held octets =
-    GivesExplained (IsHeldDecided explain told path spot held octets) (IsNoPolicyWith explain told path)
+    Gives (IsHeldDecided explain told path spot held octets) (IsNoPolicyWith explain told path)
 
 abbrev pub DecidesAt : Option AbstractSpot → Told → AbstractQuestion → Input → Device → Device → ℕ → Type 0
 DecidesAt (Some spot) told q input out err status =
@@ -59,7 +59,7 @@ abbrev pub ShowsAt : Option AbstractSpot → Told → AbstractQuestion → Input
 ShowsAt (Some spot) told q input out err status =
     AnswersFound false
     (λ later octets. Gives (IsHeldShown q later (held_in (asked_route q) spot octets))
-    (IsNoPolicyAt later q.policy))
+    (IsNoPolicyWith false later q.policy))
     told spot input out err status
 ShowsAt None told q input out err status = TellsUnasked input out err status
 

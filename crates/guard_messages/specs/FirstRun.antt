@@ -1,10 +1,9 @@
 -- The module, the policy and the four messages that are built in, and what is printed for them.
-use Rattle.std.specs.Prelude.{ℕ, List, [], ◌∷◌, ◌++◌, codes, ◌≡◌, ◌⊎◌}
+use Rattle.std.specs.Prelude.{ℕ, List, [], ◌∷◌, ◌++◌, codes, ◌≡◌}
 use Rattle.guard_policy.specs.Policies.{AbstractPolicy}
 use Rattle.guard_frames.specs.Texts.{SayPolicy}
 use Rattle.guard_files.specs.declared.fault.Fault.{Fault}
-use Rattle.guard_files.specs.declared.fault.Fault.TheVariants.{NoMemory}
-use Rattle.guard_files.specs.Reading.{SayNothing}
+use Rattle.guard_files.specs.Reading.{SayNoneLoaded}
 use Rattle.guard_files.specs.Answers.{AbstractAnswer}
 use Rattle.guard_messages.specs.Printing.{AbstractMessageSent, AreLines}
 
@@ -44,5 +43,5 @@ abbrev pub IsFirst : AbstractAnswer → Type 0
 IsFirst a = IsFirstRun a.out × (a.status ≡ 0)
 
 -- The texts that are built in say no policy, which the run without words disproves; or memory ran out.
-abbrev pub IsNoFirst : Fault → Type 0
-IsNoFirst f = SayNothing (first_module ∷ []) first_policy f ⊎ (f ≡ NoMemory)
+abbrev pub IsNoFirst : Fault → List ℕ → Type 0
+IsNoFirst f note = SayNoneLoaded (first_module ∷ []) first_policy f × (note ≡ [])

@@ -11,11 +11,12 @@ use Rattle.guard_policy.specs.Policies.{AbstractPolicy, AbstractRoute, declared_
 use Rattle.guard_policy.specs.Verdicts.{AbstractVerdict, unknown_message, undecodable}
 use Rattle.guard_report.specs.Text.{verdict_octets}
 use Rattle.guard_frames.specs.Bodies.{AbstractBody}
+use Rattle.guard_frames.specs.OfPolicy.{route_of}
 use Rattle.guard_json.specs.Objects.{json_line}
 use Rattle.guard_report.specs.Shown.{AbstractShown, shown_value, shown_undecodable, value_shown, breach_shown}
 use Rattle.guard_files.specs.Allowed.{OfValue}
 use Rattle.guard_files.specs.Answers.{AbstractAnswer}
-use Rattle.guard_messages.specs.Decided.{OfHeld, body_route}
+use Rattle.guard_messages.specs.Decided.{OfHeld}
 use Rattle.guard_messages.specs.PartsBefore.{AreLinesBefore}
 use Rattle.guard_messages.specs.ValueJson.{value_json}
 
@@ -72,7 +73,7 @@ ShowsJson p route octets a =
 
 -- of what is held, where a frame that isn't three names and a message is said to be none
 abbrev pub ShowsHeldJson : AbstractPolicy → Option AbstractBody → AbstractAnswer → Type 0
-ShowsHeldJson p (Some b) a = ShowsJson p (body_route b) b.message_octets a
+ShowsHeldJson p (Some b) a = ShowsJson p (route_of b) b.message_octets a
 ShowsHeldJson p None a = (a.out ≡ on_a_line (codes "bad-header")) × (a.status ≡ 1)
 
 -- by whether that is asked for, and whether octets that break the rules are to be explained

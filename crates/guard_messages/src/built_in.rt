@@ -1,11 +1,13 @@
 //! Four messages, decided by the policy that is built in.
-ghost use Rattle.std.specs.Prelude.{IfOk, IfErr, OnOk};
+ghost use Rattle.std.specs.Prelude.{[], ◌∷◌, string_bytes, IfOk, IfErr, OnOk};
 ghost use Rattle.guard_policy.specs.PolicyView.{policy_view};
 ghost use Rattle.guard_files.specs.Answers.{answer_view};
-ghost use Rattle.guard_messages.specs.FirstRun.{IsFirst, IsNoFirst, sent, first_messages};
+ghost use Rattle.guard_files.specs.Reading.{SayNoneLoaded};
+ghost use Rattle.guard_messages.specs.FirstRun.{IsFirst, IsFirstRun, IsNoFirst, sent, first_messages};
+ghost use Rattle.guard_messages.specs.FirstRun.{first_module, first_policy};
 ghost use Rattle.guard_messages.specs.Printing.{AreLines, AppendsLine};
 
-use guard_files::{Answer, Fault};
+use guard_files::{Answer, Fault, Refusal};
 use guard_frames::load_texts;
 use guard_model::OutOfMemory;
 use guard_policy::{Policy, Route};
@@ -29,13 +31,22 @@ const POLICY: &str =
 ///
 /// It refuses with Schema or Policy where the texts that are built in have a fault, which the run without words shows
 /// that they haven't. NoMemory may come in place of any answer.
-pub fn first_run(alloc: Global) -> Result<Answer, Fault>
+pub fn first_run(alloc: Global) -> Result<Answer, Refusal>
     ensures first { IfOk result (λ a. IsFirst (answer_view a)) }
-    ensures none { IfErr result IsNoFirst }
+    ensures none { IfErr result (λ r. IsNoFirst r.fault (string_bytes r.note)) }
+{
+    match first_lines(alloc) {
+        Ok(out) => Ok(Answer { out, status: 0 }),
+        Err(fault) => Err(Refusal::plain(alloc, fault)),
+    }
+}
+
+fn first_lines(alloc: Global) -> Result<Vec<u8>, Fault>
+    ensures first { IfOk result (λ out. IsFirstRun out.items) }
+    ensures none { IfErr result (SayNoneLoaded (first_module ∷ []) first_policy) }
 {
     let policy = load_texts(alloc, &[MODULE.as_bytes()], POLICY.as_bytes())?;
-    let out = decide_first(alloc, &policy)?;
-    Ok(Answer { out, status: 0 })
+    Ok(decide_first(alloc, &policy)?)
 }
 
 /// A line for each of the four messages, with the text of its verdict.

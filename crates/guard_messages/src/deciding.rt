@@ -13,11 +13,13 @@ ghost use Rattle.guard_messages.specs.Questions.{spot_view};
 ghost use Rattle.guard_messages.specs.RuleTypes.{grounds_view};
 
 use crate::header_notes::spot_note;
-use crate::holding::{bad_header, route_in};
+use crate::holding::bad_header;
 use crate::question::Spot;
 use crate::reasons::verdict_note;
 use crate::rule_types::Grounds;
-use guard_files::{Answer, Fault, Files, Loaded, Refusal, Texts, add, read_noted, sources_of};
+use guard_files::{
+    Answer, Fault, Files, Loaded, Refusal, Texts, add, read_noted, route_in, sources_of,
+};
 use guard_frames::Body;
 use guard_model::OutOfMemory;
 use guard_policy::{Policy, Route, Verdict};
@@ -43,15 +45,7 @@ pub fn decide_held<F: Files>(
     let texts = read_noted(alloc, path, explain, files)?;
     match decided_over(alloc, path, explain, spot, held, octets, &texts) {
         Ok(answer) => Ok(answer),
-        Err(fault) => {
-            Err(Refusal::new(
-                alloc,
-                explain,
-                &sources_of(path, &texts),
-                &texts.policy,
-                fault,
-            ))
-        }
+        Err(fault) => Err(Refusal::over(alloc, explain, path, &texts, fault)),
     }
 }
 
@@ -72,11 +66,11 @@ fn decided_over(
     ensures none { IfErr result (SayNoneLoaded
         (map (λ text. text.items) texts.now.modules.items) texts.now.policy.items) }
 {
-    let modules = texts.trees(alloc)?;
-    let loaded = Loaded::of(alloc, &modules, &texts.policy)?;
+    let mut trees = Vec::new(alloc);
+    let loaded = Loaded::of(alloc, texts, &mut trees)?;
     let grounds = Grounds {
         sources: sources_of(path, texts),
-        modules: &modules,
+        modules: loaded.trees,
     };
     let verdict = verdict_answer(alloc, explain, &grounds, &loaded.policy, held)?;
     let names = spot_note(alloc, explain, spot, held, octets)?;

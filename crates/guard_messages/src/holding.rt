@@ -1,18 +1,18 @@
 //! The message that octets are, or that a frame holds, and what is answered to it.
-ghost use Rattle.std.specs.Prelude.{◌≡◌, codes, option_map, IfOk, IfErr};
+ghost use Rattle.std.specs.Prelude.{◌≡◌, codes, false, option_map, string_bytes, IfOk, IfErr};
 ghost use Rattle.guard_policy.specs.PolicyView.{policy_view, route_view};
 ghost use Rattle.guard_frames.specs.Bodies.{body_view};
 ghost use Rattle.guard_files.specs.Answers.{answer_view};
 ghost use Rattle.guard_files.specs.Bodies.{route_body};
-ghost use Rattle.guard_files.specs.Reading.{IsNoPolicyAt};
-ghost use Rattle.guard_messages.specs.Decided.{body_route, OfHeld};
+ghost use Rattle.guard_files.specs.Explaining.{IsNoPolicyWith};
+ghost use Rattle.guard_messages.specs.Decided.{OfHeld};
 ghost use Rattle.guard_messages.specs.Deciding.{held_in, IsHeldShown};
 ghost use Rattle.guard_messages.specs.Questions.{question_view, asked_route, spot_view};
 ghost use Rattle.guard_messages.specs.Shown.{ShowsHeld, ShowsHeldJson, ShowsMessage};
 
 use crate::question::{Question, Spot};
 use crate::values::{on_a_line, show_json, show_octets};
-use guard_files::{Answer, Fault, Files, load};
+use guard_files::{Answer, Fault, Files, Refusal, load_noted, route_in};
 use guard_frames::{Body, read_body};
 use guard_model::OutOfMemory;
 use guard_policy::{Policy, Route};
@@ -60,16 +60,6 @@ pub fn body_of<'a>(from: &'a [u8], to: &'a [u8], message: &'a [u8], octets: &'a 
     }
 }
 
-pub fn route_in<'a>(body: &Body<'a>) -> Route<'a>
-    ensures { route_view result ≡ body_route (body_view body.now) }
-{
-    Route {
-        from: body.sender,
-        to: body.receiver,
-        message: body.name,
-    }
-}
-
 /// What is answered where a frame isn't three names and a message.
 pub fn bad_header(alloc: Global) -> Result<Answer, OutOfMemory>
     ensures { IfOk result (λ a. (a.out.items ≡ codes "bad-header\n") × (a.status ≡ 1)) }
@@ -84,13 +74,17 @@ pub fn show_held<F: Files>(
     question: &Question,
     held: Option<Body>,
     files: &mut F,
-) -> Result<Answer, Fault>
+) -> Result<Answer, Refusal>
     ensures shown { IfOk result (λ a. IsHeldShown (question_view question.now) (F.told files.old)
         (option_map body_view held.entry) (answer_view a)) }
-    ensures none { IfErr result (IsNoPolicyAt (F.told files.old) (question_view question.now).policy) }
+    ensures none { IfErr result (λ r. IsNoPolicyWith false (F.told files.old) (question_view question.now).policy
+        r.fault (string_bytes r.note)) }
 {
-    let policy = load(alloc, question.policy, files)?;
-    Ok(shown_answer(alloc, &policy, question, held)?)
+    let (policy, _) = load_noted(alloc, question.policy, false, files)?;
+    match shown_answer(alloc, &policy, question, held) {
+        Ok(answer) => Ok(answer),
+        Err(_) => Err(Refusal::plain(alloc, Fault::NoMemory)),
+    }
 }
 
 fn shown_answer(

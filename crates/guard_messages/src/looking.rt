@@ -2,8 +2,8 @@
 ghost use Rattle.std.specs.Prelude.{false, IfOk, IfErr};
 ghost use Rattle.guard_files.specs.Answers.{Gives};
 ghost use Rattle.guard_files.specs.Devices.{source_of, device_of, IsUntouched};
+ghost use Rattle.guard_files.specs.Explaining.{IsNoPolicyWith};
 ghost use Rattle.guard_files.specs.Files.{Told};
-ghost use Rattle.guard_files.specs.Reading.{IsNoPolicyAt};
 ghost use Rattle.guard_messages.specs.Deciding.{CapturesAt, Decides, ShowsAsked, ShowsAt, GivesHeld};
 ghost use Rattle.guard_messages.specs.Deciding.{held_in, IsHeldShown};
 ghost use Rattle.guard_files.specs.Writing.{Writes};
@@ -15,7 +15,7 @@ use crate::finding::{find, frame_of_link, frame_of_number};
 use crate::holding::{held_in, route_asked, show_held};
 use crate::question::{Question, Spot};
 use crate::unfound::{Unfound, tell_unfound};
-use guard_files::{Files, give, give_explained, tell_text, write};
+use guard_files::{Files, give, tell_text, write};
 use guard_frames::{Sink, Source};
 use std::alloc::Global;
 
@@ -162,7 +162,7 @@ fn decide_found<F: Files, S: Source, O: Sink, E: Sink>(
             let held = held_in(route.from, route.to, route.message, spot, &octets);
             let (path, explain) = (question.policy, question.explain);
             let decided = decide_held(alloc, path, explain, spot, held, &octets, files);
-            give_explained(alloc, decided, out, err)
+            give(alloc, decided, out, err)
         }
         Err(reason) => tell_unfound(alloc, question.explain, &reason, err),
     }
@@ -181,7 +181,7 @@ fn show_found<F: Files, S: Source, O: Sink, E: Sink>(
     ensures { AnswersFound false (λ later octets.
         Gives (IsHeldShown (question_view question.now) later
         (held_in (asked_route (question_view question.now)) (spot_view spot.now) octets))
-        (IsNoPolicyAt later (question_view question.now).policy))
+        (IsNoPolicyWith false later (question_view question.now).policy))
         (F.told files.old) (spot_view spot.now)
         (source_of S.tells S.takes S.has_failed input.old input.new)
         (device_of O.taken O.has_failed out.old out.new)

@@ -4,7 +4,7 @@ ghost use Rattle.std.specs.Prelude.{string_bytes, IfOk, OnOk, IfSome, IsTrue};
 ghost use Rattle.guard_model.specs.TypeView.{component_view, components_of, kind_view, type_view};
 ghost use Rattle.guard_model.specs.ValueView.{value_view};
 ghost use Rattle.guard_der.specs.Sound.{is_sound};
-ghost use Rattle.guard_report.specs.Places.{header_there, inside_element, inside_tags, inside_value};
+ghost use Rattle.guard_report.specs.Places.{inside_value};
 ghost use Rattle.guard_report.specs.ValueText.{value_octets};
 ghost use Rattle.guard_report.specs.declared.layout.Layout.TheVariants.{Line};
 ghost use Rattle.guard_notes.specs.Marking.{columns};
@@ -14,11 +14,11 @@ ghost use Rattle.guard_messages.specs.PartsBefore.{spot_inside};
 ghost use Rattle.guard_messages.specs.inside.Spots.{AddsPart, FollowsPart, HoldsSound, IsNumbered, StepsOver};
 ghost use Rattle.guard_messages.specs.inside.Spots.{StepsTo, due_view, part_view, spot_in_view};
 
-use guard_der::{DecodeFault, Header, decode, header};
+use guard_der::{DecodeFault, decode};
 use guard_files::add;
 use guard_model::{Comp, Kind, OutOfMemory, Tag, Ty, Value};
 use guard_notes::columns;
-use guard_report::part_text;
+use guard_report::{header_there, inside_value, part_text};
 use guard_tagcheck::begins_with;
 use std::alloc::{AllocError, Global};
 
@@ -139,18 +139,6 @@ fn past_or_inside<'a>(
     }))
 }
 
-/// The header of the element that begins at the offset; None without an offset, and where none begins there.
-fn header_there(octets: &[u8], at: Option<usize>) -> Option<Header>
-    ensures header { result ≡ header_there octets.now at }
-    ensures within { IfSome at (λ at. IfSome result (λ h. (at ≤ h.end) × (h.end ≤ length octets.now))) }
-{
-    let at = at?;
-    if octets.len() < at {
-        return None;
-    }
-    header(octets, at).ok()
-}
-
 /// The part that an element with this tag is.
 fn part_due<'a>(
     alloc: Global,
@@ -238,30 +226,12 @@ fn inside<'a>(octets: &[u8], at: usize, part: Part<'a>) -> Option<SpotIn<'a>>
     ensures { option_map spot_in_view result
         ≡ spot_inside (part_view part.entry) (inside_value octets.now (Some (part_view part.entry).ty) (Some at)) }
 {
-    let at = inside_tags(octets, &part.ty.tags, Some(at))?;
+    let at = inside_value(octets, Some(part.ty), Some(at))?;
     Some(SpotIn {
         at,
         way: part.way,
         due: due_inside(&part.ty.kind),
     })
-}
-
-/// The offset of the contents inside these tags, of an element that begins at this offset.
-fn inside_tags(octets: &[u8], tags: &[Tag], at: Option<usize>) -> Option<usize>
-    ensures { result ≡ inside_tags octets.now tags.now at }
-{
-    let mut inner = at;
-    for _tag in tags {
-        inner = inside_element(octets, inner);
-    }
-    inner
-}
-
-/// The offset of the contents of an element that begins at this offset.
-fn inside_element(octets: &[u8], at: Option<usize>) -> Option<usize>
-    ensures { result ≡ inside_element octets.now at }
-{
-    Some(header_there(octets, at)?.contents)
 }
 
 /// What may begin in the contents of a value of the kind.

@@ -9,15 +9,16 @@ ghost use Rattle.json.specs.Print.{print, IsPrintable};
 ghost use Rattle.json.specs.Reads.{token_of};
 ghost use Rattle.json.specs.Token.{begin_array, begin_object, end_array, end_object, key, number, string};
 ghost use Rattle.guard_model.specs.declared.site.Step.TheVariants.{Component};
-ghost use Rattle.guard_model.specs.TypeView.{type_view, component_view, named_view};
+ghost use Rattle.guard_model.specs.TypeView.{type_view, named_view};
 ghost use Rattle.guard_model.specs.ValueView.{value_view, fields_view, items_view};
 ghost use Rattle.guard_report.specs.Strings.{name_of};
-ghost use Rattle.guard_report.specs.Text.{component_of, element_type, type_within};
-ghost use Rattle.guard_report.specs.ValueText.{items_known, part_name};
+ghost use Rattle.guard_report.specs.Text.{element_type, type_within};
+ghost use Rattle.guard_report.specs.ValueText.{part_name};
 ghost use Rattle.guard_messages.specs.ValueJson.{bits_json, dotted, elements_json, item_json, members_json};
 ghost use Rattle.guard_messages.specs.ValueJson.{value_json};
 
-use guard_model::{Bits, Comp, Kind, Named, OutOfMemory, Ty, Value};
+use guard_model::{Bits, Named, OutOfMemory, Ty, Value};
+use guard_report::{component_at, element_type, items_known, name_of, part_type};
 use itoa::Buffer;
 use json::{Token, Writer};
 use std::alloc::Global;
@@ -263,54 +264,4 @@ fn add_arc(text: &mut String, arc: u128) -> Result<(), OutOfMemory>
     let mut buffer = Buffer::new();
     text.push_str(buffer.format(arc))?;
     Ok(())
-}
-
-// ---- what the type knows
-
-/// The component or alternative at this place of the written list, from 0; None where no type is known, or it has no
-/// such part.
-fn component_at(ty: Option<&Ty>, place: usize) -> Option<&Comp>
-    ensures { option_map (λ comp. component_view comp.now) result
-        ≡ component_of (option_map (λ ty. type_view ty.now) ty.entry) place }
-{
-    let kind = &ty?.kind;
-    kind.components().get(place)
-}
-
-/// The type of that part.
-fn part_type(ty: Option<&Ty>, place: usize) -> Option<&Ty>
-    ensures { option_map (λ ty. type_view ty.now) result
-        ≡ type_within (option_map (λ ty. type_view ty.now) ty.entry) (Component place) }
-{
-    Some(&component_at(ty, place)?.ty)
-}
-
-/// The type of the elements of an OF type; None where no type is known, or it is no OF type.
-fn element_type(ty: Option<&Ty>) -> Option<&Ty>
-    ensures { option_map (λ ty. type_view ty.now) result ≡ element_type (option_map (λ ty. type_view ty.now) ty.entry) }
-{
-    ty?.kind.element()
-}
-
-/// The items of an ENUMERATED; none where no type is known, or of another one.
-fn items_known(ty: Option<&Ty>) -> &[Named]
-    ensures { map named_view result.now ≡ items_known (option_map (λ ty. type_view ty.now) ty.entry) }
-{
-    let Some(ty) = ty else { return &[] };
-    match &ty.kind {
-        Kind::Enumerated(items) => items.as_slice(),
-        _ => &[],
-    }
-}
-
-/// The first name of this number; None where none has it.
-fn name_of(names: &[Named], number: i128) -> Option<&str>
-    ensures { option_map (λ name. name.now) result ≡ name_of (map named_view names.now) number }
-{
-    for named in names {
-        if named.number == number {
-            return Some(&named.name);
-        }
-    }
-    None
 }

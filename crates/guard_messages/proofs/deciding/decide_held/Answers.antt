@@ -1,5 +1,4 @@
 use Rattle.std.proofs.Common.{map, string_bytes}
-use Rattle.guard_files.proofs.ExplainedFaults.{texts_refused}
 use Rattle.guard_messages.proofs.deciding.decide_held.Goals as goal
 
 pub returns-in-Ok-clause-decided : goal.returns-in-Ok-clause-decided
@@ -13,7 +12,4 @@ returns-in-Ok-clause-decided g c =
     )
 
 pub returns-clause-none : goal.returns-clause-none
-returns-clause-none g c =
-    let t = c.in_ok-texts.texts in
-    texts_refused (g.F.Files.told c.args.files.now) c.args.path.now (string_bytes c.new.result.note) t.policy.items (map string_bytes t.files.items) (map (λ text. text.items) t.modules.items)
-    c.in_ok-texts.ensures.listed c.args.explain c.in-Err.fault c.new.result.fault c.in-Err.ensures.none (rw (c.sources_of.ensures, c.deref.ensures.value) at c.new.ensures)
+returns-clause-none g c = c.over.ensures (g.F.Files.told c.args.files.now) c.in_ok-texts.ensures.listed c.in-Err.ensures.none

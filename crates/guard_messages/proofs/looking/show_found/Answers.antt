@@ -1,10 +1,10 @@
-use Rattle.std.proofs.Common.{◌∙◌, ap, inl, subst}
+use Rattle.std.proofs.Common.{◌∙◌, ap, false, inl, subst}
 use Rattle.std.specs.Prelude.{Option, option_map}
 use Rattle.guard_frames.specs.Bodies.{AbstractBody, body_view}
 use Rattle.guard_files.specs.Devices.{device}
 use Rattle.guard_policy.specs.Policies.{AbstractRoute}
 use Rattle.guard_files.specs.Answers.{Gives}
-use Rattle.guard_files.specs.Reading.{IsNoPolicyAt}
+use Rattle.guard_files.specs.Explaining.{IsNoPolicyWith}
 use Rattle.guard_files.proofs.GivenAnswers.{gives}
 use Rattle.guard_messages.specs.Questions.{asked_route, question_view, spot_view}
 use Rattle.guard_messages.specs.Deciding.{IsHeldShown, held_in}
@@ -23,8 +23,8 @@ returns-in-Ok g c =
         c.in-Ok.octets.items,
         later,
         c.in-Ok.ensures.found,
-        subst (λ (h : Option AbstractBody). Gives (IsHeldShown q later h) (IsNoPolicyAt later q.policy) out err c.give.result) same
-            (gives (IsHeldShown q later (option_map body_view c.held_in-held.result)) (IsNoPolicyAt later q.policy) out err c.give.result c.show_held.result
+        subst (λ (h : Option AbstractBody). Gives (IsHeldShown q later h) (IsNoPolicyWith false later q.policy) out err c.give.result) same
+            (gives (IsHeldShown q later (option_map body_view c.held_in-held.result)) (IsNoPolicyWith false later q.policy) out err c.give.result c.show_held.result
             c.show_held.ensures.shown c.show_held.ensures.none c.give.ensures.written c.give.ensures.told),
       ),
     )

@@ -1,22 +1,14 @@
 -- The rows of frames, counted one after another.
-use Rattle.std.proofs.Common.{◌≡◌, ◌∙◌, ◌+◌, ◌<◌, ◌≤◌, ◌||◌, inr, ℕ, Bool, true, false, true≢false, cond, List, [], ◌∷◌, ◌++◌, ap, refl, sym, subst, length, drop, set, get_or, replicate, arith, append_assoc}
-use Rattle.std.specs.Prelude.{nat_eq, Option, Some, None, Result, Ok, Err, OnOk}
+use Rattle.std.proofs.Common.{◌≡◌, ◌∙◌, ◌+◌, ◌<◌, ◌≤◌, ℕ, Bool, true, false, cond, List, [], ◌∷◌, ◌++◌, ap, refl, sym, subst, length, drop, set, get_or, replicate, arith, append_assoc}
+use Rattle.std.specs.Prelude.{nat_eq, Some, Result, Ok, Err, OnOk}
 use Rattle.std.proofs.lemmas.Grind.{get_or_default_zero}
-use Rattle.std.specs.List.{count_by, list_any}
+use Rattle.std.specs.List.{count_by}
 use Rattle.std.proofs.lemmas.Bool.{eqb-true, eqb-false}
 use Rattle.std.proofs.lemmas.List.{append-nil, get_or-set_same, get_or-set_other, get_or-replicate, length-set, length-replicate}
 use Rattle.std.proofs.lemmas.List.Sums.{sum_by_push}
-use Rattle.guard_eval.specs.Violations.{AbstractViolation, violation}
-use Rattle.guard_model.specs.AbstractType.{AbstractType}
-use Rattle.guard_model.specs.AbstractValue.{AbstractValue}
-use Rattle.guard_reader.specs.declared.marks.Marks.{Marks}
-use Rattle.guard_policy.specs.Consistency.{IsConsistent}
-use Rattle.guard_policy.specs.Decisions.{Goes, IsReason, NumberedRule, allows, by_allowing, by_rules, first_allowing, first_denying, is_allowing, judged, rules_of, shortfalls}
+use Rattle.guard_policy.specs.Decisions.{IsReason}
 use Rattle.guard_policy.specs.Policies.{AbstractPolicy, AbstractRoute}
-use Rattle.guard_policy.specs.Verdicts.{AbstractVerdict, pass, denied_by, not_allowed, no_rule, outside_type}
-use Rattle.guard_policy.specs.Told.{AreMarksOf}
-use Rattle.guard_policy.proofs.Goes.{passes_from_goes}
-use Rattle.guard_policy.proofs.OneReason.{one_reason}
+use Rattle.guard_policy.specs.Verdicts.{AbstractVerdict}
 use Rattle.guard_frames.specs.Bodies.{AbstractBody, body_in}
 use Rattle.guard_frames.specs.OfPolicy.{route_of}
 use Rattle.guard_frames.specs.Totals.{later}
@@ -205,47 +197,3 @@ row_is p b route w row same reason is = (
   subst (λ (r : AbstractRoute). IsReason p r b.message_octets w) same reason,
   subst (λ (r : AbstractRoute). IsRow p r b.message_octets w row) same is,
 )
-
--- of a message that goes some rule allows the value
-
-unviolated : (x : Option AbstractViolation) (k : AbstractVerdict) → (elim x [ Some w ↦ outside_type w | None ↦ k ]) ≡ pass → k ≡ pass
-unviolated None k e = e
-unviolated (Some w) k e = absurd cc
-
-undenied : (x : Option ℕ) (k : AbstractVerdict) → (elim x [ Some i ↦ denied_by i | None ↦ k ]) ≡ pass → k ≡ pass
-undenied None k e = e
-undenied (Some i) k e = absurd cc
-
-abbrev some_allows : List NumberedRule → AbstractValue → Bool
-some_allows rules v = list_any (λ r. allows r.rule v) rules
-
-allowed : (b c : Bool) (found : List (ℕ × AbstractViolation)) → cond b pass (cond c (not_allowed found) no_rule) ≡ pass → b ≡ true
-allowed true c found e = refl
-allowed false true found e = absurd cc
-allowed false false found e = absurd cc
-
-judged_allowed : (t : AbstractType) (rules : List NumberedRule) (v : AbstractValue) → judged t rules v ≡ pass → some_allows rules v ≡ true
-judged_allowed t rules v e =
-    allowed (some_allows rules v) (list_any (λ r. is_allowing r.rule) rules) (shortfalls rules v)
-    (undenied (first_denying rules v) (by_allowing rules v) (unviolated (violation t v) (by_rules rules v) e))
-
-none_allows : (rules : List NumberedRule) (v : AbstractValue) → first_allowing rules v ≡ None → some_allows rules v ≡ false
-none_allows [] v e = refl
-none_allows (r ∷ rs) v e =
-    (elim (allows r.rule v) as (λ b. cond b (Some r.number) (first_allowing rs v) ≡ None → (b || some_allows rs v) ≡ false) [
-      | true ↦ λ is. absurd cc
-      | false ↦ λ is. none_allows rs v is
-    ]) e
-
-pub first_there : (p : AbstractPolicy) (route : AbstractRoute) (octets : List ℕ) (marks : Marks) → IsConsistent p.messages p.rules → Goes p route octets
-    → (are : AreMarksOf p route.message octets marks) → first_allowing (rules_of p route) are.value ≡ None → ⊥
-first_there p route octets marks ok goes are none =
-    let rules = rules_of p route in
-    let e : pass ≡ judged are.ty rules are.value =
-    one_reason p route octets pass (judged are.ty rules are.value) ok (passes_from_goes p route octets goes)
-    (inr (are.ty, are.declared, inr (are.value, are.fitting, are.encoded, refl))) in
-    true≢false (sym (judged_allowed are.ty rules are.value (sym e)) ∙ none_allows rules are.value none)
-
-pub first_row : (p : AbstractPolicy) (route : AbstractRoute) (octets : List ℕ) (marks : Marks) (i : ℕ) (are : AreMarksOf p route.message octets marks)
-    → first_allowing (rules_of p route) are.value ≡ Some i → IsRow p route octets pass (Rule i)
-first_row p route octets marks i are first = (are.ty, are.value, are.declared, are.fitting, are.encoded, (i, first, refl))

@@ -1,13 +1,13 @@
 -- What `compare --summary` tells: how many frames each rule of a policy let through or stopped, and how many no rule did.
 use Rattle.std.specs.Prelude.{◌≡◌, ℕ, ◌+◌, nat_eq, Bool, true, false, List, [], ◌∷◌, ◌++◌, codes, decimal, drop, Option, Some, None, if◌then◌else◌}
 use Rattle.std.specs.List.{count_by}
-use Rattle.guard_policy.specs.Decisions.{IsReason, first_allowing, rules_of}
+use Rattle.guard_policy.specs.Decisions.{IsReason}
 use Rattle.guard_policy.specs.Policies.{AbstractPolicy, AbstractRoute, AbstractRule}
+use Rattle.guard_policy.specs.Told.{IsAllowedBy}
 use Rattle.guard_policy.specs.Verdicts.{AbstractVerdict, pass, unknown_message, undecodable, outside_type, denied_by, not_allowed, no_rule}
 use Rattle.guard_frames.specs.Bodies.{AbstractBody, body_in}
 use Rattle.guard_frames.specs.OfPolicy.{route_of}
 use Rattle.guard_frames.specs.Totals.{later}
-use Rattle.guard_files.specs.Allowed.{OfValue}
 use Rattle.guard_files.specs.RuleText.{said_text}
 use Rattle.guard_authors.specs.Differing.{AbstractComparison}
 use Rattle.guard_authors.specs.declared.summary.Row.{Row}
@@ -17,12 +17,10 @@ use Rattle.guard_authors.specs.declared.summary.Unruled.TheVariants.{BadHeader, 
 
 -- ---- the row in which a frame is counted
 
--- By the verdict on a message: the first rule that allows its value, where it goes; the rule that denies it; and where no
--- rule has it the reason.
+-- By the verdict on a message: the first rule of its route that allows it, where it goes; the rule that denies it; and
+-- where no rule has it the reason.
 abbrev pub IsRow : AbstractPolicy → AbstractRoute → List ℕ → AbstractVerdict → Row → Type 0
-IsRow p route octets pass row =
-    OfValue p route.message octets
-    (λ t v. (i : ℕ) × (first_allowing (rules_of p route) v ≡ Some i) × (row ≡ Rule i))
+IsRow p route octets pass row = (i : ℕ) × IsAllowedBy p route octets i × (row ≡ Rule i)
 IsRow p route octets (denied_by i) row = row ≡ Rule i
 IsRow p route octets unknown_message row = row ≡ Reason UnknownMessage
 IsRow p route octets (undecodable b) row = row ≡ Reason Undecodable

@@ -7,7 +7,7 @@ ghost use Rattle.guard_authors.specs.Checked.{checked_text, counts_text, IsCheck
 ghost use Rattle.guard_authors.specs.Listing.{listing};
 
 use crate::listing::listing;
-use guard_files::{Answer, Files, Refusal, add, load_noted};
+use guard_files::{Answer, Fault, Files, Refusal, add, load_noted};
 use guard_model::OutOfMemory;
 use guard_policy::Policy;
 use std::alloc::{AllocError, Global};
@@ -24,10 +24,10 @@ pub fn check<F: Files>(
     ensures none { IfErr result (λ r. IsNoPolicyWith explain (F.told files.old) path.now r.fault
         (string_bytes r.note)) }
 {
-    let policy = load_noted(alloc, path, explain, files)?;
+    let (policy, _) = load_noted(alloc, path, explain, files)?;
     match checked_text(alloc, &policy, explain) {
         Ok(out) => Ok(Answer { out, status: 0 }),
-        Err(_) => Err(Refusal::no_memory(alloc)),
+        Err(_) => Err(Refusal::plain(alloc, Fault::NoMemory)),
     }
 }
 

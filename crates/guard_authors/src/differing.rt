@@ -2,11 +2,9 @@
 ghost use Rattle.std.specs.Prelude.{◌≡◌, ◌++◌, ℕ, List, Some, map, string_bytes, true, IfOk, OnOk};
 ghost use Rattle.guard_eval.specs.Violations.{shortfall_view};
 ghost use Rattle.guard_frames.specs.Bodies.{body_in, body_view};
-ghost use Rattle.guard_frames.specs.OfPolicy.{route_of};
 ghost use Rattle.guard_frames.specs.Totals.{later};
 ghost use Rattle.guard_policy.specs.PolicyView.{policy_view, route_view};
 ghost use Rattle.guard_policy.specs.Verdicts.{verdict_view};
-ghost use Rattle.guard_report.specs.Lines.{route_text};
 ghost use Rattle.guard_authors.specs.Differing.{after, are_alike, comparison_view, compared_line, compared_status};
 ghost use Rattle.guard_authors.specs.Differing.{differing_line, displaced_shortfall, no_frames, texts_view, total_line};
 ghost use Rattle.guard_authors.specs.Differing.{without_places, written, AreVerdictTexts, IsLine};
@@ -14,11 +12,11 @@ ghost use Rattle.guard_authors.specs.inside.Counting.{CountsFrame};
 
 use crate::summary::Sums;
 use guard_eval::Violation;
-use guard_files::add;
+use guard_files::{add, route_in};
 use guard_frames::{Body, read_body};
 use guard_model::{OutOfMemory, Site};
 use guard_policy::{Policy, Route, Verdict};
-use guard_report::verdict_text;
+use guard_report::{add_route, verdict_text};
 use itoa::Buffer;
 use std::alloc::{AllocError, Global};
 
@@ -162,16 +160,6 @@ fn body_line(
     compared_line(alloc, comparison.by_place, number, &route, &old, &new)
 }
 
-pub fn route_in<'a>(body: &Body<'a>) -> Route<'a>
-    ensures { route_view result ≡ route_of (body_view body.now) }
-{
-    Route {
-        from: body.sender,
-        to: body.receiver,
-        message: body.name,
-    }
-}
-
 // ---- what is said of a message
 
 /// The text of the verdict on a message, and the same without the places of constraints.
@@ -272,15 +260,4 @@ fn differing_line(
     add(&mut line, new)?;
     add(&mut line, b"\n")?;
     Ok(line)
-}
-
-/// Adds who sends what to whom.
-fn add_route(line: &mut Vec<u8>, route: &Route) -> Result<(), OutOfMemory>
-    ensures { OnOk result (line.new.items ≡ line.old.items ++ route_text (route_view route.now)) }
-{
-    add(line, route.from)?;
-    add(line, b">")?;
-    add(line, route.to)?;
-    add(line, b" ")?;
-    add(line, route.message)
 }

@@ -70,11 +70,8 @@ pub fn encode<F: Files, S: Source, O: Sink, E: Sink>(
         Ok(texts) => texts,
         Err(fault) => return tell(alloc, &fault, err),
     };
-    let modules = match texts.trees(alloc) {
-        Ok(modules) => modules,
-        Err(fault) => return tell(alloc, &fault, err),
-    };
-    match Loaded::of(alloc, &modules, &texts.policy) {
+    let mut trees = Vec::new(alloc);
+    match Loaded::of(alloc, &texts, &mut trees) {
         Ok(loaded) => encode_under(alloc, asked, &loaded, input, out, err),
         Err(fault) => tell(alloc, &fault, err),
     }

@@ -35,7 +35,7 @@ pub fn check_strictly<F: Files, O: Sink, E: Sink>(
         × TellsNoMemory (device_of E.taken E.has_failed err.old err.new) result) }
 {
     match load_noted(alloc, path, explain, files) {
-        Ok(policy) => match checked(alloc, &policy, explain) {
+        Ok((policy, _)) => match checked(alloc, &policy, explain) {
             Ok(answer) => write_remarked(&answer, out, err),
             Err(_) => tell_no_memory(err),
         },

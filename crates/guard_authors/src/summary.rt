@@ -2,10 +2,8 @@
 ghost use Rattle.std.specs.Prelude.{◌≡◌, ◌++◌, ℕ, List, [], ◌∷◌, Some, codes, decimal, true, IfOk, OnOk};
 ghost use Rattle.guard_frames.specs.Bodies.{body_in, body_view};
 ghost use Rattle.guard_frames.specs.Totals.{later};
-ghost use Rattle.guard_policy.specs.Decisions.{Goes};
 ghost use Rattle.guard_policy.specs.Policies.{AbstractPolicy, AbstractRoute};
-ghost use Rattle.guard_policy.specs.PolicyView.{policy_view, route_view};
-ghost use Rattle.guard_policy.specs.Told.{AreMarksOf};
+ghost use Rattle.guard_policy.specs.PolicyView.{policy_view};
 ghost use Rattle.guard_policy.specs.Verdicts.{pass, verdict_view};
 ghost use Rattle.guard_authors.specs.Differing.{comparison_view};
 ghost use Rattle.guard_authors.specs.Summary.{place_of, policy_lines, reason_line, reason_lines, rule_lines, IsRow, IsRowOf};
@@ -13,11 +11,11 @@ ghost use Rattle.guard_authors.specs.inside.Counting.{count_at, count_of, summed
 ghost use Rattle.guard_authors.specs.inside.Counting.{CountsFrame, IsCount};
 ghost use Rattle.guard_authors.specs.declared.summary.Row.{Row};
 
-use crate::differing::{Comparison, Tally, route_in};
-use guard_files::{add, add_said};
+use crate::differing::{Comparison, Tally};
+use guard_files::{add, add_said, route_in};
 use guard_frames::{Body, read_body};
 use guard_model::OutOfMemory;
-use guard_policy::{Marks, Passing, Policy, Route, Verdict};
+use guard_policy::{Passing, Policy, Verdict};
 use itoa::Buffer;
 use std::alloc::{AllocError, Global};
 
@@ -169,7 +167,7 @@ fn decided_row(alloc: Global, policy: &Policy, body: &Body) -> Result<Row, OutOf
 {
     let route = route_in(body);
     match policy.look_at(&route, body.message_octets) {
-        Passing::Goes(marks) => Ok(allowing_row(policy, &route, &marks)),
+        Passing::Goes(rule) => Ok(Row::Rule(rule)),
         Passing::Stopped(told) => {
             let verdict = policy.reason_as_told(alloc, &route, body.message_octets, told)?;
             Ok(stopped_row(&verdict))
@@ -192,19 +190,6 @@ fn stopped_row(verdict: &Verdict) -> Row
         Verdict::NotAllowed(_) => Row::Reason(Unruled::NotAllowed),
         Verdict::NoRule => Row::Reason(Unruled::NoRule),
     }
-}
-
-/// The row of the first rule that allows a message which goes, by its marks.
-fn allowing_row(policy: &Policy, route: &Route, marks: &Marks) -> Row
-    requires { (octets : List ℕ) × Goes (policy_view policy.now) (route_view route.now) octets
-        × AreMarksOf (policy_view policy.now) (route_view route.now).message octets marks.now }
-    ensures { (octets : List ℕ) → AreMarksOf (policy_view policy.now) (route_view route.now).message octets marks.now
-        → IsRow (policy_view policy.now) (route_view route.now) octets pass result }
-{
-    let Some(number) = policy.allowing_rule(route, marks) else {
-        unreachable!();
-    };
-    Row::Rule(number)
 }
 
 // ---- the table

@@ -81,11 +81,8 @@ pub fn test<F: Files, O: Sink, E: Sink>(
         Ok(texts) => texts,
         Err(fault) => return tell(alloc, &fault, err),
     };
-    let modules = match texts.trees(alloc) {
-        Ok(modules) => modules,
-        Err(fault) => return tell(alloc, &fault, err),
-    };
-    match Loaded::of(alloc, &modules, &texts.policy) {
+    let mut trees = Vec::new(alloc);
+    match Loaded::of(alloc, &texts, &mut trees) {
         Ok(loaded) => test_beside(alloc, &loaded, asked, files, out, err),
         Err(fault) => tell(alloc, &fault, err),
     }

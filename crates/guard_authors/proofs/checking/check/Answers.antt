@@ -4,5 +4,5 @@ use Rattle.guard_authors.proofs.checking.check.Goals as goal
 
 pub returns-clause-none : goal.returns-clause-none
 returns-clause-none g c =
-    silent (g.F.Files.told c.args.files.now) c.args.path.now (string_bytes c.no_memory.result.note) c.args.explain c.no_memory.result.fault
-    c.no_memory.ensures.fault c.no_memory.ensures.silent
+    silent (g.F.Files.told c.args.files.now) c.args.path.now (string_bytes c.plain.result.note) c.args.explain c.plain.result.fault
+    c.plain.ensures.fault c.plain.ensures.silent

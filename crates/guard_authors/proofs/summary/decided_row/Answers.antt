@@ -1,22 +1,20 @@
-use Rattle.std.proofs.Common.{sym, subst}
+use Rattle.std.proofs.Common.{refl, subst}
 use Rattle.guard_frames.specs.Bodies.{body_view}
 use Rattle.guard_policy.specs.Decisions.{IsReason}
 use Rattle.guard_policy.specs.PolicyView.{policy_view, route_view}
 use Rattle.guard_policy.specs.Verdicts.{AbstractVerdict, pass, verdict_view}
 use Rattle.guard_policy.proofs.Goes.{goes_from_passes, passes_from_goes}
+use Rattle.guard_authors.specs.declared.summary.Row.TheVariants.{Rule}
 use Rattle.guard_authors.proofs.RowsCounted.{row_is}
 use Rattle.guard_authors.proofs.summary.decided_row.Goals as goal
-
-pub allowing_row-requires : goal.allowing_row-requires
-allowing_row-requires c = (c.args.body.now.message_octets.now, c.in-Goes.ensures.0, c.in-Goes.ensures.1)
 
 pub returns-in-Goes : goal.returns-in-Goes
 returns-in-Goes c =
     let p = policy_view c.args.policy.now in
     let route = route_view c.route_in-route.result in
     let octets = c.args.body.now.message_octets.now in
-    row_is p (body_view c.args.body.now) route pass c.allowing_row.result c.route_in-route.ensures
-    (passes_from_goes p route octets c.in-Goes.ensures.0) (c.allowing_row.ensures octets c.in-Goes.ensures.1)
+    row_is p (body_view c.args.body.now) route pass (Rule c.in-Goes.rule) c.route_in-route.ensures
+    (passes_from_goes p route octets c.in-Goes.ensures.0) (c.in-Goes.rule, c.in-Goes.ensures, refl)
 
 pub reason_as_told-requires : goal.reason_as_told-requires
 reason_as_told-requires c = c.in-Stopped.ensures.1

@@ -7,8 +7,7 @@ use Rattle.clap.specs.declared.error.kind.ErrorKind.TheVariants.{InvalidValue, U
 use Rattle.clap.specs.Words.{IsAmong, Kinds, Text, fault_of}
 use Rattle.guard_files.specs.declared.fault.Fault.{Fault}
 use Rattle.guard_files.specs.Files.{Told}
-use Rattle.guard_files.specs.Reading.{IsNoPolicyAt}
-use Rattle.guard_files.specs.Answers.{AbstractAnswer, Gives, GivesExplained}
+use Rattle.guard_files.specs.Answers.{AbstractAnswer, Gives}
 use Rattle.guard_files.specs.Devices.{Input, Device, IsUnread, IsUntouched}
 use Rattle.guard_files.specs.Explaining.{IsNoPolicyWith}
 use Rattle.guard_files.specs.Writing.{Writes, TellsLine, TellsText, TellsNoMemory}
@@ -32,15 +31,9 @@ use Rattle.derguard_program.specs.Requests.{AbstractRequest, first, check, decid
 use Rattle.derguard_program.specs.Words.{Asks, joined, the_app, version}
 use Rattle.derguard_program.specs.AsJson.{ComesAsJson}
 
--- Such an answer is written, or such a fault is reported; nothing is read.
-abbrev pub Answers : (AbstractAnswer → Type 0) → (Fault → Type 0) → Input → Device → Device → ℕ → Type 0
+-- Such an answer is written, or such a fault is reported, with what explains it; nothing is read.
+abbrev pub Answers : (AbstractAnswer → Type 0) → (Fault → List ℕ → Type 0) → Input → Device → Device → ℕ → Type 0
 Answers IsAnswer IsFault input out err status = IsUnread input × Gives IsAnswer IsFault out err status
-
--- Such an answer is written, or such a fault is reported, and what is noted of it; nothing is read.
-abbrev pub AnswersExplained : (AbstractAnswer → Type 0) → (Fault → List ℕ → Type 0) → Input → Device → Device → ℕ
-    → Type 0
-AnswersExplained IsAnswer IsFault input out err status =
-    IsUnread input × GivesExplained IsAnswer IsFault out err status
 
 -- what is reported where `--digest` doesn't stand alone
 abbrev pub not_alone : List ℕ
@@ -49,7 +42,8 @@ not_alone =
 
 -- by whether more is asked of the policy than the number of its texts
 abbrev pub GivesDigest : Bool → Told → List ℕ → Device → Device → ℕ → Type 0
-GivesDigest false told path out err status = Gives (IsDigested told path) (IsNoPolicyAt told path) out err status
+GivesDigest false told path out err status =
+    Gives (IsDigested told path) (IsNoPolicyWith false told path) out err status
 GivesDigest true told path out err status = IsUntouched out × TellsText not_alone 2 err status
 
 abbrev pub AnswersDigest : Bool → Told → List ℕ → Input → Device → Device → ℕ → Type 0
@@ -75,7 +69,7 @@ Meets told shows first = Answers IsFirst IsNoFirst
 Meets told shows (check path explain strict true) = AnswersDigest (explain || strict) told path
 Meets told shows (check path explain true false) = ChecksStrictly told path explain
 Meets told shows (check path explain false false) =
-    AnswersExplained (IsChecked explain told path) (IsNoPolicyWith explain told path)
+    Answers (IsChecked explain told path) (IsNoPolicyWith explain told path)
 Meets told shows (decide q) = Decides told q
 Meets told shows (show q) = ShowsOne (asks_more_than_json q) told q
 Meets told shows (encode asked) = Encodes told asked

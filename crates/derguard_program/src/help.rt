@@ -59,7 +59,7 @@ pub const IN_LINK: &str =
     "With --frame: the number of the frame's link, 0 to 15, where standard input is records.";
 
 pub const COUNTS: &str =
-    "A file in which it is kept what is counted, as the node exporter of Prometheus reads it.";
+    "A file that has what is counted, as the node exporter of Prometheus reads it.";
 
 pub const JSON: &str = "Each line is a JSON object, which has the line and its parts.";
 

@@ -16,7 +16,7 @@ use crate::words::{VERSION, request_in};
 use clap::Error;
 use clap::error::ErrorKind;
 use guard_authors::{check, check_digest, check_strictly, compare, encode, test};
-use guard_files::{Files, give, give_explained, tell_no_memory, tell_text, write};
+use guard_files::{Files, give, tell_no_memory, tell_text, write};
 use guard_frames::{Sink, Source};
 use guard_json::JsonLines;
 use guard_messages::{Question, decide_asked, first_run, show_asked};
@@ -190,7 +190,7 @@ pub fn meet<F: Files, S: Source, O: Sink, E: Sink, T: Says, B: Board>(
             } else if *strict {
                 check_strictly(alloc, policy, *explain, files, out, err)
             } else {
-                give_explained(alloc, check(alloc, policy, *explain, files), out, err)
+                give(alloc, check(alloc, policy, *explain, files), out, err)
             }
         }
         Request::Decide(question) => decide_asked(alloc, question, files, input, out, err),

@@ -1,6 +1,6 @@
-use Rattle.std.proofs.Common.{Bool, refl, subst, sym}
+use Rattle.std.proofs.Common.{Bool, false, refl, subst, sym}
 use Rattle.guard_files.specs.Devices.{device}
-use Rattle.guard_files.specs.Reading.{IsNoPolicyAt}
+use Rattle.guard_files.specs.Explaining.{IsNoPolicyWith}
 use Rattle.guard_files.proofs.GivenAnswers.{gives}
 use Rattle.guard_authors.specs.Digested.{IsDigested}
 use Rattle.derguard_program.specs.Meeting.{GivesDigest}
@@ -20,4 +20,4 @@ returns-else-more g c =
     let out = device (g.O.Sink.taken c.args.out.now) (g.O.Sink.taken c.give.new.out) (g.O.Sink.has_failed c.give.new.out) in
     let err = device (g.E.Sink.taken c.args.err.now) (g.E.Sink.taken c.give.new.err) (g.E.Sink.has_failed c.give.new.err) in
     subst (λ (b : Bool). GivesDigest b told path out err c.give.result) (sym c.if-more.false)
-    (gives (IsDigested told path) (IsNoPolicyAt told path) out err c.give.result c.check_digest.result c.check_digest.ensures.digested c.check_digest.ensures.none c.give.ensures.written c.give.ensures.told)
+    (gives (IsDigested told path) (IsNoPolicyWith false told path) out err c.give.result c.check_digest.result c.check_digest.ensures.digested c.check_digest.ensures.none c.give.ensures.written c.give.ensures.told)

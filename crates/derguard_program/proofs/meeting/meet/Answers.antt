@@ -7,7 +7,7 @@ use Rattle.guard_authors.specs.Checked.{IsChecked}
 use Rattle.derguard_program.specs.declared.request.Request.{Request}
 use Rattle.derguard_program.specs.Meeting.{GivesDigest, Meets}
 use Rattle.derguard_program.specs.Requests.{request_view, check}
-use Rattle.derguard_program.proofs.Meetings.{given, given_explained}
+use Rattle.derguard_program.proofs.Meetings.{given}
 use Rattle.derguard_program.proofs.meeting.meet.Goals as goal
 
 pub returns-in-First : goal.returns-in-First
@@ -50,14 +50,14 @@ returns-else-strict g c =
     let told = g.F.Files.told c.args.files.now in
     let shows = display_of g.B.Board.shown c.args.counters.now c.args.counters.now in
     let input = input_of (g.S.Source.tells c.args.input.now) (g.S.Source.tells c.args.input.now) (g.S.Source.takes c.args.input.now) (g.S.Source.takes c.args.input.now) (g.S.Source.has_failed c.args.input.now) in
-    let out = device (g.O.Sink.taken c.args.out.now) (g.O.Sink.taken c.give_explained.new.out) (g.O.Sink.has_failed c.give_explained.new.out) in
-    let err = device (g.E.Sink.taken c.args.err.now) (g.E.Sink.taken c.give_explained.new.err) (g.E.Sink.has_failed c.give_explained.new.err) in
+    let out = device (g.O.Sink.taken c.args.out.now) (g.O.Sink.taken c.give-else-strict.new.out) (g.O.Sink.has_failed c.give-else-strict.new.out) in
+    let err = device (g.E.Sink.taken c.args.err.now) (g.E.Sink.taken c.give-else-strict.new.err) (g.E.Sink.has_failed c.give-else-strict.new.err) in
     let path = c.in-Check.policy.now in
     let explain = c.in-Check.explain in
-    subst (λ (r : Request). Meets told shows (request_view r) input out err c.give_explained.result) (sym c.in-Check.is)
-    (subst (λ (b : Bool). Meets told shows (check path explain c.in-Check.strict b) input out err c.give_explained.result) (sym c.if-digest.false)
-    (subst (λ (b : Bool). Meets told shows (check path explain b false) input out err c.give_explained.result) (sym c.if-strict.false)
-    (given_explained (IsChecked explain told path) (IsNoPolicyWith explain told path) input out err c.give_explained.result c.check.result (refl, refl) c.check.ensures.checked c.check.ensures.none c.give_explained.ensures.written c.give_explained.ensures.told)))
+    subst (λ (r : Request). Meets told shows (request_view r) input out err c.give-else-strict.result) (sym c.in-Check.is)
+    (subst (λ (b : Bool). Meets told shows (check path explain c.in-Check.strict b) input out err c.give-else-strict.result) (sym c.if-digest.false)
+    (subst (λ (b : Bool). Meets told shows (check path explain b false) input out err c.give-else-strict.result) (sym c.if-strict.false)
+    (given (IsChecked explain told path) (IsNoPolicyWith explain told path) input out err c.give-else-strict.result c.check.result (refl, refl) c.check.ensures.checked c.check.ensures.none c.give-else-strict.ensures.written c.give-else-strict.ensures.told)))
 
 pub returns-in-Decide : goal.returns-in-Decide
 returns-in-Decide g c =

@@ -40,12 +40,24 @@ impl Board for FileBoard<'_> {
         true
     }
 
-    /// The text is written to a file beside the path, which then takes its place.
+    /// The text is written to a file beside the path, which then takes its place. A device, a folder or a link at the
+    /// path stays, and the text isn't shown.
     fn show(&mut self, alloc: Global, path: &str, text: &[u8]) -> bool {
+        if is_no_file(self.rt, path) {
+            return false;
+        }
         let Ok(beside) = format!(in alloc; "{path}.new") else {
             return false;
         };
         fs::write(self.rt, beside.as_str(), text).is_ok()
             && fs::rename(self.rt, beside.as_str(), path).is_ok()
+    }
+}
+
+/// Whether something is at the path that is no regular file.
+fn is_no_file(rt: &HostRuntime, path: &str) -> bool {
+    match fs::symlink_metadata(rt, path) {
+        Ok(found) => !found.is_file(),
+        Err(_) => false,
     }
 }

@@ -69,8 +69,8 @@ def telling(work):
 def flood(work):
     say("### A flood of one kind\n")
     say("`run`, nanoseconds a frame, with the reports to `/dev/null` and to a pipe that `cat` reads.\n")
-    say("| frames | octets | ns a frame | ns a frame, reports to a pipe | times one that goes | aim, ns |")
-    say("|---|---|---|---|---|---|")
+    say("| frames | octets | ns a frame | ns a frame, reports to a pipe | times one that goes | aim, ns | writes |")
+    say("|---|---|---|---|---|---|---|")
     goes = None
     for name, aim, word, path, frames in KINDS + texts(work):
         words, file = [GUARD, "run", path], work.put("flood.frames", frames)
@@ -79,7 +79,8 @@ def flood(work):
         times = nanoseconds({piped: Stream(work, file, words, status, piped) for piped in (False, True)})
         goes = goes or times[False]
         share = f"{times[False] / goes:.1f}" if len(frames) < 1000 else "-"
-        say(f"| {name} | {len(frames)} | {times[False]:.0f} | {times[True]:.0f} | {share} | {aim or '-'} |")
+        writes = f"{Stream(work, file, words).writes():.3f}" if len(frames) < 1000 else "-"
+        say(f"| {name} | {len(frames)} | {times[False]:.0f} | {times[True]:.0f} | {share} | {aim or '-'} | {writes} |")
     say()
     telling(work)
     return []

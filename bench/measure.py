@@ -71,6 +71,19 @@ class Stream:
             give_up(f"{' '.join(self.words)} ended with {program.returncode}, feed with {feed.wait()}")
         return time.perf_counter() - begin
 
+    def writes(self, count=4000):
+        """How many writes the program makes for one copy, while copies are there to read: from what the kernel counts."""
+        with open(self.frames, "rb") as file:
+            copies = file.read() * count
+        program = subprocess.Popen(self.words, stdin=subprocess.PIPE, stdout=subprocess.DEVNULL, stderr=subprocess.DEVNULL)
+        before = writes_so_far(program.pid)
+        program.stdin.write(copies)
+        program.stdin.flush()
+        made = writes_so_far(program.pid) - before
+        program.stdin.close()
+        program.wait()
+        return made / count
+
     def copies(self):
         """So many that a measurement takes about SECONDS."""
         def least(count):
@@ -80,6 +93,39 @@ class Stream:
         while (taken := least(count) - start) < SECONDS / 4:
             count *= 4
         return max(1, int(count * SECONDS / taken))
+
+
+class FileStream(Stream):
+    """Copies of a file of frames that lie in a file, through `run`; what goes out is put to a pipe, or to a file."""
+
+    def __init__(self, work, frames, words, to_a_file):
+        super().__init__(work, frames, words)
+        self.input, self.output, self.to_a_file = work.path("many.frames"), work.path("many.out"), to_a_file
+
+    def seconds(self, count):
+        with open(self.input, "wb") as file:
+            subprocess.run([self.feed, self.frames, str(count)], stdout=file, check=True)
+        begin = time.perf_counter()
+        with open(self.input, "rb") as file, open(self.output, "wb") as out:
+            program = subprocess.Popen(self.words, stdin=file, stdout=out if self.to_a_file else subprocess.PIPE)
+            if not self.to_a_file:
+                subprocess.run(["cat"], stdin=program.stdout, stdout=subprocess.DEVNULL, check=True)
+            if program.wait():
+                give_up(f"{' '.join(self.words)} ended with {program.returncode}")
+        return time.perf_counter() - begin
+
+
+def writes_so_far(process):
+    """The writes that a process made so far, once it makes no more for a twentieth of a second."""
+    made = None
+    while made != (made := writes_now(process)):
+        time.sleep(0.05)
+    return made
+
+
+def writes_now(process):
+    with open(f"/proc/{process}/io") as file:
+        return next(int(line.split()[1]) for line in file if line.startswith("syscw:"))
 
 
 def nanoseconds(streams):

@@ -1,5 +1,5 @@
 """`derguard run` on frames from a pipe, beside `cat`; and growth with what a policy and a message hold."""
-from measure import GUARD, Stream, loads_soon, nanoseconds, say
+from measure import GUARD, FileStream, Stream, loads_soon, nanoseconds, say
 from messages import (ALPHABETS, CASES, LENGTHS, alphabets_module, element, frame, lengths_module, module, name_of,
                       number, numbers, order, policy, policy_of)
 
@@ -21,8 +21,21 @@ def pipe(work):
             f"| {len(one) * 1e3 / times['run']:.0f} |")
         found.append((name, ratio, aim))
     say()
+    files(work, path)
     spelled(work)
     return [("`run` on a pipe, times `cat`", found)]
+
+
+def files(work, path):
+    """The same frames where they lie in a file, into a pipe and into a file."""
+    say("| frames | `run` from a pipe into `/dev/null`, ns a frame | from a file into a pipe | from a file into a file |")
+    say("|---|---|---|---|")
+    for name in ("order", "text"):
+        frames, words = work.path(name + ".frame"), [GUARD, "run", path]
+        times = nanoseconds({"pipe": Stream(work, frames, words), **{
+            to_a_file: FileStream(work, frames, words, to_a_file) for to_a_file in (False, True)}})
+        say(f"| {name} | {times['pipe']:.1f} | {times[False]:.1f} | {times[True]:.1f} |")
+    say()
 
 
 def spelled(work):

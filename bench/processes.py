@@ -1,4 +1,4 @@
-"""Guards side by side, each with a stream of its own from a file."""
+"""Guards side by side, each with a stream of its own from a file; and `cat` in their place."""
 import os
 import subprocess
 import time
@@ -9,8 +9,10 @@ from messages import frame, order
 FRAMES = 4_000_000
 
 
-def seconds(path, many):
-    words = [GUARD, "run", os.path.join(TOP, "examples", "orders.toml")]
+RUN = [GUARD, "run", os.path.join(TOP, "examples", "orders.toml")]
+
+
+def seconds(path, many, words):
     begin = time.perf_counter()
     guards = []
     for _ in range(many):
@@ -28,10 +30,12 @@ def processes(work):
         subprocess.run([work.path("feed"), frames, str(FRAMES)], stdout=file, check=True)
     say("### Processes side by side\n")
     say(f"`run`, each with {FRAMES:,} frames of {len(one)} octets from a file, all of which go; loading is counted.\n")
-    say("| processes | million frames a second, together |\n|---|---|")
+    say("| processes | million frames a second, together | `cat` in the place of each |\n|---|---|---|")
     counts = range(1, (os.cpu_count() or 1) + 1)
-    times = in_turn({many: lambda many=many: seconds(path, many) for many in counts})
+    times = in_turn({(many, name): lambda many=many, words=words: seconds(path, many, words)
+                     for many in counts for name, words in (("run", RUN), ("cat", ["cat"]))})
     for many in counts:
-        say(f"| {many} | {many * FRAMES / times[many] / 1e6:.1f} |")
+        run, cat = (many * FRAMES / times[many, name] / 1e6 for name in ("run", "cat"))
+        say(f"| {many} | {run:.1f} | {cat:.1f} |")
     say()
     return []

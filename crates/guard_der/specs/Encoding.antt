@@ -1,8 +1,10 @@
 -- What `encode` and its parts answer.
-use Rattle.std.specs.Prelude.{ℕ, List, length, nat_le, Option, Some, None, Result, Ok, Err, if◌then◌else◌}
+use Rattle.std.specs.Prelude.{ℕ, ◌+◌, false, List, [], ◌∷◌, length, nat_le, Option, Some, None, Result, Ok, Err, if◌then◌else◌}
 use Rattle.guard_model.specs.AbstractType.{AbstractType}
 use Rattle.guard_model.specs.AbstractValue.{AbstractValue}
-use Rattle.guard_der.specs.Der.{der}
+use Rattle.guard_model.specs.declared.tag.Tag.{Tag}
+use Rattle.guard_der.specs.Der.{der, ◌>>=◌}
+use Rattle.guard_der.specs.Element.{identifier_octets, length_octets}
 use Rattle.guard_der.specs.declared.encoding.EncodeFault.{EncodeFault}
 use Rattle.guard_der.specs.declared.encoding.EncodeFault.TheVariants.{TooLong, OutOfMemory}
 
@@ -38,3 +40,12 @@ short n = if nat_le n longest_encoding then Some n else None
 abbrev pub short_length : Option (List ℕ) → Option ℕ
 short_length None = None
 short_length (Some os) = short (length os)
+
+-- how many octets stand before so many contents octets: a constructed encoding has as many as a primitive one
+abbrev pub header_length : Tag → ℕ → ℕ
+header_length t n = length (identifier_octets t false) + length (length_octets n)
+
+-- how many octets so many contents octets have in their tags, the outermost first
+abbrev pub length_in : List Tag → Option ℕ → Option ℕ
+length_in [] n = n
+length_in (t ∷ ts) n = length_in ts n >>= λ k. short (k + header_length t k)

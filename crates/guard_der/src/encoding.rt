@@ -33,7 +33,7 @@ pub enum EncodeFault {
 }
 
 /// The most octets that an encoding made by `encode` may have.
-const LONGEST: usize = 1_048_576;
+pub const LONGEST_ENCODING: usize = 1_048_576;
 
 /// The encoding of the value (X.690 clauses 8, 10 and 11). Condition: the value is one of the type's, constraints
 /// aside, which `fits` tests. TooLong exactly where the encoding has more than 1,048,576 octets, or a length in it
@@ -44,7 +44,7 @@ pub fn encode(alloc: Global, ty: &Ty, value: &Value) -> Result<Vec<u8>, EncodeFa
     ensures exact { Gives (λ v. v.items) refusal result (encoding_of (type_view ty.now) (value_view value.now)) }
 {
     let octets = values::encoding(alloc, ty, value)?;
-    if octets.len() > LONGEST {
+    if octets.len() > LONGEST_ENCODING {
         return Err(EncodeFault::TooLong);
     }
     Ok(octets)

@@ -11,11 +11,8 @@ pub(crate) mod simple;
 
 use crate::fitting::ascending::are_ascending;
 use crate::fitting::simple::{arcs_fit, are_octets, bits_fit, is_in_range};
-use guard_model::{Comp, Kind, OutOfMemory, Presence, Ty, Value};
+use guard_model::{Comp, Kind, MOST_ITEMS, OutOfMemory, Presence, Ty, Value};
 use std::alloc::Global;
-
-/// The most elements of a value of an OF type.
-const MOST_ITEMS: usize = 4_294_967_295;
 
 /// Whether the value is one of the type's, constraints aside: it is of the kind and within its limits, has a value at
 /// each component that isn't OPTIONAL, and all that is inside it fits. The elements of a SET OF have encodings, none of

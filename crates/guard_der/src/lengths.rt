@@ -6,21 +6,18 @@ ghost use Rattle.guard_model.specs.ValueView.{value_view, field_view, fields_vie
 ghost use Rattle.guard_der.specs.Contents.{arcs_octets, character_octets};
 ghost use Rattle.guard_der.specs.Der.{der, contents_octets, parts_of, alternative_octets, item_encodings};
 ghost use Rattle.guard_der.specs.Element.{identifier_octets, length_octets};
-ghost use Rattle.guard_der.specs.Encoding.{longest_encoding, short, short_length};
+ghost use Rattle.guard_der.specs.Encoding.{longest_encoding, short, short_length, header_length, length_in};
 ghost use Rattle.guard_der.specs.Fits.{fits, fits_kind, fits_fields, fits_alternative, every_fits, fits_field};
 ghost use Rattle.guard_der.specs.Fits.{fits_arcs};
 ghost use Rattle.guard_der.specs.Octets.{base_128, fewest, signed_octets};
 ghost use Rattle.guard_der.specs.ProperConstraints.{is_short};
 ghost use Rattle.guard_der.specs.inside.EncodingSteps.{part_of, all_joined, sequence_octets};
-ghost use Rattle.guard_der.specs.inside.Lengths.{header_length, length_in};
 
+use crate::encoding::LONGEST_ENCODING;
 use crate::fitting::fits;
 use crate::presence::is_left_out;
 use guard_model::{CharKind, Comp, Kind, OutOfMemory, Presence, Tag, Ty, Value};
 use std::alloc::Global;
-
-/// The most octets that are counted.
-const LONGEST: usize = 1_048_576;
 
 /// How many octets the encoding of the value has (X.690 clauses 8, 10 and 11), where it has at most 1,048,576; else
 /// None. It takes no memory. Condition: the value is one of the type's, constraints aside, which `fits` tests.
@@ -169,8 +166,9 @@ fn elements_length(ty: &Ty, items: &[Value]) -> Option<usize>
 
 // ---- tags
 
-/// How many octets so many contents octets have in their tags.
-fn length_in(tags: &[Tag], contents: usize) -> Option<usize>
+/// How many octets so many contents octets have in their tags, the outermost first (X.690 8.1): those with the identifier
+/// and length octets of each tag, where they are at most 1,048,576; else None. Condition: the contents are no more.
+pub fn length_in(tags: &[Tag], contents: usize) -> Option<usize>
     requires { contents ≤ longest_encoding }
     ensures value { result ≡ length_in tags.now (Some contents) }
     ensures bound { IfSome result (λ n. n ≤ longest_encoding) }
@@ -280,7 +278,11 @@ fn within(count: usize) -> Option<usize>
     ensures value { result ≡ short count }
     ensures bound { IfSome result (λ n. n ≤ longest_encoding) }
 {
-    if count <= LONGEST { Some(count) } else { None }
+    if count <= LONGEST_ENCODING {
+        Some(count)
+    } else {
+        None
+    }
 }
 
 fn sum_within(so_far: usize, more: usize) -> Option<usize>
@@ -288,7 +290,7 @@ fn sum_within(so_far: usize, more: usize) -> Option<usize>
     ensures value { result ≡ short (so_far + more) }
     ensures bound { IfSome result (λ n. n ≤ longest_encoding) }
 {
-    if more <= LONGEST - so_far {
+    if more <= LONGEST_ENCODING - so_far {
         Some(so_far + more)
     } else {
         None

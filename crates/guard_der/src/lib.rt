@@ -4,7 +4,7 @@
 //! | question | code | definition |
 //! |---|---|---|
 //! | What is the encoding of a value? | `encoding.rt` (`encode`), folder | `specs/Der.antt`, `specs/Encoding.antt` |
-//! | How many octets has it? | `lengths.rt` (`encoded_length`) | `specs/Encoding.antt` (`short_length`) |
+//! | How many octets has it? | `lengths.rt` (`encoded_length`, `length_in`) | `specs/Encoding.antt` (`short_length`) |
 //! | Which kinds have constructed encodings? | `forms.rt` (`is_constructed`) | `specs/Der.antt` |
 //! | What are its octets? | `encoding/element.rt`, `encoding/simple.rt` | `specs/Element.antt`, `specs/Contents.antt` |
 //! | Which values does a type have, constraints aside? | `fitting.rt` (`fits`) | `specs/Fits.antt` |
@@ -44,11 +44,13 @@ mod tags;
 pub use breach::{Breach, Code, DecodeFault};
 pub use decoding::decode;
 pub use element::Header;
-pub use encoding::{EncodeFault, encode, encode_contents, encode_tagged, outermost};
+pub use encoding::{
+    EncodeFault, LONGEST_ENCODING, encode, encode_contents, encode_tagged, outermost,
+};
 pub use fitting::fits;
 pub use forms::is_constructed;
 pub use head::{class_of, header};
-pub use lengths::{encoded_length, is_too_long};
+pub use lengths::{encoded_length, is_too_long, length_in};
 pub use presence::is_left_out;
 pub use sound_types::sound;
 pub use tags::follows;

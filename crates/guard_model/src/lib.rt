@@ -37,7 +37,7 @@ mod tag;
 mod ty;
 mod value;
 
-pub use limits::{DEEPEST_NESTING, GREATEST_TAG_NUMBER, MOST_COMPONENTS};
+pub use limits::{DEEPEST_NESTING, GREATEST_TAG_NUMBER, MOST_COMPONENTS, MOST_ITEMS, MOST_MODULES};
 pub use memory::OutOfMemory;
 pub use named_list::NamedList;
 pub use site::{Path, PathText, Site, Step};

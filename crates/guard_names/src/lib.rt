@@ -38,4 +38,4 @@ mod uses;
 pub use declarations::Id;
 pub use fault::NameFault;
 pub use names::Names;
-pub use resolution::{MOST_MODULES, resolve};
+pub use resolution::resolve;

@@ -24,11 +24,9 @@ use crate::names::{Names, home_of};
 use crate::recursion::first_recursive;
 use crate::table::Table;
 use crate::uses::uses;
+use guard_model::MOST_MODULES;
 use guard_syntax::Module;
 use std::alloc::{AllocError, Global};
-
-/// The most modules that a schema may have.
-pub const MOST_MODULES: usize = 64;
 
 /// What the names in these modules mean, or the first fault of names in this order, each in module and text order: more
 /// than 64 modules (`TooManyModules`), a name that is declared twice (`Duplicate`), an import from a module that isn't

@@ -11,12 +11,9 @@ use super::document::text_of;
 use super::entry::{Entry, Key};
 use super::fault::PolicyFault;
 use guard_der::named_types::Types;
-use guard_model::Ty;
+use guard_model::{MOST_MODULES, Ty};
 use std::alloc::{AllocError, Global};
 use toml::Table;
-
-/// The most modules that a schema may have.
-const MOST_MODULES: u32 = 64;
 
 /// The type that the entry names, which is sound; NoSuchType where the schema has none of this name.
 pub(crate) fn type_named<'a, S: Types>(
@@ -40,7 +37,7 @@ pub(crate) fn module_names<S: Types>(alloc: Global, schema: &S) -> Result<Vec<St
     ensures { IfOk result (λ names. map string_bytes names.items ≡ (S.types schema.now).modules) }
 {
     let mut names = Vec::new(alloc);
-    for place in 0..MOST_MODULES {
+    for place in 0..MOST_MODULES as u32 {
         if let Some(name) = module_name(alloc, schema, place + 1)? {
             names.push(name)?;
         }

@@ -8,7 +8,8 @@ ghost use Rattle.guard_schema.specs.Texts.{AreOfTexts, ReadsText, ReadsTexts, Co
 ghost use Rattle.guard_syntax.specs.ModuleViews.{module_view};
 
 use crate::fault::SchemaFault;
-use guard_names::{MOST_MODULES, NameFault};
+use guard_model::MOST_MODULES;
+use guard_names::NameFault;
 use guard_syntax::Module;
 use guard_tagging::laws::law_spelled;
 use std::alloc::Global;

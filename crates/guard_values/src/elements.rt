@@ -16,12 +16,9 @@ ghost use Rattle.guard_values.specs.Views.{named, encoded_view};
 use crate::arrangement::{Encoded, arranged};
 use crate::fault::ValueFault;
 use guard_der::{EncodeFault, encode};
-use guard_model::{Site, Ty, Value};
+use guard_model::{MOST_ITEMS, Site, Ty, Value};
 use guard_syntax::{EntryTree, ValueForm};
 use std::alloc::Global;
-
-/// The most elements of a value of an OF type.
-const MOST_ITEMS: usize = 4_294_967_295;
 
 /// How many octets are left for the elements after this entry's, which has so many: where nothing is sorted they aren't
 /// counted, and as many are left as before.
@@ -104,7 +101,7 @@ pub fn encoded(alloc: Global, ty: &Ty, site: Site, value: Value) -> Result<Encod
 }
 
 /// The encoding of the value at the site, of at most 1,048,576 octets.
-pub fn encoding(alloc: Global, ty: &Ty, site: Site, value: &Value) -> Result<Vec<u8>, ValueFault>
+fn encoding(alloc: Global, ty: &Ty, site: Site, value: &Value) -> Result<Vec<u8>, ValueFault>
     requires { IsTrue (fits (type_view ty.now) (value_view value.now)) }
     ensures encoding { IfOk result (λ octets. der (type_view ty.now) (value_view value.now) ≡ Some octets.items) }
     ensures given { Gives (λ octets. value_view value.now) named result

@@ -1,6 +1,6 @@
 //! How many octets the encoding of a value has, counted while the value is read: a component that isn't written adds
 //! nothing, and is compared with no default.
-ghost use Rattle.std.specs.Prelude.{◌≡◌, ◌+◌, ◌<◌, ◌≤◌, List, true, false, length, IsTrue, IfOk, IfSome, Some};
+ghost use Rattle.std.specs.Prelude.{◌≡◌, ◌+◌, ◌≤◌, List, true, IsTrue, IfOk, IfSome};
 ghost use Rattle.guard_model.specs.AbstractType.{NamedNumber, bit_string};
 ghost use Rattle.guard_model.specs.AbstractValue.{AbstractValue};
 ghost use Rattle.guard_model.specs.Answer.{Gives};
@@ -8,22 +8,16 @@ ghost use Rattle.guard_model.specs.Kinds.{kind_of};
 ghost use Rattle.guard_model.specs.TypeView.{type_view, presence_view};
 ghost use Rattle.guard_model.specs.ValueView.{value_view};
 ghost use Rattle.guard_der.specs.Der.{is_left_out as left_out};
-ghost use Rattle.guard_der.specs.Element.{identifier_octets, length_octets};
-ghost use Rattle.guard_der.specs.Encoding.{longest_encoding, short};
+ghost use Rattle.guard_der.specs.Encoding.{longest_encoding, short, length_in};
 ghost use Rattle.guard_der.specs.Fits.{fits};
-ghost use Rattle.guard_der.specs.Octets.{base_128, fewest};
-ghost use Rattle.guard_der.specs.inside.Lengths.{header_length as der_header_length, length_in as der_length_in};
 ghost use Rattle.guard_values.specs.inside.Lengths as lengths;
 ghost use Rattle.guard_values.specs.inside.Lengths.{IsCounted, HasContents};
 ghost use Rattle.guard_values.specs.inside.Reading.{Read};
 ghost use Rattle.guard_values.specs.Views.{named};
 
 use crate::fault::ValueFault;
-use guard_der::{encoded_length, is_left_out};
+use guard_der::{LONGEST_ENCODING, encoded_length, is_left_out, length_in};
 use guard_model::{Presence, Tag, Ty, Value};
-
-/// The most octets that an encoding may have, or those of a list's elements in all.
-pub const MOST_OCTETS: usize = 1_048_576;
 
 /// A value that is read, and how many octets its encoding or its contents have; None where there are more than an
 /// encoding may have. Where what is read counts for its faults alone, the number means nothing.
@@ -99,81 +93,13 @@ pub fn in_tags(ty: &Ty, read: Result<Counted, ValueFault>) -> Result<Counted, Va
 
 /// How many octets so many contents octets have in their tags. None where they are more than an encoding may have.
 fn tagged_length(tags: &[Tag], contents: Option<usize>) -> Option<usize>
-    ensures { IfSome contents (λ n. n ≤ longest_encoding) → result ≡ der_length_in tags.now contents }
+    ensures { IfSome contents (λ n. n ≤ longest_encoding) → result ≡ length_in tags.now contents }
 {
     let contents = contents?;
-    if contents > MOST_OCTETS {
+    if contents > LONGEST_ENCODING {
         return None;
     }
     length_in(tags, contents)
-}
-
-fn length_in(tags: &[Tag], contents: usize) -> Option<usize>
-    requires { contents ≤ longest_encoding }
-    ensures value { result ≡ der_length_in tags.now (Some contents) }
-    ensures bound { IfSome result (λ n. n ≤ longest_encoding) }
-{
-    match tags {
-        [] => Some(contents),
-        [tag, inside @ ..] => {
-            let inner = length_in(inside, contents)?;
-            sum_within(inner, header_length(*tag, inner))
-        }
-    }
-}
-
-/// How many octets the identifier and the length have before so many octets.
-fn header_length(tag: Tag, contents: usize) -> usize
-    ensures { result ≡ der_header_length tag contents }
-{
-    identifier_length(tag) + length_length(contents)
-}
-
-#[tactic(auto, unfolding(guard_der::specs::Element::identifier_octets))]
-fn identifier_length(tag: Tag) -> usize
-    ensures value { result ≡ length (identifier_octets tag false) }
-    ensures bound { result ≤ 20 }
-{
-    if tag.number < 31 {
-        return 1;
-    }
-    base_128_length(u128::from(tag.number)) + 1
-}
-
-#[tactic(auto, unfolding(guard_der::specs::Octets::base_128))]
-fn base_128_length(number: u128) -> usize
-    ensures value { result ≡ length (base_128 number) }
-    ensures bound { result ≤ 19 }
-{
-    if number < 128 {
-        return 1;
-    }
-    digits(128, 128, 17, number / 128) + 1
-}
-
-#[tactic(auto, unfolding(guard_der::specs::Element::length_octets, guard_der::specs::Octets::unsigned_octets))]
-fn length_length(count: usize) -> usize
-    ensures value { result ≡ length (length_octets count) }
-    ensures bound { result ≤ 17 }
-{
-    if count < 128 {
-        return 1;
-    }
-    digits(256, 256, 15, count as u128) + 1
-}
-
-/// How many digits the number has to the base, the first of several below the limit: at most so many before the last.
-#[tactic(auto, unfolding(guard_der::specs::Octets::fewest))]
-fn digits(base: u128, limit: u128, more: u8, number: u128) -> usize
-    requires some { 0 < base }
-    ensures value { result ≡ length (fewest base limit more number) }
-    ensures bound { result ≤ more + 1 }
-{
-    if more == 0 || number < limit {
-        1
-    } else {
-        digits(base, limit, more - 1, number / base) + 1
-    }
 }
 
 /// The sum, where an encoding may have so many octets.
@@ -181,7 +107,7 @@ fn sum_within(so_far: usize, more: usize) -> Option<usize>
     ensures value { result ≡ short (so_far + more) }
     ensures bound { IfSome result (λ n. n ≤ longest_encoding) }
 {
-    if more <= MOST_OCTETS && so_far <= MOST_OCTETS - more {
+    if more <= LONGEST_ENCODING && so_far <= LONGEST_ENCODING - more {
         Some(so_far + more)
     } else {
         None

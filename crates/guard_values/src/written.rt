@@ -30,12 +30,12 @@ use crate::elements::{
     encoded, kept, listed, listed_set, object_identifier_fault, room_after, room_without,
 };
 use crate::fault::ValueFault;
-use crate::lengths::{Counted, MOST_OCTETS, bits_counted, in_tags, measured, with_part};
+use crate::lengths::{Counted, bits_counted, in_tags, measured, with_part};
 use crate::named_bits::value_of_names;
 use crate::names::{reference, shared_reference};
 use crate::scope::ModuleScope;
 use crate::simple::{arcs, boolean, integer, null, text};
-use guard_der::encoded_length;
+use guard_der::{LONGEST_ENCODING, encoded_length};
 use guard_model::{Comp, Kind, Site, Ty, Value, absent_fields, set_field};
 use guard_syntax::{EntryTree, ValueForm, ValueTree};
 use std::alloc::Global;
@@ -360,13 +360,13 @@ fn elements(
         (type.sequence_of (type_view ty.now)) (value.items (items_view x.0.items))) ≡ Some x.1) }
 {
     let mut elements = Vec::with_capacity(alloc, entries.len())?;
-    let mut room = MOST_OCTETS;
+    let mut room = LONGEST_ENCODING;
     for entry in entries {
         let counted = element(alloc, scope, sorted, entry, ty)?;
         room = room_after(sorted, entry, room, counted.length)?;
         elements.push(kept(sorted, counted.value))?;
     }
-    Ok((elements, MOST_OCTETS - room))
+    Ok((elements, LONGEST_ENCODING - room))
 }
 
 /// A SET OF.
@@ -415,13 +415,13 @@ fn encoded_elements(
         (value.items (items_of (map encoded_value (map encoded_view x.0.items))))) ≡ Some x.1) }
 {
     let mut elements = Vec::with_capacity(alloc, entries.len())?;
-    let mut room = MOST_OCTETS;
+    let mut room = LONGEST_ENCODING;
     for entry in entries {
         let element = encoded_element(alloc, scope, entry, ty)?;
         room = room_without(entry, room, Some(element.octets.len()))?;
         elements.push(element)?;
     }
-    Ok((elements, MOST_OCTETS - room))
+    Ok((elements, LONGEST_ENCODING - room))
 }
 
 /// An element of a SET OF, with its encoding.

@@ -14,10 +14,10 @@ use Rattle.guard_model.specs.TypeView.{type_view, kind_view}
 use Rattle.guard_model.proofs.TypeViews.{type_view_is}
 use Rattle.guard_der.specs.Der.{Part, der, contents_octets, is_constructed, parts_joined, ascending, insert_part, tag_before, ◌>>=◌}
 use Rattle.guard_der.specs.Element.{element, identifier_octets, length_octets, tagged}
-use Rattle.guard_der.specs.Encoding.{longest_encoding, short, short_length}
+use Rattle.guard_der.specs.Encoding.{longest_encoding, short, short_length, header_length, length_in}
 use Rattle.guard_der.specs.Octets.{base_128}
 use Rattle.guard_der.specs.inside.EncodingSteps.{with_parts, sequence_octets, set_octets}
-use Rattle.guard_der.specs.inside.Lengths.{header_length, length_in, short_after}
+use Rattle.guard_der.specs.inside.Lengths.{short_after}
 use Rattle.guard_der.proofs.Functions.Encoding.{others, sent_of, next_sent}
 
 -- ---- the limit

@@ -21,10 +21,9 @@ use Rattle.guard_model.specs.TypeView.{OneComponent, type_view, kind_view, prese
 use Rattle.guard_model.specs.ValueView.{value_view, fields_view}
 use Rattle.guard_tagcheck.specs.Distinct.{component_type}
 use Rattle.guard_der.specs.Der.{der, contents_octets, parts_of, is_left_out}
-use Rattle.guard_der.specs.Encoding.{longest_encoding, short, short_length}
+use Rattle.guard_der.specs.Encoding.{longest_encoding, short, short_length, length_in}
 use Rattle.guard_der.specs.ProperConstraints.{is_short}
 use Rattle.guard_der.specs.Reading.{is_filled, fill}
-use Rattle.guard_der.specs.inside.Lengths.{length_in}
 use Rattle.guard_der.proofs.Functions.Lengths.{set_short, whole_length}
 use Rattle.guard_der.proofs.Functions.SetFields.{field_filled}
 use Rattle.guard_der.proofs.Functions.Soundness.{told_where_short}

@@ -5,10 +5,9 @@ use Rattle.guard_model.specs.declared.ty.Kind.TheViews.{out-Ty}
 use Rattle.guard_model.specs.TypeView.{component_view, components_of}
 use Rattle.guard_model.specs.ValueView.{value_view, fields_view}
 use Rattle.guard_der.specs.Der.{Part, der, alternative_octets, parts_of}
-use Rattle.guard_der.specs.Encoding.{short_length}
+use Rattle.guard_der.specs.Encoding.{short_length, length_in}
 use Rattle.guard_der.specs.Fits.{fits, fits_alternative}
 use Rattle.guard_der.specs.inside.EncodingSteps.{sequence_octets}
-use Rattle.guard_der.specs.inside.Lengths.{length_in}
 use Rattle.guard_der.proofs.Functions.Encoding.{sequence_fits, set_fits, sequence_contents, set_contents, sequence_of_contents, next_fits, uneven_parts, others}
 use Rattle.guard_der.proofs.Functions.Lengths.{after_none, none_in, part_long, parts_on, set_short, sum_long, whole_length}
 use Rattle.guard_der.proofs.Functions.Places.{found_at, none_at}

@@ -7,7 +7,7 @@ use Rattle.guard_model.specs.declared.ty.Kind.TheViews.{out-Ty}
 use Rattle.guard_model.proofs.TypeViews.{type_view_is}
 use Rattle.guard_der.specs.Der.{der}
 use Rattle.guard_der.specs.Fits.{fits}
-use Rattle.guard_der.specs.inside.Lengths.{length_in}
+use Rattle.guard_der.specs.Encoding.{length_in}
 use Rattle.guard_der.proofs.Functions.Lengths.{whole_length}
 use Rattle.guard_der.proofs.Functions.Soundness.{told_where_short}
 use Rattle.guard_der.proofs.lengths.is_short_text.Goals as goal

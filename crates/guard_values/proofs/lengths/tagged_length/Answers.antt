@@ -1,5 +1,5 @@
 use Rattle.std.proofs.Common.{sym, ap, ◌∙◌}
-use Rattle.guard_der.specs.inside.Lengths.{length_in}
+use Rattle.guard_der.specs.Encoding.{length_in}
 use Rattle.guard_der.proofs.Functions.Lengths.{none_in}
 use Rattle.guard_values.proofs.lengths.tagged_length.Goals as goal
 

@@ -60,5 +60,10 @@ fn are_name_octets(octets: &[u8]) -> bool
 fn is_name_octet(octet: u8) -> bool
     ensures { result ≡ is_name_octet octet }
 {
-    octet.is_ascii_alphanumeric() || octet == b'-' || octet == b'_' || octet == b'.'
+    octet.is_ascii_lowercase()
+        || octet.is_ascii_digit()
+        || octet.is_ascii_uppercase()
+        || octet == b'-'
+        || octet == b'_'
+        || octet == b'.'
 }

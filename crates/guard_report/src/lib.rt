@@ -41,4 +41,4 @@ pub use showing::{Shown, shown_text};
 pub use strings::name_of;
 pub use text::verdict_text;
 pub use values::items_known;
-pub use words::add;
+pub use words::{add, add_number};

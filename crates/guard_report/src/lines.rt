@@ -10,7 +10,7 @@ use guard_model::OutOfMemory;
 use guard_policy::{Policy, Route, Verdict};
 use std::alloc::Global;
 
-/// The octets for which a line has room from the start. Few lines have more, so that a line grows once.
+/// The octets for which a line has room from the start. Few lines have more, so that a buffer grows once.
 const USUAL_LENGTH: usize = 128;
 
 /// The report line of the verdict on the message of a frame: the frame's number, sender and receiver as `FROM>TO`, the
@@ -26,8 +26,6 @@ pub fn line(
         ≡ line_octets (policy_view policy.now) (route_view route.now) number (verdict_view verdict.now)) }
 {
     let mut line: Vec<u8> = Vec::new(alloc);
-    // Where there is no room for so many octets, there may be for fewer.
-    let _ = line.reserve(USUAL_LENGTH);
     add_line(&mut line, number, route, verdict, policy)?;
     Ok(line)
 }
@@ -45,6 +43,8 @@ pub fn add_line(
         ≡ line.old.items
         ++ line_octets (policy_view policy.now) (route_view route.now) number (verdict_view verdict.now)) }
 {
+    // Where there is no room for so many octets, there may be for fewer.
+    let _ = line.reserve(USUAL_LENGTH);
     add_number(line, number)?;
     add(line, b" ")?;
     add_route(line, route)?;

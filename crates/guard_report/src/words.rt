@@ -13,7 +13,7 @@ pub fn add(text: &mut Vec<u8>, octets: &[u8]) -> Result<(), OutOfMemory>
     Ok(())
 }
 
-/// Appends the number in decimal.
+/// Appends the number in decimal. OutOfMemory is the only error.
 pub fn add_number(text: &mut Vec<u8>, number: u64) -> Result<(), OutOfMemory>
     ensures { OnOk result (text.new.items ≡ text.old.items ++ decimal number) }
 {

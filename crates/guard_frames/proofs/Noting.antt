@@ -1,23 +1,27 @@
 -- What a watch is told, part by part.
-use Rattle.std.proofs.Common.{◌≡◌, ℕ, List, [], ◌∷◌, ◌++◌, ◌∙◌, ap, sym, refl, subst, drop, length, append_assoc}
+use Rattle.std.proofs.Common.{◌≡◌, ◌≤◌, ℕ, ◌+◌, ◌-◌, List, [], ◌∷◌, ◌++◌, ◌∙◌, ap, sym, refl, subst, inl, inr, drop, length, append_assoc, length-append, arith}
+use Rattle.std.specs.List.{concat}
 use Rattle.std.specs.Prelude.{Result, Ok, Err}
 use Rattle.std.proofs.lemmas.List.{append-nil}
 use Rattle.guard_frames.specs.declared.totals.Totals.{Totals}
 use Rattle.guard_frames.specs.declared.why.Reason.{Reason}
-use Rattle.guard_frames.specs.declared.why.Why.{Why}
 use Rattle.guard_frames.specs.declared.report.Report.{Report}
 use Rattle.guard_frames.specs.declared.report.Report.TheVariants.{BadHeader, NoMemory, Line}
+use Rattle.guard_frames.specs.declared.untold.Untold.{Untold}
 use Rattle.guard_frames.specs.declared.link.Closing.{Closing}
 use Rattle.guard_frames.specs.declared.link.Closing.TheVariants.{FrameTooLong, OutFailed, ReportsFailed, TornFrame}
 use Rattle.guard_frames.specs.inside.Closing.{NotedBy}
+use Rattle.guard_frames.specs.inside.Untold.{none_from, IsToldOf, IsOneMore}
 use Rattle.guard_frames.specs.Added.{Added, nothing, joined, sent_more, reported_more}
 use Rattle.guard_frames.specs.Bodies.{AbstractBody}
 use Rattle.guard_frames.specs.Frames.{IsFrame}
 use Rattle.guard_frames.specs.inside.Judged.{report_line, why_of, ReportGives}
 use Rattle.guard_frames.specs.Outcomes.{Decision, GoesBy}
-use Rattle.guard_frames.specs.Reasons.{Says, Told, IsPaused, Tells, IsTold, Noted}
+use Rattle.guard_frames.specs.Reasons.{Says, Told, IsPaused, AreLetBy, Tells, IsTold, Noted}
 use Rattle.guard_frames.specs.Reasons.Told.{pauses, reads, goes, stays}
 use Rattle.guard_frames.specs.Leaving.{AllDecided, Watched}
+use Rattle.guard_frames.proofs.Elements.{All_none, All_more}
+use Rattle.guard_frames.proofs.Progress.{concat_more}
 
 -- the line of a report says why
 says_why : (Gives : Reason → List ℕ → Type 0) (n : ℕ) (r : Report) → ReportGives Gives r → Says Gives (why_of r) (report_line n r)
@@ -30,11 +34,46 @@ says_why Gives n (Line line reason) h = h
 pub joined_nothing : (a : Added) → joined a nothing ≡ a
 joined_nothing a = λ i. record { out = append-nil a.out i; reports = append-nil a.reports i }
 
+pub sent_none : (a : Added) (s : List ℕ) → s ≡ [] → sent_more a s ≡ a
+sent_none a s e = ap (sent_more a) e ∙ (λ i. record { out = append-nil a.out i; reports = a.reports })
+
+sent_both : (a : Added) (s t : List ℕ) → sent_more (sent_more a s) t ≡ sent_more a (s ++ t)
+sent_both a s t = λ i. record { out = append_assoc a.out s t i; reports = a.reports }
+
 joined_sent : (a b : Added) (s : List ℕ) → joined a (sent_more b s) ≡ sent_more (joined a b) s
 joined_sent a b s = λ i. record { out = sym (append_assoc a.out b.out s) i; reports = a.reports ++ b.reports }
 
 joined_reported : (a b : Added) (s : List ℕ) → joined a (reported_more b s) ≡ reported_more (joined a b) s
 joined_reported a b s = λ i. record { out = a.out ++ b.out; reports = sym (append_assoc a.reports b.reports s) i }
+
+-- ---- frames by one rule
+
+no_octets : (frames : List (List ℕ)) → length frames ≡ 0 → concat frames ≡ []
+no_octets [] none = refl
+no_octets (f ∷ fs) none = absurd (omega (arith, none))
+
+no_frames : (Lets : AbstractBody → ℕ → Type 0) (rule : ℕ) → AreLetBy Lets 0 rule []
+no_frames Lets rule = record { frames = []; joined = refl; counted = refl; each = All_none (λ frame. IsFrame frame × GoesBy Lets (drop 4 frame) rule) }
+
+frame_more : (Lets : AbstractBody → ℕ → Type 0) (count rule : ℕ) (octets frame body : List ℕ) → AreLetBy Lets count rule octets → IsFrame frame →
+    body ≡ drop 4 frame → GoesBy Lets body rule → AreLetBy Lets (count + 1) rule (octets ++ frame)
+frame_more Lets count rule octets frame body h is same by = record {
+  frames = h.frames ++ frame ∷ [];
+  joined = ap (λ s. s ++ frame) h.joined ∙ sym (concat_more h.frames frame);
+  counted = omega (arith, h.counted, length-append h.frames (frame ∷ []));
+  each = All_more (λ frame. IsFrame frame × GoesBy Lets (drop 4 frame) rule) h.frames frame h.each (is, subst (λ (s : List ℕ). GoesBy Lets s rule) same by);
+}
+
+-- A watch was told of all of which this was added, but for these frames, which are the last ones and end here.
+pub record NotedBut {W : Type 0} (Gives : Reason → List ℕ → Type 0) (Lets : AbstractBody → ℕ → Type 0) (notes : W → Told → W → Type 0) (old : W) (these : Untold)
+    (end : ℕ) (added : Added) (new : W) : Type 0 where
+  pub first : Added
+  pub octets : List ℕ
+  pub all : added ≡ sent_more first octets
+  pub last : AreLetBy Lets these.frames these.rule octets
+  pub size : end ≡ these.start + length octets
+  pub few : these.frames ≤ end
+  pub noted : Noted Gives Lets notes old first new
 
 -- ---- what was told, and then more
 
@@ -46,7 +85,7 @@ none_read : (Gives : Reason → List ℕ → Type 0) (Lets : AbstractBody → �
 none_read Gives Lets [] read a p h = p
 none_read Gives Lets (pauses t ∷ told) read a p h = h.0
 none_read Gives Lets (reads n ∷ told) read a p h = p
-none_read Gives Lets (goes n rule ∷ told) read a p h = p
+none_read Gives Lets (goes count n rule ∷ told) read a p h = p
 none_read Gives Lets (stays why ∷ told) read a p h = p
 
 tells_on : (At : List ℕ → Added → Totals → Type 0) (Gives : Reason → List ℕ → Type 0) (Lets : AbstractBody → ℕ → Type 0) (xs ys : List Told) (read : List ℕ) (a b : Added) →
@@ -55,8 +94,8 @@ tells_on At Gives Lets xs [] read a b h k =
     subst (Tells At Gives Lets xs read) (sym (ap (joined a) k.1 ∙ joined_nothing a)) h
 tells_on At Gives Lets xs (pauses t ∷ ys) read a b h k = absurd k.0
 tells_on At Gives Lets xs (reads n ∷ ys) read a b h (first, piece, e, size, paused, k) = absurd (none_read Gives Lets ys first b paused k)
-tells_on At Gives Lets xs (goes n rule ∷ ys) read a b h (first, frame, e, is, size, by, k) =
-    (joined a first, frame, ap (joined a) e ∙ joined_sent a first frame, is, size, by, tells_on At Gives Lets xs ys read a first h k)
+tells_on At Gives Lets xs (goes count n rule ∷ ys) read a b h (first, octets, e, by, some, size, k) =
+    (joined a first, octets, ap (joined a) e ∙ joined_sent a first octets, by, some, size, tells_on At Gives Lets xs ys read a first h k)
 tells_on At Gives Lets xs (stays why ∷ ys) read a b h (first, line, e, says, k) =
     (joined a first, line, ap (joined a) e ∙ joined_reported a first line, says, tells_on At Gives Lets xs ys read a first h k)
 
@@ -76,11 +115,49 @@ module _ (W : Type 0) (Gives : Reason → List ℕ → Type 0) (Lets : AbstractB
   noted_on a b c x y p q =
       (q.0 ++ p.0, tells_on Never Gives Lets p.0 q.0 [] x y p.1 q.1, is_told_on W notes a b c p.0 q.0 p.2 q.2)
 
-  -- one more frame goes
-  pub noted_going : (a b c : W) (x : Added) (frame body : List ℕ) (rule : ℕ) → Noted Gives Lets notes a x b → IsFrame frame → body ≡ drop 4 frame
-      → GoesBy Lets body rule → notes b (goes (length frame) rule) c → Noted Gives Lets notes a (sent_more x frame) c
-  noted_going a b c x frame body rule p is same by noted =
-      (goes (length frame) rule ∷ p.0, (x, frame, refl, is, refl, subst (λ (s : List ℕ). GoesBy Lets s rule) same by, p.1), (b, p.2, noted))
+  -- ---- frames that go
+
+  pub but_none : (a b : W) (x : Added) (end : ℕ) → Noted Gives Lets notes a x b → NotedBut Gives Lets notes a (none_from end) end x b
+  but_none a b x end p = record {
+    first = x;
+    octets = [];
+    all = sym (sent_none x [] refl);
+    last = no_frames Lets 0;
+    size = omega arith;
+    few = omega arith;
+    noted = p;
+  }
+
+  -- those that wait are told
+  pub but_told : (a b c : W) (these : Untold) (end : ℕ) (x : Added) → NotedBut Gives Lets notes a these end x b → IsToldOf notes these end b c → Noted Gives Lets notes a x c
+  but_told a b c these end x h (inl (none, same)) =
+      let empty : h.octets ≡ [] = h.last.joined ∙ no_octets h.last.frames (sym h.last.counted ∙ none) in
+      rw (h.all ∙ sent_none h.first h.octets empty, same) h.noted
+  but_told a b c these end x h (inr (some, noted)) =
+      let size : end - these.start ≡ length h.octets = omega (arith, h.size) in
+      rw (h.all) (goes these.frames (end - these.start) these.rule ∷ h.noted.0, (h.first, h.octets, refl, h.last, some, size, h.noted.1), (b, h.noted.2, noted))
+
+  -- one more goes
+  pub but_more : (a b c : W) (these more : Untold) (end rule : ℕ) (x : Added) (frame body : List ℕ) → NotedBut Gives Lets notes a these end x b → IsOneMore notes these rule end b c more →
+      IsFrame frame → body ≡ drop 4 frame → GoesBy Lets body rule → NotedBut Gives Lets notes a more (end + length frame) (sent_more x frame) c
+  but_more a b c these more end rule x frame body h (inl (theirs, told, counts)) is same by = rw (counts, told) (record {
+    first = h.first;
+    octets = h.octets ++ frame;
+    all = ap (λ y. sent_more y frame) h.all ∙ sent_both h.first h.octets frame;
+    last = frame_more Lets these.frames rule h.octets frame body (rw theirs h.last) is same by;
+    size = omega (arith, h.size, length-append h.octets frame);
+    few = omega (arith, h.few, is.header);
+    noted = h.noted;
+  })
+  but_more a b c these more end rule x frame body h (inr (other, told, counts)) is same by = rw (counts) (record {
+    first = x;
+    octets = frame;
+    all = refl;
+    last = frame_more Lets 0 rule [] frame body (no_frames Lets rule) is same by;
+    size = refl;
+    few = omega (arith, is.header);
+    noted = but_told a b c these end x h told;
+  })
 
   -- one more stays
   pub noted_staying : (a b c : W) (n : ℕ) (r : Report) (x : Added) (line : List ℕ) → Noted Gives Lets notes a x b → line ≡ report_line n r → ReportGives Gives r

@@ -13,6 +13,7 @@ use Rattle.guard_frames.specs.inside.Putting.{IsCountOf, IsBroken}
 use Rattle.guard_frames.specs.inside.Waiting.{AreLines}
 use Rattle.guard_frames.proofs.Appending.{sent_more, reported_more, Prefix_second}
 use Rattle.guard_frames.proofs.Asking.{ends_joined}
+use Rattle.guard_frames.proofs.Noting.{sent_none}
 use Rattle.guard_frames.proofs.Progress.{no_prefix, cuts_one, BreaksAfter}
 use Rattle.guard_frames.proofs.Steps.{IsAt, SoFar, between_more, at_first, one_goes, one_stays, breaks_waiting, breaks_report}
 
@@ -28,9 +29,6 @@ more_lines s line t ends e = λ some. subst EndsLine (sym e) (ends_joined s line
 
 none_reported : (a : Added) (s : List ℕ) → s ≡ [] → reported_more a s ≡ a
 none_reported a s e = ap (reported_more a) e ∙ (λ i. record { out = a.out; reports = append-nil a.reports i })
-
-none_sent : (a : Added) (s : List ℕ) → s ≡ [] → sent_more a s ≡ a
-none_sent a s e = ap (sent_more a) e ∙ (λ i. record { out = append-nil a.out i; reports = a.reports })
 
 reported_both : (a : Added) (s t : List ℕ) → reported_more (reported_more a s) t ≡ reported_more a (s ++ t)
 reported_both a s t = λ i. record { out = a.out; reports = append_assoc a.reports s t i }
@@ -75,7 +73,7 @@ pub frames_put : (d : Decision) (n m b : Totals) (s lines : List ℕ) (sent end 
     BreaksAt d n s lines (sent_more a (take (end - sent) (drop sent s)))
 frames_put d n m b s lines sent end a h = elim h.alone [
   | inl none ↦ no_breaks d n s lines (sent_more a (take (end - sent) (drop sent s))) none
-  | inr same ↦ subst (BreaksAt d n s lines) (sym (none_sent a (take (end - sent) (drop sent s)) (no_frame s sent end same))) h.breaks
+  | inr same ↦ subst (BreaksAt d n s lines) (sym (sent_none a (take (end - sent) (drop sent s)) (no_frame s sent end same))) h.breaks
 ]
 
 -- a sink fails at them

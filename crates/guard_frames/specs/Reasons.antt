@@ -1,5 +1,6 @@
 -- Why frames stay, and what a watch is told: of each frame what becomes of it.
-use Rattle.std.specs.Prelude.{◌≡◌, ℕ, List, [], ◌∷◌, ◌++◌, drop, length, codes, decimal, Option, Some, None}
+use Rattle.std.specs.List.{All, concat}
+use Rattle.std.specs.Prelude.{◌≡◌, ◌<◌, ℕ, List, [], ◌∷◌, ◌++◌, drop, length, codes, decimal, Option, Some, None}
 use Rattle.guard_policy.specs.Verdicts.{AbstractVerdict, pass, unknown_message, undecodable, outside_type, denied_by, not_allowed, no_rule}
 use Rattle.guard_frames.specs.declared.totals.Totals.{Totals}
 use Rattle.guard_frames.specs.declared.why.Reason.{Reason}
@@ -32,8 +33,8 @@ pub data Told : Type 0 where
   pauses : Totals → Told
   -- so many octets came
   reads : ℕ → Told
-  -- the next frame goes, with so many octets, by the rule of this number
-  goes : ℕ → ℕ → Told
+  -- the next so many frames go, with so many octets in all, each by the rule of this number
+  goes : ℕ → ℕ → ℕ → Told
   -- the next frame stays, for this reason
   stays : Why → Told
 
@@ -42,12 +43,20 @@ abbrev pub IsPaused : List Told → Type 0
 IsPaused [] = ⊥
 IsPaused (pauses t ∷ before) = Unit {0}
 IsPaused (reads n ∷ before) = ⊥
-IsPaused (goes n rule ∷ before) = ⊥
+IsPaused (goes count n rule ∷ before) = ⊥
 IsPaused (stays why ∷ before) = ⊥
 
+-- The octets are so many frames, each of which goes by this rule; `Lets` says by which rule a body goes.
+pub record AreLetBy (Lets : AbstractBody → ℕ → Type 0) (count rule : ℕ) (octets : List ℕ) : Type 0 where
+  pub frames : List (List ℕ)
+  pub joined : octets ≡ concat frames
+  pub counted : count ≡ length frames
+  pub each : All (λ frame. IsFrame frame × GoesBy Lets (drop 4 frame) rule) frames
+
 -- All this, the last first, was told of what was read and added: of each piece, which came after a pause, how many octets
--- it has, of each frame that goes out how many it has and by which rule it goes, as `Lets` says, and of each line that is
--- reported what it says. At each pause this holds of what was read and added before it, and of its totals.
+-- it has, of frames that go out side by side, at least one, how many they are, how many octets they have and by which rule
+-- they go, as `Lets` says, and of each line that is reported what it says. At each pause this holds of what was read and
+-- added before it, and of its totals.
 abbrev pub Tells : (List ℕ → Added → Totals → Type 0) → (Reason → List ℕ → Type 0) → (AbstractBody → ℕ → Type 0) →
     List Told → List ℕ → Added → Type 0
 Tells At Gives Lets [] read added = (read ≡ []) × (added ≡ nothing)
@@ -55,9 +64,9 @@ Tells At Gives Lets (pauses t ∷ before) read added = At read added t × Tells 
 Tells At Gives Lets (reads n ∷ before) read added =
     (first : List ℕ) × (piece : List ℕ) × (read ≡ first ++ piece) × (n ≡ length piece) × IsPaused before
     × Tells At Gives Lets before first added
-Tells At Gives Lets (goes n rule ∷ before) read added =
-    (first : Added) × (frame : List ℕ) × (added ≡ sent_more first frame) × IsFrame frame × (n ≡ length frame)
-    × GoesBy Lets (drop 4 frame) rule × Tells At Gives Lets before read first
+Tells At Gives Lets (goes count n rule ∷ before) read added =
+    (first : Added) × (octets : List ℕ) × (added ≡ sent_more first octets) × AreLetBy Lets count rule octets
+    × (0 < count) × (n ≡ length octets) × Tells At Gives Lets before read first
 Tells At Gives Lets (stays why ∷ before) read added =
     (first : Added) × (line : List ℕ) × (added ≡ reported_more first line) × Says Gives why line
     × Tells At Gives Lets before read first

@@ -3,4 +3,5 @@ pub mod Closing
 pub mod Judged
 pub mod Putting
 pub mod Seats
+pub mod Untold
 pub mod Waiting

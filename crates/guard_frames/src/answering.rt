@@ -44,7 +44,15 @@ pub fn answer<D: Decide, S: Sink>(
     ensures lines { AsksLines (S.asked answers.old) (S.asked answers.new) }
 {
     let frame = frame_of(frame);
-    match judge(alloc, policy, number, &frame, &mut LastRoute::none()) {
+    let mut room = Vec::new(alloc);
+    match judge(
+        alloc,
+        policy,
+        number,
+        &frame,
+        &mut LastRoute::none(),
+        &mut room,
+    ) {
         Ruling::Goes(_) => {
             let Some(body) = read_body(frame.body) else {
                 unreachable!()

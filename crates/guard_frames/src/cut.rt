@@ -1,6 +1,6 @@
 //! The first frame of some octets.
 
-ghost use Rattle.std.specs.Prelude.{◌≡◌, ◌<◌, ◌≤◌, ◌^◌, length, drop};
+ghost use Rattle.std.specs.Prelude.{◌≡◌, ◌<◌, ◌≤◌, ◌^◌, None, length, drop, IfSome};
 ghost use Rattle.guard_frames.specs.Frames.{stated_length};
 ghost use Rattle.guard_frames.specs.Cutting.{IsCut};
 
@@ -48,6 +48,21 @@ pub fn body_length(octets: &[u8]) -> usize
         + octets[3] as usize
 }
 
+/// The length of the body of a frame that begins so, as its first four octets state it. None where they state more than
+/// 1,048,576, which no frame may have. Condition: there are four octets at least.
+pub fn allowed_length(octets: &[u8]) -> Option<usize>
+    requires { 4 ≤ length octets.now }
+    ensures allowed { IfSome result (λ n. (n ≡ stated_length octets.now) × (n ≤ 1048576)) }
+    ensures none { result ≡ None → 1048576 < stated_length octets.now }
+{
+    let body = body_length(octets);
+    if body <= LONGEST_BODY {
+        Some(body)
+    } else {
+        None
+    }
+}
+
 /// What the octets begin with: a whole frame; else octets that can become one, or a length above 1,048,576.
 pub fn first_cut(octets: &[u8]) -> Cut
     ensures { IsCut octets.now result }
@@ -55,10 +70,10 @@ pub fn first_cut(octets: &[u8]) -> Cut
     if octets.len() < 4 {
         return Cut::Rest(Rest::Unfinished);
     }
-    let body = body_length(octets);
-    if body > LONGEST_BODY {
-        Cut::Rest(Rest::TooLong)
-    } else if octets.len() < body + 4 {
+    let Some(body) = allowed_length(octets) else {
+        return Cut::Rest(Rest::TooLong);
+    };
+    if octets.len() < body + 4 {
         Cut::Rest(Rest::Unfinished)
     } else {
         Cut::Frame(frame_of(&octets[..body + 4]))

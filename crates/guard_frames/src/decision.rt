@@ -35,11 +35,12 @@ pub trait Decide {
         ensures { IsDecided (decides self.now) (lets self.now) (reasons_of self.now) body.now result };
 
     /// The report line of the frame of this number and with this body, with its line feed, and the reason that it gives.
-    /// Conditions: the body has three names, it is decided to stay, and a reason that is given is the one that `goes`
+    /// The line takes the room of `room`, whose octets are dropped, so that one room serves many lines. Conditions: the body has three names, it is decided to stay, and a reason that is given is the one that `goes`
     /// told of it, so that no more is asked of its message than this reason leaves open. OutOfMemory is the only error.
     fn line(
         &self,
         alloc: Global,
+        room: Vec<u8>,
         number: u64,
         body: &Body,
         told: Option<PlainReason>,

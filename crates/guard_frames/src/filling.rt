@@ -3,10 +3,10 @@
 ghost use Rattle.std.specs.Prelude.{◌≡◌, ◌<◌, ◌≤◌, ◌+◌, ℕ, List, min, ◌++◌, length, take, vec_capacity};
 ghost use Rattle.guard_frames.specs.Frames.{IsFrame, IsUnfinished, stated_length};
 
-use crate::cut::{LONGEST_BODY, body_length};
+use crate::cut::{LENGTH_OCTETS, LONGEST_BODY, allowed_length};
 
 /// How many octets a link can hold: those of the longest frame.
-pub const LONGEST_FRAME: usize = 1_048_580;
+pub const LONGEST_FRAME: usize = LENGTH_OCTETS + LONGEST_BODY;
 
 /// Appends the first octets of the piece, so many at most, and answers how many. Condition: there is room for so many.
 pub fn hold_some(held: &mut Vec<u8>, piece: &[u8], most: usize) -> usize
@@ -42,10 +42,9 @@ pub fn complete(held: &mut Vec<u8>, piece: &[u8]) -> usize
             return used;
         }
     }
-    let body = body_length(held);
-    if body > LONGEST_BODY {
+    let Some(body) = allowed_length(held) else {
         return used;
-    }
+    };
     let lacking = body + 4 - held.len();
     used + hold_some(held, &piece[used..], lacking)
 }

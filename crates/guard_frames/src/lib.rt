@@ -10,6 +10,7 @@
 //! | What becomes of one frame? | `report.rt` (`judge`) | `specs/Guarding.antt` (`Adds`), `specs/inside/Judged.antt` |
 //! | Why does a frame stay, and who is told? | `why.rt` (`Why`, `Watch`) | `specs/Reasons.antt` |
 //! | By which rule does a frame go? | `decision.rt` (`Decide`) | `specs/Outcomes.antt` (`GoesBy`) |
+//! | Of which frames is a watch told at once? | `untold.rt` (`Untold`) | `specs/inside/Untold.antt` |
 //! | What goes out of octets in memory? | `putting.rt` (`put_frames`) | `specs/Guarding.antt` (`text_out`) |
 //! | What is reported of them? | `putting.rt` | `specs/Guarding.antt` (`AllAdd`), `specs/inside/Putting.antt` |
 //! | How many frames were there? | `totals.rt` (`Totals`) | `specs/Totals.antt`, `specs/Guarding.antt` (`Counts`) |
@@ -62,12 +63,13 @@ mod short_line;
 mod texts;
 mod through;
 mod totals;
+mod untold;
 mod waiting;
 mod why;
 
 pub use answering::answer;
 pub use body::Body;
-pub use cut::{Cut, Frame, LENGTH_OCTETS, LONGEST_BODY, Rest, body_length, first_cut};
+pub use cut::{Cut, Frame, LENGTH_OCTETS, LONGEST_BODY, Rest, allowed_length, first_cut};
 pub use decision::Decide;
 pub use devices::{Failed, Sink, Source, put_all, put_both};
 pub use filling::LONGEST_FRAME;
@@ -76,10 +78,11 @@ pub use guarding::run;
 pub use header::read_body;
 pub use kept::Kept;
 pub use link::{Link, LinkFault};
+pub use policies::route_of;
 pub use running::{MOST_READS, RunFault, decide_link, new_buffer};
 pub use seats::Ends;
 pub use short_line::{ShortLine, append};
 pub use texts::{TextsFault, load_texts, run_texts};
 pub use through::Through;
 pub use totals::Totals;
-pub use why::{Reason, Unwatched, Watch, Why};
+pub use why::{Reason, Unwatched, Watch, Why, reason_of};

@@ -16,7 +16,7 @@ use crate::header::{cut_body, has_names};
 use crate::why::{Reason, reason_of};
 use guard_model::OutOfMemory;
 use guard_policy::{LastRoute, Passing, PlainReason, Policy, Route, Verdict};
-use guard_report::line;
+use guard_report::add_line;
 use std::alloc::Global;
 
 impl Decide for Policy {
@@ -38,6 +38,7 @@ impl Decide for Policy {
     fn line(
         &self,
         alloc: Global,
+        room: Vec<u8>,
         number: u64,
         body: &Body,
         told: Option<PlainReason>,
@@ -45,10 +46,10 @@ impl Decide for Policy {
         let route = route_of(body);
         // A verdict is large: one that is told isn't handed up.
         if let Some(verdict) = verdict_told(told) {
-            return line_of(alloc, number, &route, &verdict, self);
+            return line_of(room, number, &route, &verdict, self);
         }
         let verdict = self.reason_as_told(alloc, &route, body.message_octets, told)?;
-        line_of(alloc, number, &route, &verdict, self)
+        line_of(room, number, &route, &verdict, self)
     }
 }
 
@@ -62,9 +63,9 @@ fn verdict_told(told: Option<PlainReason>) -> Option<Verdict>
     }
 }
 
-/// The line of a verdict, and the reason that it gives. Condition: the verdict isn't to pass.
+/// The line of a verdict in this room, and the reason that it gives. Condition: the verdict isn't to pass.
 fn line_of(
-    alloc: Global,
+    room: Vec<u8>,
     number: u64,
     route: &Route,
     verdict: &Verdict,
@@ -75,7 +76,9 @@ fn line_of(
         (said.0.items ≡ line_octets (policy_view policy.now) (route_view route.now) number (verdict_view verdict.now))
         × (reason_of (verdict_view verdict.now) ≡ Some said.1)) }
 {
-    let line = line(alloc, number, route, verdict, policy)?;
+    let mut line = room;
+    line.clear();
+    add_line(&mut line, number, route, verdict, policy)?;
     Ok((line, reason_of(verdict)))
 }
 
@@ -101,7 +104,7 @@ fn goes_as_read(policy: &Policy, octets: &[u8], last: &mut LastRoute) -> Passing
 }
 
 /// The route of a body: who sends what to whom, by the names in its header.
-fn route_of<'a>(body: &Body<'a>) -> Route<'a>
+pub fn route_of<'a>(body: &Body<'a>) -> Route<'a>
     ensures { route_view result ≡ route_of (body_view body.now) }
 {
     Route {

@@ -13,6 +13,7 @@ use crate::report::{Ruling, judge, line_of};
 use crate::sending::{Broken, put_going};
 use crate::short_line::ShortLine;
 use crate::totals::Totals;
+use crate::untold::Untold;
 use crate::waiting::Waiting;
 use crate::why::Watch;
 use guard_policy::LastRoute;
@@ -30,10 +31,11 @@ pub struct Whole {
 }
 
 /// Decides the whole frames at the front of the octets, counted on from `totals`, and puts each one that goes, or the
-/// line of one that stays; the watch is told of each. Frames that go side by side wait to be put in one call, and so do
-/// lines of frames that stay side by side, as many as `Waiting` lets wait. What waits for one sink is put before
-/// anything goes to the other, and at the return nothing waits. Most frames have the route of the frame before, so each
-/// is compared with it first.
+/// line of one that stays; the watch is told of each, of those that go side by side by one rule at once. Frames that go
+/// side by side wait to be put in one call, and so do lines of frames that stay side by side, as many as `Waiting` lets
+/// wait. What waits for one sink is put before anything goes to the other, and the watch is told of frames that go
+/// before they are put; at the return nothing waits. Most frames have the route of the frame before, so each is compared
+/// with it first.
 pub fn put_frames<D: Decide, O: Sink, R: Sink, W: Watch>(
     alloc: Global,
     policy: &D,
@@ -60,32 +62,39 @@ pub fn put_frames<D: Decide, O: Sink, R: Sink, W: Watch>(
     let mut end = 0;
     let mut last = LastRoute::none();
     let mut waiting = Waiting::none(alloc);
+    let mut short = ShortLine::new();
+    let mut room = Vec::new(alloc);
+    let mut untold = Untold::none(0);
     loop {
         let frame = match first_cut(&octets[end..]) {
             Cut::Frame(frame) => frame,
             Cut::Rest(rest) => {
+                untold.tell(watch, end);
                 put_going(out, &octets[sent..end], before)?;
                 waiting.put(reports)?;
                 return Ok(Whole { end, totals, rest });
             }
         };
         let number = totals.next_number();
-        match judge(alloc, policy, number, &frame, &mut last) {
+        match judge(alloc, policy, number, &frame, &mut last, &mut room) {
             Ruling::Goes(rule) => {
                 waiting.put(reports)?;
-                watch.goes(frame.octets.len(), rule);
+                untold = untold.and_one(watch, rule, end);
                 end += frame.octets.len();
                 totals = totals.after_going();
             }
             Ruling::Stopped(report) => {
+                untold.tell(watch, end);
                 put_going(out, &octets[sent..end], before)?;
                 watch.stays(report.why());
-                let mut short = ShortLine::new();
+                short.clear();
                 waiting.add(reports, line_of(number, &report, &mut short))?;
+                room = report.into_room(alloc);
                 end += frame.octets.len();
                 totals = totals.after_staying();
                 before = totals;
                 sent = end;
+                untold = Untold::none(end);
             }
         }
     }

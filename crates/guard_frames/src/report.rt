@@ -18,6 +18,7 @@ use crate::why::{Reason, Why};
 use guard_policy::{LastRoute, Passing, PlainReason};
 use itoa::Buffer;
 use std::alloc::Global;
+use std::mem;
 
 /// What becomes of a frame.
 #[derive(Drop)]
@@ -53,9 +54,18 @@ impl Report {
             Report::Line(_, reason) => Why::Decided(*reason),
         }
     }
+
+    /// The room of its line, for the next one.
+    pub fn into_room(self, alloc: Global) -> Vec<u8> {
+        match self {
+            Report::BadHeader | Report::NoMemory => Vec::new(alloc),
+            Report::Line(line, _) => line,
+        }
+    }
 }
 
-/// What becomes of the frame of this number. No memory is taken for one that goes. Condition: the frame's body is what
+/// What becomes of the frame of this number. No memory is taken for one that goes, and the line of one that stays takes
+/// the room that is given, in whose place none is left. Condition: the frame's body is what
 /// follows its first four octets.
 pub fn judge<D: Decide>(
     alloc: Global,
@@ -63,6 +73,7 @@ pub fn judge<D: Decide>(
     number: u64,
     frame: &Frame,
     last: &mut LastRoute,
+    room: &mut Vec<u8>,
 ) -> Ruling
     requires { frame.now.body.now ≡ drop 4 frame.now.octets.now }
     ensures judged { IsJudged (D.decides policy.now) number frame.now.octets.now result }
@@ -75,7 +86,7 @@ pub fn judge<D: Decide>(
         Passing::Stopped(told) => told,
     };
     match read_body(frame.body) {
-        Some(body) => Ruling::Stopped(report_of(alloc, policy, number, &body, told)),
+        Some(body) => Ruling::Stopped(report_of(alloc, policy, number, &body, told, room)),
         None => Ruling::Stopped(Report::BadHeader),
     }
 }
@@ -87,6 +98,7 @@ fn report_of<D: Decide>(
     number: u64,
     body: &Body,
     told: Option<PlainReason>,
+    room: &mut Vec<u8>,
 ) -> Report
     requires names { HasNames (body_view body.now) }
     requires stays { (D.decides policy.now).LetsGo (body_view body.now) → ⊥ }
@@ -95,7 +107,8 @@ fn report_of<D: Decide>(
     ensures ends { ReportEnds result }
     ensures gives { ReportGives (D.gives policy.now) result }
 {
-    match policy.line(alloc, number, body, told) {
+    let room = mem::replace(room, Vec::new(alloc));
+    match policy.line(alloc, room, number, body, told) {
         Ok((line, reason)) => Report::Line(line, reason),
         Err(_) => Report::NoMemory,
     }

@@ -32,11 +32,29 @@ pub enum RunFault {
     #[error("{}", LinkFault::TornFrame.text())]
     TornFrame,
     /// F5: the source has failed, or was asked 2^40 times.
-    #[error("F5 ReadFailed")]
+    #[error("{}", RunFault::ReadFailed.text())]
     ReadFailed,
     /// There was no memory to begin. Nothing was read.
-    #[error("OutOfMemory")]
+    #[error("{}", RunFault::OutOfMemory.text())]
     OutOfMemory,
+}
+
+impl RunFault {
+    ghost use Rattle.std.specs.Prelude.{◌≡◌};
+    ghost use Rattle.guard_frames.specs.FaultTexts.{run_text};
+
+    /// The fault as it prints: its number and its name, or that there is no memory.
+    pub fn text(&self) -> &'static str
+        ensures { result.now ≡ run_text self.now }
+    {
+        match self {
+            RunFault::FrameTooLong => LinkFault::FrameTooLong.text(),
+            RunFault::WriteFailed => LinkFault::WriteFailed.text(),
+            RunFault::TornFrame => LinkFault::TornFrame.text(),
+            RunFault::ReadFailed => "F5 ReadFailed",
+            RunFault::OutOfMemory => "OutOfMemory",
+        }
+    }
 }
 
 impl From<Closing> for RunFault {

@@ -1,6 +1,6 @@
 //! Why frames stay, and who is told what becomes of each.
 
-ghost use Rattle.std.specs.Prelude.{◌≡◌, Some};
+ghost use Rattle.std.specs.Prelude.{◌≡◌, ◌<◌, Some};
 ghost use Rattle.guard_policy.specs.Verdicts.{verdict_view, pass};
 ghost use Rattle.guard_frames.specs.Reasons.{reason_of, Told};
 ghost use Rattle.guard_frames.specs.Reasons.Told.{pauses, reads, goes, stays};
@@ -33,7 +33,7 @@ pub enum Why {
 }
 
 /// The reason of a verdict. Condition: the verdict isn't to pass.
-pub(crate) fn reason_of(verdict: &Verdict) -> Reason
+pub fn reason_of(verdict: &Verdict) -> Reason
     requires { verdict_view verdict.now ≡ pass → ⊥ }
     ensures { reason_of (verdict_view verdict.now) ≡ Some result }
 {
@@ -61,9 +61,11 @@ pub trait Watch {
     fn reads(&mut self, octets: usize)
         ensures { notes self.old (reads octets) self.new };
 
-    /// The next frame goes, with so many octets, and by the rule of this number. It may not be out yet.
-    fn goes(&mut self, octets: usize, rule: usize)
-        ensures { notes self.old (goes octets rule) self.new };
+    /// The next so many frames go, at least one, with so many octets in all, and each by the rule of this number. They
+    /// may not be out yet.
+    fn goes(&mut self, frames: usize, octets: usize, rule: usize)
+        requires { 0 < frames }
+        ensures { notes self.old (goes frames octets rule) self.new };
 
     /// The next frame stays, for this reason.
     fn stays(&mut self, why: Why)
@@ -81,7 +83,7 @@ impl Watch for Unwatched {
 
     fn reads(&mut self, _octets: usize) {}
 
-    fn goes(&mut self, _octets: usize, _rule: usize) {}
+    fn goes(&mut self, _frames: usize, _octets: usize, _rule: usize) {}
 
     fn stays(&mut self, _why: Why) {}
 }

@@ -5,7 +5,8 @@
 --
 -- One rule lets the small orders of north to south through.
 use Rattle.std.specs.Prelude.{◌≡◌, ℕ, suc, pos, false, List, [], ◌∷◌, ◌++◌, codes, drop, None, refl}
-use Rattle.std.proofs.Common.{inl, inr}
+use Rattle.std.proofs.Common.{inl, inr, arith}
+use Rattle.std.proofs.lemmas.List.Elements.{All-cons}
 use Rattle.std.specs.Fmt.{digits}
 use Rattle.guard_model.specs.declared.site.Step.TheVariants.{Component}
 use Rattle.guard_model.specs.AbstractType as type
@@ -20,11 +21,12 @@ use Rattle.guard_policy.specs.Policies.{AbstractPolicy}
 use Rattle.guard_policy.specs.Verdicts.{AbstractVerdict, not_allowed}
 use Rattle.guard_frames.specs.Added.{nothing}
 use Rattle.guard_frames.specs.Bodies.{AbstractBody}
+use Rattle.guard_frames.specs.Frames.{IsFrame}
 use Rattle.guard_frames.specs.Headline.{MayGo, IsLineOf}
 use Rattle.guard_frames.specs.OfPolicy.{gives_of, lets_of}
 use Rattle.guard_frames.specs.Outcomes.{GoesBy}
 use Rattle.guard_frames.specs.Reasons.{Noted}
-use Rattle.guard_frames.specs.Reasons.Told.{stays}
+use Rattle.guard_frames.specs.Reasons.Told.{goes, stays}
 use Rattle.guard_frames.specs.declared.why.Reason.TheVariants.{NotAllowed}
 use Rattle.guard_frames.specs.declared.why.Why.TheVariants.{BadHeader, Decided}
 
@@ -139,3 +141,26 @@ two_noted = (
   ),
   (1, (0, refl, refl), refl),
 )
+
+-- two frames of five, of which a watch that counts was told at once
+two_at_once : Noted (gives_of policy) (lets_of policy) (λ n told m. m ≡ suc n) 0 (record { out = frame 5 ++ frame 5; reports = [] }) 1
+two_at_once =
+    let Let : List ℕ → Type 0 = λ f. IsFrame f × GoesBy (lets_of policy) (drop 4 f) 0 in
+    let five : Let (frame 5) = (record { header = omega arith; allowed = omega arith; exact = refl }, five_by_small) in (
+      goes 2 54 0 ∷ [],
+      (
+        nothing,
+        frame 5 ++ frame 5,
+        refl,
+        record {
+          frames = frame 5 ∷ frame 5 ∷ [];
+          joined = refl;
+          counted = refl;
+          each = All-cons Let (frame 5) (frame 5 ∷ []) five (All-cons Let (frame 5) [] five (λ k d h. absurd (omega (arith, h))));
+        },
+        omega arith,
+        refl,
+        (refl, refl),
+      ),
+      (0, refl, refl),
+    )

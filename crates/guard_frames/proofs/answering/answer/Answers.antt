@@ -28,8 +28,8 @@ pub put_pass-requires-clause-name : goal.put_pass-requires-clause-name
 put_pass-requires-clause-name g c =
     name_short c.in-Some.body.name.now (names_are c.frame_of-frame.result.body.now (body_view c.in-Some.body) c.in-Some.ensures).name
 
-pub returns-in_ok-put_pass-in-Goes-clause-all : goal.returns-in_ok-put_pass-in-Goes-clause-all
-returns-in_ok-put_pass-in-Goes-clause-all g c =
+pub returns-in-Goes-clause-all : goal.returns-in-Goes-clause-all
+returns-in-Goes-clause-all g c =
     let d = g.D.Decide.decides c.args.policy.now in
     let b = body_view c.in-Some.body in
     let go : FrameGoes d c.args.frame.now = subst (FrameGoes d) c.frame_of-frame.ensures.whole c.in-Goes.ensures.judged in (
@@ -65,8 +65,8 @@ returns-in_err-put_report-in-Stopped-clause-part g c =
     on_err_of c.from_residual-in_err-put_report-in-Stopped.result
     (staying c.args.frame.now, line, p.0, refl, stays_by d n c.args.frame.now line adds, p.1, p.2)
 
-pub returns-in_ok-put_report-in-Stopped-clause-all : goal.returns-in_ok-put_report-in-Stopped-clause-all
-returns-in_ok-put_report-in-Stopped-clause-all g c =
+pub returns-clause-all : goal.returns-clause-all
+returns-clause-all g c =
     let d = g.D.Decide.decides c.args.policy.now in
     let n = c.args.number in
     let line = report_line n c.in-Stopped.report in

@@ -1,11 +1,11 @@
-use Rattle.std.proofs.Common.{ℕ, List, ◌+◌, ◌-◌, sym, subst, take, drop, length}
+use Rattle.std.proofs.Common.{◌+◌, ◌-◌, sym, subst, take, drop, length}
 use Rattle.std.proofs.lemmas.Result.{err_from_is_err_and}
 use Rattle.guard_frames.specs.Totals.{next_number}
 use Rattle.guard_frames.specs.Added.{Added, nothing}
 use Rattle.guard_frames.specs.Reasons.{Noted}
 use Rattle.guard_frames.proofs.Asking.{asks_none, asks_trans}
 use Rattle.guard_frames.proofs.Appending.{sent_more, reported_more, both_none, both_sent, both_reported}
-use Rattle.guard_frames.proofs.Noting.{noted_none, noted_going, noted_staying}
+use Rattle.guard_frames.proofs.Noting.{noted_none, noted_staying, but_none, but_told, but_more}
 use Rattle.guard_frames.proofs.Reporting.{adds_line}
 use Rattle.guard_frames.proofs.Steps.{first_at, at_last}
 use Rattle.guard_frames.proofs.Waits.{no_lines, at_start, frames_put, so_far_told, broken_out, told_going, told_staying, goes_next, line_breaks, stays_next}
@@ -18,8 +18,8 @@ loop-frame-init g c = (
   both_none _ _,
   asks_none _,
   no_lines c.none-waiting.result.lines.items c.none-waiting.ensures,
-  subst (λ (x : List ℕ). Noted (g.D.Decide.gives c.args.policy.now) (g.D.Decide.lets c.args.policy.now) g.W.Watch.notes c.args.watch.now
-      (so_far_told nothing c.args.octets.now x 0 0) c.args.watch.now) (sym c.none-waiting.ensures) (noted_none _ (g.D.Decide.gives c.args.policy.now) (g.D.Decide.lets c.args.policy.now) g.W.Watch.notes c.args.watch.now),
+  rw (c.none-untold.ensures, c.none-waiting.ensures)
+      (but_none _ _ _ _ _ _ _ _ (noted_none _ (g.D.Decide.gives c.args.policy.now) (g.D.Decide.lets c.args.policy.now) g.W.Watch.notes c.args.watch.now)),
 )
 
 -- ---- no whole frame is left
@@ -34,8 +34,8 @@ returns-in_err-put_going-in-Rest-clause-failure g c =
       sent_more h.0 p.0,
       broken_out d c.args.totals c.loop-frame.totals c.loop-frame.before _ c.args.octets.now c.loop-frame.waiting.lines.items p.0
           c.loop-frame.sent c.loop-frame.end h.0
-          (λ (x : Added). Noted (g.D.Decide.gives c.args.policy.now) (g.D.Decide.lets c.args.policy.now) g.W.Watch.notes c.args.watch.now x c.loop-frame.watch)
-          h.1 p.1 p.3 h.5,
+          (λ (x : Added). Noted (g.D.Decide.gives c.args.policy.now) (g.D.Decide.lets c.args.policy.now) g.W.Watch.notes c.args.watch.now x c.tell.new.watch)
+          h.1 p.1 p.3 (but_told _ _ _ _ _ _ _ _ _ _ h.5 c.tell.ensures),
       both_sent _ _ _ _ _ h.0 p.0 h.2 p.2,
     )
 
@@ -55,7 +55,7 @@ returns-in_err-put-in-Rest-clause-failure g c =
       (
         frames_put d c.args.totals c.loop-frame.totals c.loop-frame.before s c.loop-frame.waiting.lines.items c.loop-frame.sent c.loop-frame.end h.0 h.1 p.0 p.1,
         so_far_told h.0 s c.loop-frame.waiting.lines.items c.loop-frame.sent c.loop-frame.end,
-        h.5,
+        but_told _ _ _ _ _ _ _ _ _ _ h.5 c.tell.ensures,
       ),
       both_reported _ _ _ _ _ (sent_more h.0 waiting) p.0 (both_sent _ _ _ _ _ h.0 waiting h.2 c.in_ok-put_going-in-Rest.ensures.all) p.2,
     )
@@ -70,7 +70,7 @@ returns-in-Rest-clause-whole g c =
       at_last d c.args.totals c.loop-frame.totals c.loop-frame.before s c.loop-frame.sent c.loop-frame.end c.in-Rest.rest (reported_more h.0 c.loop-frame.waiting.lines.items) h.1.so_far c.in-Rest.ensures,
       both_reported _ _ _ _ _ (sent_more h.0 waiting) c.loop-frame.waiting.lines.items (both_sent _ _ _ _ _ h.0 waiting h.2 c.in_ok-put_going-in-Rest.ensures.all)
           c.in_ok-put-in-Rest.ensures.all,
-      h.5,
+      but_told _ _ _ _ _ _ _ _ _ _ h.5 c.tell.ensures,
     )
 
 -- ---- a frame goes
@@ -85,7 +85,7 @@ returns-in_err-put-in-Goes-clause-failure g c =
     let e = err_from_is_err_and c.from_residual-in_err-put-in-Goes.result c.from_residual-in_err-put-in-Goes.ensures.1 in
     rw (e.1, e.2) (
       reported_more h.0 p.0,
-      (h.1.breaks p.0 p.1, so_far_told h.0 c.args.octets.now c.loop-frame.waiting.lines.items c.loop-frame.sent c.loop-frame.end, h.5),
+      (h.1.breaks p.0 p.1, h.5.first, h.5.noted),
       both_reported _ _ _ _ _ h.0 p.0 h.2 p.2,
     )
 
@@ -102,12 +102,9 @@ loop-frame-preserved-in-Goes g c =
       both_reported _ _ _ _ _ h.0 c.loop-frame.waiting.lines.items h.2 c.in_ok-put-in-Goes.ensures.all,
       asks_trans _ _ _ h.3 c.in_ok-put-in-Goes.ensures.lines,
       no_lines c.put-in-Goes.new.self.lines.items c.in_ok-put-in-Goes.ensures.none,
-      subst (λ (x : Added). Noted (g.D.Decide.gives c.args.policy.now) (g.D.Decide.lets c.args.policy.now) g.W.Watch.notes c.args.watch.now x c.goes.new.self)
-          (told_going s f.octets.now c.loop-frame.waiting.lines.items c.put-in-Goes.new.self.lines.items c.loop-frame.sent c.loop-frame.end h.0
-          h.1.so_far.ordered at c.in_ok-put-in-Goes.ensures.none)
-          (noted_going _ (g.D.Decide.gives c.args.policy.now) (g.D.Decide.lets c.args.policy.now) g.W.Watch.notes c.args.watch.now c.loop-frame.watch c.goes.new.self
-          (so_far_told h.0 s c.loop-frame.waiting.lines.items c.loop-frame.sent c.loop-frame.end) f.octets.now f.body.now c.in-Goes.rule h.5 at.frame c.in-Frame.ensures.body
-          c.in-Goes.ensures.lets c.goes.ensures),
+      rw (sym (told_going s f.octets.now c.loop-frame.waiting.lines.items c.put-in-Goes.new.self.lines.items c.loop-frame.sent c.loop-frame.end h.0
+          h.1.so_far.ordered at c.in_ok-put-in-Goes.ensures.none))
+          (but_more _ _ _ _ _ _ _ _ _ _ _ _ _ f.body.now h.5 c.and_one-untold.ensures at.frame c.in-Frame.ensures.body c.in-Goes.ensures.lets),
     )
 
 -- ---- a frame stays
@@ -122,8 +119,8 @@ returns-in_err-put_going-in-Stopped-clause-failure g c =
       sent_more h.0 p.0,
       broken_out d c.args.totals c.loop-frame.totals c.loop-frame.before _ c.args.octets.now c.loop-frame.waiting.lines.items p.0
           c.loop-frame.sent c.loop-frame.end h.0
-          (λ (x : Added). Noted (g.D.Decide.gives c.args.policy.now) (g.D.Decide.lets c.args.policy.now) g.W.Watch.notes c.args.watch.now x c.loop-frame.watch)
-          h.1 p.1 p.3 h.5,
+          (λ (x : Added). Noted (g.D.Decide.gives c.args.policy.now) (g.D.Decide.lets c.args.policy.now) g.W.Watch.notes c.args.watch.now x c.tell-in-Stopped.new.watch)
+          h.1 p.1 p.3 (but_told _ _ _ _ _ _ _ _ _ _ h.5 c.tell-in-Stopped.ensures),
       both_sent _ _ _ _ _ h.0 p.0 h.2 p.2,
     )
 
@@ -147,36 +144,11 @@ returns-in_err-add-in-Stopped-clause-failure g c =
       (
         line_breaks d c.args.totals c.loop-frame.totals c.loop-frame.before s f.octets.now c.loop-frame.waiting.lines.items c.line_of.result.now p.0 c.loop-frame.sent c.loop-frame.end h.0 h.1 at adds p.1,
         reported_more (so_far_told h.0 s c.loop-frame.waiting.lines.items c.loop-frame.sent c.loop-frame.end) c.line_of.result.now,
-        noted_staying _ (g.D.Decide.gives c.args.policy.now) (g.D.Decide.lets c.args.policy.now) g.W.Watch.notes c.args.watch.now c.loop-frame.watch c.stays.new.self
+        noted_staying _ (g.D.Decide.gives c.args.policy.now) (g.D.Decide.lets c.args.policy.now) g.W.Watch.notes c.args.watch.now c.tell-in-Stopped.new.watch c.stays.new.self
             c.next_number-number.result c.in-Stopped.report (so_far_told h.0 s c.loop-frame.waiting.lines.items c.loop-frame.sent c.loop-frame.end)
-            c.line_of.result.now h.5 c.line_of.ensures.line c.in-Stopped.ensures.gives (rw c.why.ensures at c.stays.ensures),
+            c.line_of.result.now (but_told _ _ _ _ _ _ _ _ _ _ h.5 c.tell-in-Stopped.ensures) c.line_of.ensures.line c.in-Stopped.ensures.gives (rw c.why.ensures at c.stays.ensures),
       ),
       both_reported _ _ _ _ _ (sent_more h.0 waiting) p.0 (both_sent _ _ _ _ _ h.0 waiting h.2 c.in_ok-put_going-in-Stopped.ensures.all) p.2,
-    )
-
-pub loop-frame-preserved-in_ok-add-in-Stopped : goal.loop-frame-preserved-in_ok-add-in-Stopped
-loop-frame-preserved-in_ok-add-in-Stopped g c =
-    let d = g.D.Decide.decides c.args.policy.now in
-    let h = c.loop-frame.invariant in
-    let s = c.args.octets.now in
-    let f = c.in-Frame.frame in
-    let at = first_at s c.loop-frame.end f h.1.so_far.within c.in-Frame.ensures in
-    let waiting = take (c.loop-frame.end - c.loop-frame.sent) (drop c.loop-frame.sent s) in
-    let adds = adds_line d c.next_number-number.result (next_number c.loop-frame.totals) f.octets.now c.line_of.result.now c.in-Stopped.report
-    c.next_number-number.ensures c.line_of.ensures.line c.in-Stopped.ensures.judged in
-    let q = c.in_ok-add-in-Stopped.ensures.all in (
-      reported_more (sent_more h.0 waiting) q.0,
-      stays_next d c.args.totals c.loop-frame.totals c.loop-frame.before c.after_staying-totals.result s f.octets.now c.loop-frame.waiting.lines.items c.line_of.result.now q.0
-          c.add.new.self.lines.items c.loop-frame.sent c.loop-frame.end h.0 h.1 at adds c.after_staying-totals.ensures q.1,
-      both_reported _ _ _ _ _ (sent_more h.0 waiting) q.0 (both_sent _ _ _ _ _ h.0 waiting h.2 c.in_ok-put_going-in-Stopped.ensures.all) q.2,
-      asks_trans _ _ _ h.3 c.in_ok-add-in-Stopped.ensures.lines,
-      c.in_ok-add-in-Stopped.ensures.waiting,
-      subst (λ (x : Added). Noted (g.D.Decide.gives c.args.policy.now) (g.D.Decide.lets c.args.policy.now) g.W.Watch.notes c.args.watch.now x c.stays.new.self)
-          (told_staying s c.loop-frame.waiting.lines.items c.line_of.result.now q.0 c.add.new.self.lines.items c.loop-frame.sent c.loop-frame.end
-          (c.loop-frame.end + length f.octets.now) h.0 q.1)
-          (noted_staying _ (g.D.Decide.gives c.args.policy.now) (g.D.Decide.lets c.args.policy.now) g.W.Watch.notes c.args.watch.now c.loop-frame.watch c.stays.new.self
-          c.next_number-number.result c.in-Stopped.report (so_far_told h.0 s c.loop-frame.waiting.lines.items c.loop-frame.sent c.loop-frame.end)
-          c.line_of.result.now h.5 c.line_of.ensures.line c.in-Stopped.ensures.gives (rw c.why.ensures at c.stays.ensures)),
     )
 
 pub loop-frame-preserved : goal.loop-frame-preserved
@@ -196,12 +168,12 @@ loop-frame-preserved g c =
       both_reported _ _ _ _ _ (sent_more h.0 waiting) q.0 (both_sent _ _ _ _ _ h.0 waiting h.2 c.in_ok-put_going-in-Stopped.ensures.all) q.2,
       asks_trans _ _ _ h.3 c.in_ok-add-in-Stopped.ensures.lines,
       c.in_ok-add-in-Stopped.ensures.waiting,
-      subst (λ (x : Added). Noted (g.D.Decide.gives c.args.policy.now) (g.D.Decide.lets c.args.policy.now) g.W.Watch.notes c.args.watch.now x c.stays.new.self)
+      rw (c.none-untold-in-Stopped.ensures) (but_none _ _ _ _ _ _ _ _ (subst (λ (x : Added). Noted (g.D.Decide.gives c.args.policy.now) (g.D.Decide.lets c.args.policy.now) g.W.Watch.notes c.args.watch.now x c.stays.new.self)
           (told_staying s c.loop-frame.waiting.lines.items c.line_of.result.now q.0 c.add.new.self.lines.items c.loop-frame.sent c.loop-frame.end
           (c.loop-frame.end + length f.octets.now) h.0 q.1)
-          (noted_staying _ (g.D.Decide.gives c.args.policy.now) (g.D.Decide.lets c.args.policy.now) g.W.Watch.notes c.args.watch.now c.loop-frame.watch c.stays.new.self
+          (noted_staying _ (g.D.Decide.gives c.args.policy.now) (g.D.Decide.lets c.args.policy.now) g.W.Watch.notes c.args.watch.now c.tell-in-Stopped.new.watch c.stays.new.self
           c.next_number-number.result c.in-Stopped.report (so_far_told h.0 s c.loop-frame.waiting.lines.items c.loop-frame.sent c.loop-frame.end)
-          c.line_of.result.now h.5 c.line_of.ensures.line c.in-Stopped.ensures.gives (rw c.why.ensures at c.stays.ensures)),
+          c.line_of.result.now (but_told _ _ _ _ _ _ _ _ _ _ h.5 c.tell-in-Stopped.ensures) c.line_of.ensures.line c.in-Stopped.ensures.gives (rw c.why.ensures at c.stays.ensures)))),
     )
 
 -- ---- each call ends a line

@@ -1,8 +1,8 @@
 use Rattle.std.proofs.Common.{◌-◌, length}
 use Rattle.guard_frames.specs.Added.{Added, BothAppend}
 use Rattle.guard_frames.specs.Calls.{AsksLines}
-use Rattle.guard_frames.specs.Reasons.{Noted}
 use Rattle.guard_frames.specs.inside.Waiting.{AreLines}
+use Rattle.guard_frames.proofs.Noting.{NotedBut}
 use Rattle.guard_frames.proofs.Waits.{Waits, so_far_told}
 use Rattle.guard_frames.proofs.putting.put_frames.Given as goal
 
@@ -12,7 +12,7 @@ invariant-loop-frame g l = (added : Added)
     × BothAppend (g.O.Sink.taken l.initial.out, g.O.Sink.taken l.out)
     (g.R.Sink.taken l.initial.reports, g.R.Sink.taken l.reports) added
     × AsksLines (g.R.Sink.asked l.initial.reports) (g.R.Sink.asked l.reports) × AreLines l.waiting.lines.items
-    × Noted (g.D.Decide.gives l.policy) (g.D.Decide.lets l.policy) g.W.Watch.notes l.initial.watch
+    × NotedBut (g.D.Decide.gives l.policy) (g.D.Decide.lets l.policy) g.W.Watch.notes l.initial.watch l.untold l.end
     (so_far_told added l.octets l.waiting.lines.items l.sent l.end) l.watch
 
 abbrev pub decreases-loop-frame : goal.decreases-loop-frame

@@ -1,4 +1,4 @@
-use Rattle.std.proofs.Common.{ℕ, List, refl, subst, sym, Ok}
+use Rattle.std.proofs.Common.{refl, subst, sym, Ok}
 use Rattle.guard_policy.specs.PolicyView.{policy_view}
 use Rattle.guard_frames.specs.Added.{Added, nothing}
 use Rattle.guard_frames.specs.OfPolicy.{gives_of, lets_of}

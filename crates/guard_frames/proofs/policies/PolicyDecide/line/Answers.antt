@@ -3,7 +3,7 @@ use Rattle.std.specs.Prelude.{IfOk, IfSome}
 use Rattle.guard_policy.specs.Policies.{AbstractPolicy, AbstractRoute}
 use Rattle.guard_policy.specs.PolicyView.{policy_view, route_view}
 use Rattle.guard_policy.specs.declared.verdict.PlainReason.{PlainReason}
-use Rattle.guard_policy.specs.Verdicts.{AbstractVerdict, verdict_view, reason_view, pass}
+use Rattle.guard_policy.specs.Verdicts.{AbstractVerdict, verdict_view, reason_view}
 use Rattle.guard_policy.specs.Decisions.{IsReason}
 use Rattle.guard_policy.specs.Told.{IsToldReason}
 use Rattle.guard_policy.proofs.Goes.{goes_from_passes}

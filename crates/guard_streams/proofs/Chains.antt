@@ -42,10 +42,6 @@ pub line_then : (x₀ x₁ x₂ x₃ x₄ a b c d : List ℕ) → x₀ ≡ [] �
     → x₄ ≡ x₃ ++ d → x₄ ≡ (a ++ b ++ c) ++ d
 line_then x₀ x₁ x₂ x₃ x₄ a b c d e₀ e₁ e₂ e₃ e₄ = rw (e₄, e₃, e₂, e₁, e₀) refl
 
--- two texts, the one and then the other
-pub two_new : (x₀ x₁ x₂ a b : List ℕ) → x₀ ≡ [] → x₁ ≡ x₀ ++ a → x₂ ≡ x₁ ++ b → x₂ ≡ a ++ b
-two_new x₀ x₁ x₂ a b e₀ e₁ e₂ = rw (e₂, e₁, e₀) refl
-
 -- three texts behind one that has nothing behind it
 pub three_behind : (t x₀ x₁ x₂ x₃ a b c : List ℕ) → x₀ ≡ t ++ [] → x₁ ≡ x₀ ++ a → x₂ ≡ x₁ ++ b → x₃ ≡ x₂ ++ c
     → x₃ ≡ t ++ (a ++ b ++ c)

@@ -14,12 +14,12 @@ use Rattle.guard_streams.specs.declared.counts.Counts.{Counts}
 use Rattle.guard_streams.specs.declared.faults.Faults.{Faults}
 use Rattle.guard_streams.specs.declared.following.Following.{Following}
 use Rattle.guard_streams.specs.Counted.{count_one, count_all}
-use Rattle.guard_streams.specs.Counters.{AbstractCounted, AbstractForce, counted_one, deny_one, deny_all, allow_one, allow_all}
+use Rattle.guard_streams.specs.Counters.{AbstractCounted, AbstractForce, counted_one, deny_one, deny_all, allow_some, allow_all}
 use Rattle.guard_streams.specs.Faults.{faulted}
 use Rattle.guard_streams.specs.LinksCounted.{maybe_counted, IsCounted}
 use Rattle.guard_streams.specs.Tallying.{with_links}
 use Rattle.guard_streams.specs.inside.Following.{followed_one, Follows, AreFollowed, AreNoted, piece_counted, with_piece}
-use Rattle.guard_streams.proofs.Rules.{deny_allowed}
+use Rattle.guard_streams.proofs.Rules.{deny_allowed, allow_times}
 use Rattle.guard_streams.proofs.Told.{Counting, noted_counted, whys_of, rules_in, said, are_let}
 
 counts_told : (told : List Told) (old new : Following) → IsTold Follows old told new → IsTold Counting old.counts told new.counts
@@ -76,20 +76,20 @@ summed p c (pauses t ∷ before) read a h = absurd h.0
 summed p c (reads n ∷ before) read a (first, piece, e, size, paused, h) =
     let s = summed p c before first a h in
     (s.0, s.1, ap (λ (x : Option AbstractCounted). followed_one x (reads n)) s.2)
-summed p c (goes n rule ∷ before) read a (first, frame, e, is, size, by, h) =
+summed p c (goes count n rule ∷ before) read a (first, octets, e, are, some, size, h) =
     let s = summed p c before read first h in
     let more : length a.out ≡ length first.out + n =
-    omega (arith, ap (λ (x : Added). length x.out) e, length-append first.out frame, size) in (
-      counted_one s.0 (goes n rule),
+    omega (arith, ap (λ (x : Added). length x.out) e, length-append first.out octets, size) in (
+      counted_one s.0 (goes count n rule),
       record {
         counts = s.1.counts;
-        force = ap (λ (f : AbstractForce). allow_one f rule) s.1.force;
+        force = ap (λ (f : AbstractForce). allow_some f rule count) s.1.force ∙ allow_times (deny_all c.force (whys_of before)) rule count (rules_in before) some;
         went = λ k. went_more s.0.tally.went c.tally.went n k (length first.out) (length a.out) (s.1.went (n + k)) more;
         came = s.1.came;
         reloads = s.1.reloads;
         faults = s.1.faults;
       },
-      ap (λ (x : Option AbstractCounted). followed_one x (goes n rule)) s.2,
+      ap (λ (x : Option AbstractCounted). followed_one x (goes count n rule)) s.2,
     )
 summed p c (stays why ∷ before) read a (first, line, e, says, h) =
     let s = summed p c before read first h in (

@@ -53,7 +53,7 @@ unfolding counters_all whys_of
 counts_from c [] = refl
 counts_from c (pauses t ∷ before) = counts_from c before
 counts_from c (reads n ∷ before) = counts_from c before
-counts_from c (goes n rule ∷ before) = counts_from c before
+counts_from c (goes count n rule ∷ before) = counts_from c before
 counts_from c (stays why ∷ before) = ap (λ (x : Counts). count_one x why) (counts_from c before)
 
 module _ (B : Type 0) (shown : B → Shown) (p : AbstractPolicy) (digest path : List ℕ) where

@@ -1,6 +1,6 @@
 -- The records of a stream, taken one after another, and how that ends.
 use Rattle.std.proofs.Common.{◌≡◌, ◌∙◌, ◌^◌, inl, inr, ℕ, Bool, List, [], ◌∷◌, ◌++◌, ap, refl, sym, subst, map, arith}
-use Rattle.std.specs.Prelude.{Option}
+use Rattle.std.specs.Prelude.{Option, Some, None}
 use Rattle.std.specs.List.{concat, All}
 use Rattle.std.specs.Io.KnownBytes.{Appends, Consumes, IsAtEnd}
 use Rattle.std.proofs.lemmas.List.{append-nil}
@@ -252,12 +252,13 @@ counted_told ErrorFailed path first input out e e₁ was is same h counted x = t
 -- what is said of it
 pub tells_seen_before : (s : Stop) (path : List ℕ) (first : AbstractMux) (input : Input) (out err : Device)
     (h : Stops s path first input out err) (seen : Option Seen) (told : Device) (status : ℕ)
-    → IsSeenBefore s path first input out err h seen → TellsStopWith s seen told status
-    → TellsStopWith s (seen_before s path first input out err h) told status
+    → IsSeenBefore s path first input out err h seen → TellsStopWith seen s told status
+    → TellsStopWith (seen_before s path first input out err h) s told status
 tells_seen_before BadRecord path first input out err h seen told status same said =
-    subst (λ (x : Option Seen). TellsStopWith BadRecord x told status) (sym same) said
+    subst (λ (x : Option Seen). TellsStopWith x BadRecord told status) (sym same) said
 tells_seen_before ReadFailed path first input out err h seen told status same said =
-    subst (λ (x : Option Seen). TellsStopWith ReadFailed x told status) (sym same) said
+    subst (λ (x : Option Seen). TellsStopWith x ReadFailed told status) (sym same) said
 tells_seen_before WriteFailed path first input out err h seen told status same said =
-    subst (λ (x : Option Seen). TellsStopWith WriteFailed x told status) (sym same) said
-tells_seen_before ErrorFailed path first input out err h seen told status same said = said
+    subst (λ (x : Option Seen). TellsStopWith x WriteFailed told status) (sym same) said
+tells_seen_before ErrorFailed path first input out err h None told status same said = said
+tells_seen_before ErrorFailed path first input out err h (Some s) told status same said = said

@@ -22,11 +22,11 @@ use Rattle.guard_streams.specs.declared.counters.Counters.{Counters}
 use Rattle.guard_streams.specs.declared.counts.Counts.{Counts}
 use Rattle.guard_streams.specs.declared.faults.Faults.{Faults}
 use Rattle.guard_streams.specs.Counted.{no_counts, count_one, count_all}
-use Rattle.guard_streams.specs.Counters.{AbstractForce, counted_view, force_of, deny_one, deny_all, allow_one, allow_all}
+use Rattle.guard_streams.specs.Counters.{AbstractForce, counted_view, force_of, deny_one, deny_all, allow_some, allow_all}
 use Rattle.guard_streams.specs.Faults.{no_faults}
 use Rattle.guard_streams.specs.Counting.{AbstractCounters, counters_view, counters_one, ended, fresh_counters, text_of, IsTelling, IsTally, IsShownOf}
 use Rattle.guard_streams.specs.Shown.{Shown, Shows, ShowsAll}
-use Rattle.guard_streams.proofs.Rules.{deny_allowed}
+use Rattle.guard_streams.proofs.Rules.{deny_allowed, allow_times, later_more}
 use Rattle.guard_streams.proofs.Told.{whys_of, rules_in, said, are_let}
 
 -- ---- octets that are added
@@ -71,9 +71,6 @@ sums_as path f whys rules first read a b c d h same counts force reloads faults 
   faults = faults ∙ h.faults;
 }
 
-later_more : (n k m : ℕ) → m ≡ n + k → later (later 0 n) k ≡ later 0 m
-later_more n k m e = omega (arith, e)
-
 sums : (At : List ℕ → Added → Totals → Type 0) (p : AbstractPolicy) (path : List ℕ) (f : AbstractForce) (told : List Told) (read : List ℕ) (a : Added) →
     Tells At (gives_of p) (lets_of p) told read a → Sums path f (whys_of told) (rules_in told) read a (counters_all (fresh_counters path f) told)
 unfolding counters_all whys_of rules_in
@@ -93,17 +90,17 @@ sums At p path f (reads n ∷ before) read a (first, piece, e, size, paused, h) 
     let s = sums At p path f before first a h in
     let more : length read ≡ length first + n = omega (arith, ap length e, length-append first piece, size) in
     sums_as path f (whys_of before) (rules_in before) first read a a _ _ s refl refl refl refl refl
-    (ap (λ k. later k n) s.came ∙ later_more (length first) n (length read) more) s.went
-sums At p path f (goes n rule ∷ before) read a (first, frame, e, is, size, by, h) =
+    (ap (λ k. later k n) s.came ∙ later_more 0 (length first) n (length read) more) s.went
+sums At p path f (goes count n rule ∷ before) read a (first, octets, e, are, some, size, h) =
     let s = sums At p path f before read first h in
     let more : length a.out ≡ length first.out + n =
-    omega (arith, ap (λ (x : Added). length x.out) e, length-append first.out frame, size) in
+    omega (arith, ap (λ (x : Added). length x.out) e, length-append first.out octets, size) in
     record {
       path = s.path;
       counts = s.counts;
-      force = ap (λ (g : AbstractForce). allow_one g rule) s.force;
+      force = ap (λ (g : AbstractForce). allow_some g rule count) s.force ∙ allow_times (deny_all f (whys_of before)) rule count (rules_in before) some;
       came = s.came;
-      went = ap (λ k. later k n) s.went ∙ later_more (length first.out) n (length a.out) more;
+      went = ap (λ k. later k n) s.went ∙ later_more 0 (length first.out) n (length a.out) more;
       reloads = s.reloads;
       faults = s.faults;
     }
@@ -196,7 +193,7 @@ module _ (B : Type 0) (shown : B → Shown) (p : AbstractPolicy) (digest path : 
   quiet (pauses t ∷ before) read a old new h k = absurd h.0
   quiet (reads n ∷ before) read a old new (first, piece, e, size, paused, h) (last, k, noted) =
       noted.shows ∙ quiet before first a old last h k
-  quiet (goes n rule ∷ before) read a old new (first, frame, e, is, size, by, h) (last, k, noted) =
+  quiet (goes count n rule ∷ before) read a old new (first, octets, e, are, some, size, h) (last, k, noted) =
       noted.shows ∙ quiet before read first old last h k
   quiet (stays why ∷ before) read a old new (first, line, e, says, h) (last, k, noted) =
       noted.shows ∙ quiet before read first old last h k
@@ -257,9 +254,9 @@ module _ (B : Type 0) (shown : B → Shown) (p : AbstractPolicy) (digest path : 
   showed old start (reads n ∷ before) read a new (first, piece, e, size, paused, h) (last, k, noted) =
       same_shown (shown old.board) (shown last.board) (shown new.board) read a noted.shows
       (showed_longer (shown old.board) (shown last.board) first piece read a nothing a e (sym (joined_nothing a)) (showed old start before first a last h k))
-  showed old start (goes n rule ∷ before) read a new (first, frame, e, is, size, by, h) (last, k, noted) =
+  showed old start (goes count n rule ∷ before) read a new (first, octets, e, are, some, size, h) (last, k, noted) =
       same_shown (shown old.board) (shown last.board) (shown new.board) read a noted.shows
-      (showed_on (shown old.board) (shown last.board) read first (sent_more nothing frame) a (e ∙ sent_joined first frame) (showed old start before read first last h k))
+      (showed_on (shown old.board) (shown last.board) read first (sent_more nothing octets) a (e ∙ sent_joined first octets) (showed old start before read first last h k))
   showed old start (stays why ∷ before) read a new (first, line, e, says, h) (last, k, noted) =
       same_shown (shown old.board) (shown last.board) (shown new.board) read a noted.shows
       (showed_on (shown old.board) (shown last.board) read first (reported_more nothing line) a (e ∙ reported_joined first line) (showed old start before read first last h k))

@@ -42,7 +42,7 @@ count_one c (Decided reason) = count_reason c reason
 abbrev pub count_told : Counts → Told → Counts
 count_told c (pauses t) = c
 count_told c (reads n) = c
-count_told c (goes n rule) = c
+count_told c (goes count n rule) = c
 count_told c (stays why) = count_one c why
 
 -- and one for each of these, the last first

@@ -1,6 +1,7 @@
 -- The text that shows what is counted, in the format that Prometheus' node exporter reads from its folder of text files:
 -- for each counter a line with its help, one with its type, and its samples, each with a name, labels and a number.
 use Rattle.std.specs.Prelude.{ℕ, zero, suc, Bool, true, false, List, [], ◌∷◌, ◌++◌, map, string_bytes, codes, decimal, if◌then◌else◌}
+use Rattle.std.specs.Bool.{beq}
 use Rattle.std.specs.List.{concat}
 use Rattle.hex.specs.Hex.{encode_lower}
 use Rattle.guard_policy.specs.Policies.{AbstractPolicy, AbstractRule}
@@ -67,11 +68,11 @@ counted_view c = record { force = force_view c.force; tally = c.tally }
 abbrev pub nothing_counted : AbstractForce → AbstractCounted
 nothing_counted f = record { force = f; tally = nothing_tallied }
 
--- the rule of this number, from 0, has decided once more
-abbrev pub one_more : List AbstractCount → ℕ → List AbstractCount
-one_more [] i = []
-one_more (c ∷ counts) zero = record c { frames = later c.frames 1 } ∷ counts
-one_more (c ∷ counts) (suc i) = c ∷ one_more counts i
+-- the rule of this number, from 0, has decided n times more
+abbrev pub some_more : List AbstractCount → ℕ → ℕ → List AbstractCount
+some_more [] i n = []
+some_more (c ∷ counts) zero n = record c { frames = later c.frames n } ∷ counts
+some_more (c ∷ counts) (suc i) n = c ∷ some_more counts i n
 
 -- a frame stays: where a rule denied it, that has decided
 abbrev pub deny_one : AbstractForce → Why → AbstractForce
@@ -80,7 +81,7 @@ deny_one f NoMemory = f
 deny_one f (Decided UnknownMessage) = f
 deny_one f (Decided Undecodable) = f
 deny_one f (Decided OutsideType) = f
-deny_one f (Decided (DeniedBy i)) = record f { rules = one_more f.rules i }
+deny_one f (Decided (DeniedBy i)) = record f { rules = some_more f.rules i 1 }
 deny_one f (Decided NotAllowed) = f
 deny_one f (Decided NoRule) = f
 
@@ -89,14 +90,14 @@ abbrev pub deny_all : AbstractForce → List Why → AbstractForce
 deny_all f [] = f
 deny_all f (why ∷ before) = deny_one (deny_all f before) why
 
--- a frame goes: the rule by which it does has decided
-abbrev pub allow_one : AbstractForce → ℕ → AbstractForce
-allow_one f rule = record f { rules = one_more f.rules rule }
+-- so many frames go: the rule by which they do has decided each
+abbrev pub allow_some : AbstractForce → ℕ → ℕ → AbstractForce
+allow_some f rule n = record f { rules = some_more f.rules rule n }
 
--- and where these go, the last first
+-- and where one goes by each of these, the last first
 abbrev pub allow_all : AbstractForce → List ℕ → AbstractForce
 allow_all f [] = f
-allow_all f (rule ∷ before) = allow_one (allow_all f before) rule
+allow_all f (rule ∷ before) = allow_some (allow_all f before) rule 1
 
 -- ---- the text
 
@@ -138,27 +139,24 @@ stopped_lines c =
     ++ reason_line (codes "no-rule") c.no_rule
     ++ reason_line (codes "no-memory") c.no_memory
 
--- of a rule that denies
-abbrev pub rule_line : AbstractCount → List ℕ
-rule_line c =
-    if c.denies then labelled (codes "derguard_denied_total") (codes "rule") c.name c.frames else []
+-- of a rule that denies, or, with `false`, of one that allows
+abbrev pub rule_line : Bool → List ℕ → AbstractCount → List ℕ
+rule_line denies name c = if beq c.denies denies then labelled name (codes "rule") c.name c.frames else []
+
+-- and of all of these
+abbrev pub rules_lines : Bool → List ℕ → List ℕ → List AbstractCount → List ℕ
+rules_lines denies name help rules =
+    heading name (codes "counter") help ++ concat (map (rule_line denies name) rules)
 
 abbrev pub denied_lines : List AbstractCount → List ℕ
-denied_lines rules =
-    heading (codes "derguard_denied_total") (codes "counter")
+denied_lines =
+    rules_lines true (codes "derguard_denied_total")
     (codes "Frames that a rule denied since the policy in force came into force.")
-    ++ concat (map rule_line rules)
-
--- of a rule that allows
-abbrev pub allowed_line : AbstractCount → List ℕ
-allowed_line c =
-    if c.denies then [] else labelled (codes "derguard_allowed_total") (codes "rule") c.name c.frames
 
 abbrev pub allowed_lines : List AbstractCount → List ℕ
-allowed_lines rules =
-    heading (codes "derguard_allowed_total") (codes "counter")
+allowed_lines =
+    rules_lines false (codes "derguard_allowed_total")
     (codes "Frames that a rule let through since the policy in force came into force.")
-    ++ concat (map allowed_line rules)
 
 abbrev pub kind_line : List ℕ → ℕ → List ℕ
 kind_line = labelled (codes "derguard_link_faults_total") (codes "fault")
@@ -193,13 +191,13 @@ counters_text c =
 abbrev pub tally_one : Tally → Told → Tally
 tally_one t (pauses totals) = record t { totals = totals }
 tally_one t (reads n) = record t { came = later t.came n }
-tally_one t (goes n rule) = record t { went = later t.went n }
+tally_one t (goes count n rule) = record t { went = later t.went n }
 tally_one t (stays why) = record t { counts = count_one t.counts why }
 
 abbrev pub force_one : AbstractForce → Told → AbstractForce
 force_one f (pauses totals) = f
 force_one f (reads n) = f
-force_one f (goes n rule) = allow_one f rule
+force_one f (goes count n rule) = allow_some f rule count
 force_one f (stays why) = deny_one f why
 
 abbrev pub counted_one : AbstractCounted → Told → AbstractCounted

@@ -83,7 +83,7 @@ MayShow shown (pauses t) old new =
     (shown new.board ≡ shown old.board)
     ⊎ Shows (shown old.board) (string_bytes new.path) (text_of (counters_view new)) (shown new.board)
 MayShow shown (reads n) old new = shown new.board ≡ shown old.board
-MayShow shown (goes n rule) old new = shown new.board ≡ shown old.board
+MayShow shown (goes count n rule) old new = shown new.board ≡ shown old.board
 MayShow shown (stays why) old new = shown new.board ≡ shown old.board
 
 -- what counters are told is counted

@@ -15,10 +15,11 @@ use Rattle.guard_files.specs.Records.{Record, record_octets}
 use Rattle.guard_streams.specs.declared.seen.Seen.{Seen}
 use Rattle.guard_streams.specs.Counters.{AbstractCounted, nothing_counted, force_of, counters_text}
 use Rattle.guard_streams.specs.Counting.{ShowsLast, IsNoted, Opens, TellsNone}
-use Rattle.guard_streams.specs.Muxing.{Finishes, Stops, TellsStop, TellsStopWith, TellsNotes, new_mux, seen_before, seen_lines}
+use Rattle.guard_streams.specs.Muxing.{Finishes, Stops, TellsStop, TellsStopWith, new_mux, seen_before}
 use Rattle.guard_streams.specs.Shown.{Shown, Display, Shows, ShowsAll}
 use Rattle.guard_streams.specs.Turns.{AbstractMux, Written, InTurn}
-use Rattle.guard_streams.specs.Verbose.{nothing_seen}
+use Rattle.guard_streams.specs.Verbose.{nothing_seen, seen_lines}
+use Rattle.guard_streams.specs.Watching.{TellsNotes}
 
 -- ---- what is shown
 
@@ -70,7 +71,7 @@ seen_first false digest = None
 abbrev pub TellsGuarded : Bool → Result (Unit {0}) Stop → Option Seen → ℕ → Device → ℕ → Type 0
 TellsGuarded true (Ok done) seen greatest err status = TellsNotes (seen_lines seen) greatest err status
 TellsGuarded false (Ok done) seen greatest err status = IsUntouched err × (status ≡ greatest)
-TellsGuarded true (Err s) seen greatest err status = TellsStopWith s seen err status
+TellsGuarded true (Err s) seen greatest err status = TellsStopWith seen s err status
 TellsGuarded false (Err s) seen greatest err status = TellsStop s err status
 
 -- what is counted of the records before that

@@ -4,6 +4,7 @@ use Rattle.std.specs.List.{concat, All}
 use Rattle.std.specs.Io.KnownBytes.{Appends, Consumes, IsAtEnd}
 use Rattle.guard_policy.specs.Policies.{AbstractPolicy}
 use Rattle.guard_frames.specs.declared.link.LinkFault.TheVariants as link_fault
+use Rattle.guard_frames.specs.declared.running.RunFault.TheVariants as run
 use Rattle.guard_frames.specs.FaultTexts.{fault_text}
 use Rattle.guard_frames.specs.LinkView.{new_link}
 use Rattle.guard_frames.specs.Prefix.{IsProperPrefix}
@@ -15,13 +16,13 @@ use Rattle.guard_files.specs.Digest.{IsNumberedAt}
 use Rattle.guard_files.specs.Files.{Told, IsLater}
 use Rattle.guard_files.specs.Reading.{IsPolicyAt, IsNoPolicyAt}
 use Rattle.guard_files.specs.Records.{Record, record_octets, IsAllowed, IsBadRecord, IsLost}
-use Rattle.guard_files.specs.Writing.{Tells, TellsLine, TellsOctets, TellsNoMemory}
+use Rattle.guard_files.specs.Writing.{Tells, TellsLine, line_of}
 use Rattle.guard_streams.specs.Counters.{AbstractCounted}
 use Rattle.guard_streams.specs.declared.seen.Seen.{Seen}
 use Rattle.guard_streams.specs.Turns.{AbstractMux, Written, Happens, InTurn, all_out, all_err, status_of, ends_left}
-use Rattle.guard_streams.specs.Saying.{IsSaid, TellsUnread}
-use Rattle.guard_streams.specs.Verbose.{last_lines, nothing_seen}
-use Rattle.guard_streams.specs.Watching.{BehindNote}
+use Rattle.guard_streams.specs.Saying.{TellsUnread}
+use Rattle.guard_streams.specs.Verbose.{last_lines, nothing_seen, seen_lines}
+use Rattle.guard_streams.specs.Watching.{BehindNote, TellsFault, TellsNotes}
 
 -- What was read is records and then this rest, and the records were taken in turn.
 pub record Takes (path : List ℕ) (first : AbstractMux) (input : Input) (rest : List ℕ) : Type 0 where
@@ -150,25 +151,15 @@ seen_before ReadFailed path first input out err h = h.all.last.seen
 seen_before WriteFailed path first input out err h = h.all.last.seen
 seen_before ErrorFailed path first input out err h = None
 
-abbrev pub seen_lines : Option Seen → List ℕ
-seen_lines None = []
-seen_lines (Some s) = last_lines s
-
--- The octets are said, with this status; or that there was no memory for them.
-abbrev pub TellsNotes : List ℕ → ℕ → Device → ℕ → Type 0
-TellsNotes octets status err result = TellsOctets octets status err result ⊎ TellsNoMemory err result
-
--- Why the links aren't guarded to their ends, with what was seen. Where standard error failed nothing more is said.
-abbrev pub TellsStopWith : Stop → Option Seen → Device → ℕ → Type 0
-TellsStopWith BadRecord seen err status = TellsNotes (codes "derguard: bad record\n" ++ seen_lines seen) 3 err status
-TellsStopWith ReadFailed seen err status =
-    (said : List ℕ) × IsSaid (codes "standard input") said
-    × TellsNotes (codes "derguard: F5 ReadFailed\n" ++ said ++ seen_lines seen) 3 err status
-TellsStopWith WriteFailed seen err status =
-    (said : List ℕ) × IsSaid (codes "standard output") said
-    × TellsNotes (codes "derguard: F2 WriteFailed\nderguard: standard output failed\n" ++ said ++ seen_lines seen) 3 err
-    status
-TellsStopWith ErrorFailed seen err status = (err.after ≡ err.before) × (status ≡ 3)
+-- Why the links aren't guarded to their ends, with what was seen; where nothing was, as without notes. Where standard
+-- error failed nothing more is said.
+abbrev pub TellsStopWith : Option Seen → Stop → Device → ℕ → Type 0
+TellsStopWith None s err status = TellsStop s err status
+TellsStopWith (Some seen) BadRecord err status =
+    TellsNotes (line_of (codes "bad record") ++ last_lines seen) 3 err status
+TellsStopWith (Some seen) ReadFailed err status = TellsFault run.ReadFailed seen err status
+TellsStopWith (Some seen) WriteFailed err status = TellsFault run.WriteFailed seen err status
+TellsStopWith (Some seen) ErrorFailed err status = TellsStop ErrorFailed err status
 
 -- The records are guarded as without notes; then what is seen of them is said, behind the line that says why they
 -- aren't guarded to their ends.
@@ -178,7 +169,7 @@ WatchesRecords path first input out err status =
     × (f : Finishes path first input out (record err { after = reported }) greatest)
     × TellsNotes (seen_lines f.after.seen) greatest (record err { before = reported }) status)
     ⊎ ((s : Stop) × (reported : Option (List ℕ)) × (h : Stops s path first input out (record err { after = reported }))
-    × TellsStopWith s (seen_before s path first input out (record err { after = reported }) h)
+    × TellsStopWith (seen_before s path first input out (record err { after = reported }) h) s
     (record err { before = reported }) status)
 
 abbrev pub WatchesLinks : Told → List ℕ → Input → Device → Device → ℕ → Type 0

@@ -1,5 +1,5 @@
 -- The notes that end a run where it is asked to be verbose, each a line after `derguard: `.
-use Rattle.std.specs.Prelude.{ℕ, nat_eq, List, [], ◌++◌, codes, decimal, if◌then◌else◌}
+use Rattle.std.specs.Prelude.{ℕ, nat_eq, List, [], ◌++◌, codes, decimal, Option, Some, None, if◌then◌else◌}
 use Rattle.guard_frames.specs.declared.running.RunFault.{RunFault}
 use Rattle.guard_frames.specs.declared.running.RunFault.TheVariants.{FrameTooLong, WriteFailed, TornFrame, ReadFailed, OutOfMemory}
 use Rattle.guard_frames.specs.declared.totals.Totals.{Totals}
@@ -34,6 +34,11 @@ count_lines c =
 -- the last notes: the totals, and how often each reason was reported
 abbrev pub last_lines : Seen → List ℕ
 last_lines s = totals_line s.totals ++ count_lines s.counts
+
+-- where anything was seen
+abbrev pub seen_lines : Option Seen → List ℕ
+seen_lines None = []
+seen_lines (Some s) = last_lines s
 
 -- `derguard: frame N, length L` or `derguard: frame N, octets O`
 abbrev pub frame_line : ℕ → List ℕ → ℕ → List ℕ

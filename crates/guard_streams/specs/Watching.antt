@@ -49,6 +49,15 @@ IsUnreadOf result input = result ≡ Err ReadFailed →
 
 -- ---- what is said at the end
 
+-- The octets are said, with this status; or that there was no memory for them.
+abbrev pub TellsNotes : List ℕ → ℕ → Device → ℕ → Type 0
+TellsNotes octets status err result = TellsOctets octets status err result ⊎ TellsNoMemory err result
+
+-- a fault with the notes behind its line
+abbrev pub TellsFault : RunFault → Seen → Device → ℕ → Type 0
+TellsFault f s err status =
+    (said : List ℕ) × IsSaidOfRun f said × TellsWith (Run f) (fault_lines f said s) err status
+
 -- Standard error has failed, and nothing more is said.
 abbrev pub IsSilent : Device → ℕ → Type 0
 IsSilent err status = (err.failed ≡ true) × IsUntouched err × (status ≡ 3)
@@ -56,11 +65,8 @@ IsSilent err status = (err.failed ≡ true) × IsUntouched err × (status ≡ 3)
 -- The last notes, and the status of the totals, as for a run. Or the fault with the notes behind its line; or, where
 -- standard error has failed, nothing more.
 abbrev pub TellsSeen : Result (Unit {0}) RunFault → Seen → Device → ℕ → Type 0
-TellsSeen (Ok done) s err status =
-    TellsOctets (last_lines s) (totals_status s.totals) err status ⊎ TellsNoMemory err status
-TellsSeen (Err f) s err status =
-    IsSilent err status
-    ⊎ ((said : List ℕ) × IsSaidOfRun f said × TellsWith (Run f) (fault_lines f said s) err status)
+TellsSeen (Ok done) s err status = TellsNotes (last_lines s) (totals_status s.totals) err status
+TellsSeen (Err f) s err status = IsSilent err status ⊎ TellsFault f s err status
 
 -- ---- the whole stream
 

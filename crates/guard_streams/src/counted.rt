@@ -59,9 +59,9 @@ impl Watch for Counted {
         self.tally.came = self.tally.came.saturating_add(octets as u64);
     }
 
-    fn goes(&mut self, octets: usize, rule: usize) {
+    fn goes(&mut self, frames: usize, octets: usize, rule: usize) {
         self.tally.went = self.tally.went.saturating_add(octets as u64);
-        self.force.goes(rule);
+        self.force.goes(rule, frames);
     }
 
     fn stays(&mut self, why: Why) {

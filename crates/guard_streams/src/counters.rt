@@ -144,8 +144,8 @@ impl<B: Board> Watch for Counters<B> {
         self.counted.reads(octets);
     }
 
-    fn goes(&mut self, octets: usize, rule: usize) {
-        self.counted.goes(octets, rule);
+    fn goes(&mut self, frames: usize, octets: usize, rule: usize) {
+        self.counted.goes(frames, octets, rule);
     }
 
     fn stays(&mut self, why: Why) {

@@ -1,20 +1,19 @@
 //! The text that shows what is counted.
 ghost use Rattle.std.specs.Prelude.{◌≡◌, ◌++◌, map, IfOk, OnOk};
 ghost use Rattle.guard_streams.specs.Counters.{count_view, counted_view, counter, counters_text, heading, labelled};
-ghost use Rattle.guard_streams.specs.Counters.{allowed_line, allowed_lines, denied_lines, faults_lines, kind_line};
-ghost use Rattle.guard_streams.specs.Counters.{policy_lines, reason_line};
-ghost use Rattle.guard_streams.specs.Counters.{rule_line, sample, stopped_lines, totals_lines, traffic_lines};
+ghost use Rattle.guard_streams.specs.Counters.{faults_lines, kind_line, policy_lines, reason_line, rule_line};
+ghost use Rattle.guard_streams.specs.Counters.{rules_lines, sample, stopped_lines, totals_lines, traffic_lines};
 
 use crate::counted::Counted;
 use crate::counts::Counts;
 use crate::faults::Faults;
 use crate::in_force::digits_of;
 use crate::rule_counts::RuleCount;
-use crate::seen::add_number;
 use crate::tally::Tally;
 use guard_files::add;
 use guard_frames::Totals;
 use guard_model::OutOfMemory;
+use guard_report::add_number;
 use std::alloc::Global;
 
 /// The text that shows what is counted under the policy in force.
@@ -24,8 +23,20 @@ pub fn counters_text(alloc: Global, counted: &Counted) -> Result<Vec<u8>, OutOfM
     let mut text = Vec::new(alloc);
     add_totals(&mut text, counted.tally.totals)?;
     add_stopped(&mut text, &counted.tally.counts)?;
-    add_denied(&mut text, &counted.force.rules)?;
-    add_allowed(&mut text, &counted.force.rules)?;
+    add_rules(
+        &mut text,
+        true,
+        b"derguard_denied_total",
+        b"Frames that a rule denied since the policy in force came into force.",
+        &counted.force.rules,
+    )?;
+    add_rules(
+        &mut text,
+        false,
+        b"derguard_allowed_total",
+        b"Frames that a rule let through since the policy in force came into force.",
+        &counted.force.rules,
+    )?;
     add_traffic(&mut text, &counted.tally)?;
     add_policy(&mut text, &counted.force.digest)?;
     Ok(text)
@@ -73,68 +84,37 @@ fn add_reason(text: &mut Vec<u8>, reason: &[u8], count: u64) -> Result<(), OutOf
     add_labelled(text, b"derguard_stopped_total", b"reason", reason, count)
 }
 
-/// The rules that deny.
-fn add_denied(text: &mut Vec<u8>, rules: &[RuleCount]) -> Result<(), OutOfMemory>
-    ensures { OnOk result (text.new.items ≡ text.old.items ++ denied_lines (map count_view rules.now)) }
+/// The rules that deny, or, with `false`, those that allow.
+fn add_rules(
+    text: &mut Vec<u8>,
+    denies: bool,
+    name: &[u8],
+    help: &[u8],
+    rules: &[RuleCount],
+) -> Result<(), OutOfMemory>
+    ensures { OnOk result (text.new.items
+        ≡ text.old.items ++ rules_lines denies name.now help.now (map count_view rules.now)) }
 {
-    add_heading(
-        text,
-        b"derguard_denied_total",
-        b"counter",
-        b"Frames that a rule denied since the policy in force came into force.",
-    )?;
+    add_heading(text, name, b"counter", help)?;
     for rule in rules {
-        add_rule(text, rule)?;
+        add_rule(text, denies, name, rule)?;
     }
     Ok(())
 }
 
-/// A rule, where it denies.
-fn add_rule(text: &mut Vec<u8>, rule: &RuleCount) -> Result<(), OutOfMemory>
-    ensures { OnOk result (text.new.items ≡ text.old.items ++ rule_line (count_view rule.now)) }
+/// A rule, where it denies, or, with `false`, where it allows.
+fn add_rule(
+    text: &mut Vec<u8>,
+    denies: bool,
+    name: &[u8],
+    rule: &RuleCount,
+) -> Result<(), OutOfMemory>
+    ensures { OnOk result (text.new.items ≡ text.old.items ++ rule_line denies name.now (count_view rule.now)) }
 {
-    if !rule.denies {
+    if rule.denies != denies {
         return Ok(());
     }
-    add_labelled(
-        text,
-        b"derguard_denied_total",
-        b"rule",
-        rule.name.as_bytes(),
-        rule.frames,
-    )
-}
-
-/// The rules that allow.
-fn add_allowed(text: &mut Vec<u8>, rules: &[RuleCount]) -> Result<(), OutOfMemory>
-    ensures { OnOk result (text.new.items ≡ text.old.items ++ allowed_lines (map count_view rules.now)) }
-{
-    add_heading(
-        text,
-        b"derguard_allowed_total",
-        b"counter",
-        b"Frames that a rule let through since the policy in force came into force.",
-    )?;
-    for rule in rules {
-        add_allowing(text, rule)?;
-    }
-    Ok(())
-}
-
-/// A rule, where it allows.
-fn add_allowing(text: &mut Vec<u8>, rule: &RuleCount) -> Result<(), OutOfMemory>
-    ensures { OnOk result (text.new.items ≡ text.old.items ++ allowed_line (count_view rule.now)) }
-{
-    if rule.denies {
-        return Ok(());
-    }
-    add_labelled(
-        text,
-        b"derguard_allowed_total",
-        b"rule",
-        rule.name.as_bytes(),
-        rule.frames,
-    )
+    add_labelled(text, name, b"rule", rule.name.as_bytes(), rule.frames)
 }
 
 fn add_traffic(text: &mut Vec<u8>, tally: &Tally) -> Result<(), OutOfMemory>

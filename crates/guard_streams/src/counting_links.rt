@@ -14,6 +14,7 @@ use crate::links::Links;
 use crate::muxing::{guard, tell_stop};
 use crate::saying::Says;
 use crate::seen::Seen;
+use crate::verbose::tell_notes;
 use crate::watching_links;
 use guard_files::{FAILED, Fault, Files, Stop, new_room};
 use guard_frames::{Sink, Source};
@@ -117,9 +118,7 @@ fn tell_guarded<E: Sink, T: Says>(
     ensures silent { guarded ≡ Err stop.ErrorFailed → err.new ≡ err.old }
 {
     match guarded {
-        Ok(()) if verbose => {
-            watching_links::tell_notes(alloc, b"", links.seen(), links.status(), err)
-        }
+        Ok(()) if verbose => tell_notes(alloc, b"", links.seen(), links.status(), err),
         Ok(()) => links.status(),
         Err(reason) if verbose => {
             watching_links::tell_stop(alloc, reason, links.seen(), err, system)

@@ -45,7 +45,7 @@ impl Watch for Counts {
 
     fn reads(&mut self, _octets: usize) {}
 
-    fn goes(&mut self, _octets: usize, _rule: usize) {}
+    fn goes(&mut self, _frames: usize, _octets: usize, _rule: usize) {}
 
     fn stays(&mut self, why: Why) {
         match why {

@@ -20,9 +20,9 @@ impl Watch for Following {
 
     fn reads(&mut self, _octets: usize) {}
 
-    fn goes(&mut self, octets: usize, rule: usize) {
+    fn goes(&mut self, frames: usize, octets: usize, rule: usize) {
         if let Some(counted) = &mut self.counted {
-            counted.goes(octets, rule);
+            counted.goes(frames, octets, rule);
         }
     }
 

@@ -1,7 +1,7 @@
 //! What is counted under one policy: how often each of its rules decided, and which texts it has.
 ghost use Rattle.std.specs.Prelude.{◌≡◌, map, IfOk};
 ghost use Rattle.guard_policy.specs.PolicyView.{policy_view, said_view};
-ghost use Rattle.guard_streams.specs.Counters.{force_of, force_view, count_view, denies, fresh, one_more};
+ghost use Rattle.guard_streams.specs.Counters.{force_of, force_view, count_view, denies, fresh, some_more};
 
 use guard_frames::{Reason, Why};
 use guard_model::OutOfMemory;
@@ -25,7 +25,7 @@ pub struct InForce {
 
 impl InForce {
     ghost use Rattle.std.specs.Prelude.{◌≡◌, map};
-    ghost use Rattle.guard_streams.specs.Counters.{force_view, count_view, deny_one, allow_one};
+    ghost use Rattle.guard_streams.specs.Counters.{force_view, count_view, deny_one, allow_some};
 
     /// No policy.
     pub fn none(alloc: Global) -> InForce {
@@ -49,15 +49,15 @@ impl InForce {
         ensures { force_view self.new ≡ deny_one (force_view self.old) why }
     {
         if let Why::Decided(Reason::DeniedBy(rule)) = why {
-            count_at(&mut self.rules, rule);
+            count_at(&mut self.rules, rule, 1);
         }
     }
 
-    /// One more frame goes, by the rule of this number.
-    pub fn goes(&mut self, rule: usize)
-        ensures { force_view self.new ≡ allow_one (force_view self.old) rule }
+    /// So many more frames go, by the rule of this number.
+    pub fn goes(&mut self, rule: usize, frames: usize)
+        ensures { force_view self.new ≡ allow_some (force_view self.old) rule frames }
     {
-        count_at(&mut self.rules, rule);
+        count_at(&mut self.rules, rule, frames);
     }
 }
 
@@ -96,13 +96,13 @@ fn denies(effect: Effect) -> bool
     }
 }
 
-/// The rule of this number, where there is one, has decided once more.
-fn count_at(rules: &mut Vec<RuleCount>, number: usize)
-    ensures { map count_view rules.new.items ≡ one_more (map count_view rules.old.items) number }
+/// The rule of this number, where there is one, has decided so many times more.
+fn count_at(rules: &mut Vec<RuleCount>, number: usize, more: usize)
+    ensures { map count_view rules.new.items ≡ some_more (map count_view rules.old.items) number more }
 {
     if number >= rules.len() {
         return;
     }
     let rule = &mut rules[number];
-    rule.frames = rule.frames.saturating_add(1);
+    rule.frames = rule.frames.saturating_add(more as u64);
 }

@@ -1,17 +1,17 @@
 //! What is seen of a stream, and the notes that end it.
-ghost use Rattle.std.specs.Prelude.{◌≡◌, ◌++◌, ℕ, List, IfOk, OnOk, decimal};
+ghost use Rattle.std.specs.Prelude.{◌≡◌, ◌++◌, ℕ, List, IfOk, OnOk};
 ghost use Rattle.guard_files.specs.Faults.{IsText};
 ghost use Rattle.guard_files.specs.Writing.{line_of};
 ghost use Rattle.guard_files.specs.declared.fault.Fault.TheVariants.{Run};
 ghost use Rattle.guard_frames.specs.LinkView.{link_view};
 ghost use Rattle.guard_streams.specs.Verbose.{nothing_seen, seen_of, totals_line, count_line, count_lines};
-ghost use Rattle.guard_streams.specs.Verbose.{last_lines, frame_line, fault_line, fault_lines};
+ghost use Rattle.guard_streams.specs.Verbose.{last_lines, seen_lines, frame_line, fault_line, fault_lines};
 
 use crate::counts::Counts;
 use guard_files::{Fault, add};
 use guard_frames::{Link, RunFault, Totals};
 use guard_model::OutOfMemory;
-use itoa::Buffer;
+use guard_report::add_number;
 use std::alloc::Global;
 
 /// Which policy is in force, by the number of its texts, how many frames there were, how often each reason was reported,
@@ -50,12 +50,16 @@ impl Seen {
     }
 }
 
-/// The notes that end a stream. They fail only where memory runs out.
-pub fn last_notes(alloc: Global, seen: &Seen) -> Result<Vec<u8>, OutOfMemory>
-    ensures { IfOk result (λ text. text.items ≡ last_lines seen.now) }
+/// Some lines, and then the notes that end a stream, where anything was seen of it. They fail only where memory runs
+/// out.
+pub fn notes(alloc: Global, first: &[u8], seen: Option<Seen>) -> Result<Vec<u8>, OutOfMemory>
+    ensures { IfOk result (λ text. text.items ≡ first.now ++ seen_lines seen) }
 {
     let mut text = Vec::new(alloc);
-    add_last(&mut text, seen)?;
+    add(&mut text, first)?;
+    if let Some(seen) = seen {
+        add_last(&mut text, &seen)?;
+    }
     Ok(text)
 }
 
@@ -91,7 +95,7 @@ pub fn line_with(alloc: Global, fault: &Fault, note: &[u8]) -> Result<Vec<u8>, O
 }
 
 /// Appends the notes that end a stream.
-pub fn add_last(text: &mut Vec<u8>, seen: &Seen) -> Result<(), OutOfMemory>
+fn add_last(text: &mut Vec<u8>, seen: &Seen) -> Result<(), OutOfMemory>
     ensures { OnOk result (text.new.items ≡ text.old.items ++ last_lines seen.now) }
 {
     add_totals(text, seen.totals)?;
@@ -158,12 +162,4 @@ fn add_frame(text: &mut Vec<u8>, number: u64, word: &[u8], count: usize) -> Resu
     add(text, b" ")?;
     add_number(text, count as u64)?;
     add(text, b"\n")
-}
-
-/// Appends the number in decimal. It fails only where memory runs out.
-pub fn add_number(text: &mut Vec<u8>, number: u64) -> Result<(), OutOfMemory>
-    ensures { OnOk result (text.new.items ≡ text.old.items ++ decimal number) }
-{
-    let mut buffer = Buffer::new();
-    add(text, buffer.format(number).as_bytes())
 }

@@ -1,19 +1,16 @@
 //! Guards the stream that comes in, with notes at its end.
-ghost use Rattle.std.specs.Prelude.{◌⊎◌, ℕ, List};
+ghost use Rattle.std.specs.Prelude.{◌++◌};
 ghost use Rattle.guard_files.specs.Devices.{source_of, device_of};
-ghost use Rattle.guard_files.specs.Explaining.{TellsWith};
-ghost use Rattle.guard_files.specs.Writing.{TellsOctets, TellsNoMemory};
-ghost use Rattle.guard_files.specs.declared.fault.Fault.TheVariants.{Run};
 ghost use Rattle.guard_streams.specs.Stream.{totals_status};
-ghost use Rattle.guard_streams.specs.Saying.{IsSaidOfRun, TellsUnread};
-ghost use Rattle.guard_streams.specs.Verbose.{last_lines, fault_lines};
-ghost use Rattle.guard_streams.specs.Watching.{WatchesStream};
+ghost use Rattle.guard_streams.specs.Saying.{TellsUnread};
+ghost use Rattle.guard_streams.specs.Verbose.{last_lines, seen_lines};
+ghost use Rattle.guard_streams.specs.Watching.{TellsFault, TellsNotes, WatchesStream};
 
 use crate::counts::Counts;
 use crate::guarding::status_of;
 use crate::in_force::put_digest;
 use crate::saying::{Says, said_of_fault, said_of_run};
-use crate::seen::{Seen, fault_notes, last_notes, line_with};
+use crate::seen::{Seen, fault_notes, line_with, notes};
 use guard_files::{FAILED, Fault, Files, load_numbered, tell_line, tell_no_memory};
 use guard_frames::{Link, RunFault, Sink, Source, decide_link, new_buffer};
 use std::alloc::Global;
@@ -70,12 +67,25 @@ pub fn run_verbosely<F: Files, S: Source, O: Sink, E: Sink, T: Says>(
 
 /// Says the last notes, and answers the status of the totals.
 pub fn tell_last<E: Sink>(alloc: Global, seen: &Seen, err: &mut E) -> u8
-    ensures { TellsOctets (last_lines seen.now) (totals_status seen.now.totals)
-        (device_of E.taken E.has_failed err.old err.new) result
-        ⊎ TellsNoMemory (device_of E.taken E.has_failed err.old err.new) result }
+    ensures { TellsNotes (last_lines seen.now) (totals_status seen.now.totals)
+        (device_of E.taken E.has_failed err.old err.new) result }
 {
-    match last_notes(alloc, seen) {
-        Ok(notes) => tell_line(notes.as_slice(), status_of(seen.totals), err),
+    tell_notes(alloc, b"", Some(*seen), status_of(seen.totals), err)
+}
+
+/// Says some lines, and then what was seen, with this status.
+pub fn tell_notes<E: Sink>(
+    alloc: Global,
+    first: &[u8],
+    seen: Option<Seen>,
+    status: u8,
+    err: &mut E,
+) -> u8
+    ensures { TellsNotes (first.now ++ seen_lines seen) status (device_of E.taken E.has_failed err.old err.new)
+        result }
+{
+    match notes(alloc, first, seen) {
+        Ok(text) => tell_line(text.as_slice(), status, err),
         Err(_) => tell_no_memory(err),
     }
 }
@@ -88,8 +98,7 @@ pub fn tell_fault<E: Sink, T: Says>(
     err: &mut E,
     system: &T,
 ) -> u8
-    ensures { (said : List ℕ) × IsSaidOfRun fault said × TellsWith (Run fault) (fault_lines fault said seen.now)
-        (device_of E.taken E.has_failed err.old err.new) result }
+    ensures { TellsFault fault seen.now (device_of E.taken E.has_failed err.old err.new) result }
 {
     let Ok(said) = said_of_run(alloc, fault, system) else {
         return tell_no_memory(err);

@@ -22,7 +22,7 @@ abbrev pub followed_one : Option AbstractCounted → Told → Option AbstractCou
 followed_one None told = None
 followed_one (Some c) (pauses t) = Some c
 followed_one (Some c) (reads n) = Some c
-followed_one (Some c) (goes n rule) = Some (counted_one c (goes n rule))
+followed_one (Some c) (goes count n rule) = Some (counted_one c (goes count n rule))
 followed_one (Some c) (stays why) = Some (counted_one c (stays why))
 
 pub record Follows (old : Following) (told : Told) (new : Following) : Type 0 where

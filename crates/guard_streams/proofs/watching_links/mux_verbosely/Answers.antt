@@ -5,8 +5,10 @@ use Rattle.guard_files.specs.Devices.{input_of, device}
 use Rattle.guard_files.specs.declared.fault.Fault.TheVariants.{NoMemory}
 use Rattle.guard_files.specs.declared.stop.Stop.TheVariants.{ErrorFailed}
 use Rattle.guard_streams.specs.LinksCounted.{maybe_counted}
-use Rattle.guard_streams.specs.Muxing.{Finishes, Stops, TellsNotes, new_mux, seen_lines}
+use Rattle.guard_streams.specs.Muxing.{Finishes, Stops, new_mux}
 use Rattle.guard_streams.specs.Turns.{AbstractMux}
+use Rattle.guard_streams.specs.Verbose.{seen_lines}
+use Rattle.guard_streams.specs.Watching.{TellsNotes}
 use Rattle.guard_streams.specs.declared.seen.Seen.{Seen}
 use Rattle.guard_streams.specs.inside.Doing.{IsSeenBefore, IsCountedBefore}
 use Rattle.guard_streams.proofs.Taking.{stops_told, finishes_told, seen_told, tells_seen_before}

@@ -1,9 +1,0 @@
-use Rattle.std.proofs.Common.{◌≡◌, ◌++◌, map, take}
-use Rattle.std.specs.List.{concat}
-use Rattle.guard_streams.specs.Counters.{count_view, allowed_line}
-use Rattle.guard_streams.proofs.counters_text.add_allowed.Given as goal
-
--- the lines so far
-abbrev pub invariant-loop-rule : goal.invariant-loop-rule
-invariant-loop-rule l =
-    l.text.items ≡ l.initial.text.items ++ concat (map allowed_line (map count_view (take l.rule-index l.rules)))

@@ -1,10 +1,11 @@
 -- The rules of a policy, one after another, as a loop over their numbers has them.
 use Rattle.std.proofs.Common.{◌≡◌, ◌∙◌, ◌+◌, ◌&&◌, ℕ, Bool, true, false, cond, zero, suc, List, [], ◌∷◌, ◌++◌, Some, drop, ap, refl, sym, add-one, append_assoc, ◌<◌, None, length, arith}
 use Rattle.std.specs.Prelude.{slice_get, unwrap_or}
+use Rattle.std.proofs.lemmas.List.{append-nil}
 use Rattle.guard_model.specs.AbstractValue.{AbstractValue}
 use Rattle.guard_policy.specs.Decisions.{NumberedRule, allows, speaking, speaks_of}
 use Rattle.guard_policy.specs.Policies.{AbstractRoute, AbstractRule}
-use Rattle.guard_files.specs.Allowed.{allowing, allowing_line_of, allowing_lines}
+use Rattle.guard_files.specs.Allowed.{allowing, allowing_line, allowing_line_of, allowing_lines}
 
 allowing_next : (route : AbstractRoute) (v : AbstractValue) (rules : List AbstractRule) (i : ℕ) (r : AbstractRule) → slice_get rules i ≡ Some r
     → allowing_lines route v (drop i rules) ≡ allowing_line_of route v r ++ allowing_lines route v (drop (suc i) rules)
@@ -14,8 +15,7 @@ allowing_next route v (q ∷ rules) zero r at =
     ap (λ (x : AbstractRule). allowing_line_of route v x ++ allowing_lines route v rules) same
 allowing_next route v (q ∷ rules) (suc i) r at = allowing_next route v rules i r at
 
--- the line of one more rule
-pub one_allowing : (route : AbstractRoute) (v : AbstractValue) (rules : List AbstractRule) (i : ℕ) (r : AbstractRule) (text all : List ℕ) → slice_get rules i ≡ Some r
+one_allowing : (route : AbstractRoute) (v : AbstractValue) (rules : List AbstractRule) (i : ℕ) (r : AbstractRule) (text all : List ℕ) → slice_get rules i ≡ Some r
     → text ++ allowing_lines route v (drop i rules) ≡ all
     → (text ++ allowing_line_of route v r) ++ allowing_lines route v (drop (i + 1) rules) ≡ all
 one_allowing route v rules i r text all at so_far =
@@ -23,6 +23,22 @@ one_allowing route v rules i r text all at so_far =
     ∙ ap (λ (n : ℕ). text ++ (allowing_line_of route v r ++ allowing_lines route v (drop n rules))) (add-one i)
     ∙ ap (λ (xs : List ℕ). text ++ xs) (sym (allowing_next route v rules i r at))
     ∙ so_far
+
+-- the line of one more rule, if it allows the value
+pub one_line : (route : AbstractRoute) (v : AbstractValue) (rules : List AbstractRule) (i : ℕ) (r : AbstractRule) (text all : List ℕ) → slice_get rules i ≡ Some r
+    → (speaks_of route r && allows r v) ≡ true → text ++ allowing_lines route v (drop i rules) ≡ all
+    → (text ++ allowing_line r.name) ++ allowing_lines route v (drop (i + 1) rules) ≡ all
+one_line route v rules i r text all at has so_far =
+    ap (λ (b : Bool). (text ++ cond b (allowing_line r.name) []) ++ allowing_lines route v (drop (i + 1) rules)) (sym has)
+    ∙ one_allowing route v rules i r text all at so_far
+
+pub no_line : (route : AbstractRoute) (v : AbstractValue) (rules : List AbstractRule) (i : ℕ) (r : AbstractRule) (text all : List ℕ) → slice_get rules i ≡ Some r
+    → (speaks_of route r && allows r v) ≡ false → text ++ allowing_lines route v (drop i rules) ≡ all
+    → text ++ allowing_lines route v (drop (i + 1) rules) ≡ all
+no_line route v rules i r text all at has_none so_far =
+    ap (λ (xs : List ℕ). xs ++ allowing_lines route v (drop (i + 1) rules)) (sym (append-nil text))
+    ∙ ap (λ (b : Bool). (text ++ cond b (allowing_line r.name) []) ++ allowing_lines route v (drop (i + 1) rules)) (sym has_none)
+    ∙ one_allowing route v rules i r text all at so_far
 
 -- ---- numbers
 

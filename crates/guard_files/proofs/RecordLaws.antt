@@ -1,13 +1,15 @@
 -- What is read of a record, part by part.
-use Rattle.std.proofs.Common.{◌≡◌, ◌∙◌, ◌+◌, ◌-◌, ◌<◌, ◌≤◌, arith, ℕ, List, ◌++◌, ap, sym, subst, length, take, drop, ◌^◌}
+use Rattle.std.proofs.Common.{◌≡◌, ◌∙◌, ◌+◌, ◌-◌, ◌<◌, ◌≤◌, arith, ℕ, List, [], ◌∷◌, ◌++◌, ap, sym, subst, length, map, take, drop, ◌^◌}
 use Rattle.std.specs.Prelude.{Option, Some, None, IfSome}
 use Rattle.std.specs.Io.KnownBytes.{Consumes}
-use Rattle.std.proofs.lemmas.List.{length-take-le}
+use Rattle.std.specs.List.{concat}
+use Rattle.std.proofs.lemmas.List.{append-nil, map-append, length-take-le}
+use Rattle.std.proofs.lemmas.List.Folds.{concat-append}
 use Rattle.std.proofs.Math.Seq.{take-add}
 use Rattle.std.proofs.lemmas.Option.{same_Some, none-some}
 use Rattle.guard_frames.proofs.Reading.{Consumes_trans}
 use Rattle.guard_frames.specs.Totals.{WentUpBy}
-use Rattle.guard_files.specs.Records.{header, record_octets}
+use Rattle.guard_files.specs.Records.{Record, header, link_octets, of_link, record_octets}
 use Rattle.guard_files.specs.Records.Record.{piece}
 
 -- after n octets at the front m more were read, and the first ones were kept
@@ -38,6 +40,16 @@ asked_more a b c reads left last within fewer p q = omega (arith, p, q, within, 
 pub asked_all : (a b c left last : ℕ) → left ≤ 2 ^ 40 → last ≤ left → WentUpBy a (2 ^ 40 - left) b
     → WentUpBy b (left - last) c → last ≡ 0 → WentUpBy a (2 ^ 40) c
 asked_all a b c left last within fewer p q none = omega (arith, p, q, none, within, fewer)
+
+-- ---- one link
+
+-- its octets, with those of one more record
+pub one_more : (link : ℕ) (records : List Record) (r : Record)
+    → link_octets link (records ++ r ∷ []) ≡ link_octets link records ++ of_link link r
+one_more link records r =
+    ap concat (map-append (of_link link) records (r ∷ []))
+    ∙ concat-append (map (of_link link) records) (of_link link r ∷ [])
+    ∙ ap (λ s. link_octets link records ++ s) (append-nil (of_link link r))
 
 -- what was found
 pub found_size : {A : Type 0} (P : A → Type 0) (o : Option A) (x : A) → o ≡ Some x → IfSome o P → P x

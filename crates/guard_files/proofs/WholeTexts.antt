@@ -1,8 +1,11 @@
--- A text of which one octet more was read than it may have.
+-- A text of which one octet more was read than it may have, or none.
 use Rattle.std.proofs.Common.{◌≡◌, ◌∙◌, ◌<◌, ◌≤◌, ap, min, ℕ, List, [], length, take, length-take, arith}
 use Rattle.std.specs.Prelude.{Option, Some, None, option_map}
 use Rattle.std.proofs.lemmas.List.{take_all}
+use Rattle.guard_files.specs.declared.fault.Fault.{Fault}
+use Rattle.guard_files.specs.declared.fault.Fault.TheVariants.{BadHex, CannotRead, TooLarge, Schema, Policy, Run, NoMemory}
 use Rattle.guard_files.specs.Files.{Told, IsAsTold, HasFirst, HasText, IsLarger, IsTooLarge}
+use Rattle.guard_files.specs.Reading.{HasNoFront, IsUnreadable}
 
 abbrev octets_of : Option (List ℕ) → List ℕ
 octets_of None = []
@@ -32,3 +35,13 @@ larger told path text h many = go (told 0 path) h.0
     go None e = tt
     go (Some None) e = absurd cc
     go (Some (Some all)) e = let n = front_length text all e in omega (arith, n, many)
+
+-- or nothing can be read
+pub unreadable : (told : Told) (path : List ℕ) (f : Fault) → HasNoFront told path f → IsUnreadable told path f
+unreadable told path (CannotRead file obstacle) h = h
+unreadable told path NoMemory h = h
+unreadable told path BadHex h = h
+unreadable told path (TooLarge file) h = absurd h
+unreadable told path (Schema f) h = h
+unreadable told path (Policy f) h = h
+unreadable told path (Run f) h = h

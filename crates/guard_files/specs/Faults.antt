@@ -2,6 +2,7 @@
 use Rattle.std.specs.Prelude.{◌≡◌, ℕ, List, ◌++◌, codes, string_bytes, MatchOption}
 use Rattle.guard_policy.specs.declared.fault.PolicyFault.{PolicyFault}
 use Rattle.guard_policy.specs.PolicyFaults as policy
+use Rattle.guard_frames.specs.FaultTexts.{run_text}
 use Rattle.guard_frames.specs.declared.texts.TextsFault.{TextsFault}
 use Rattle.guard_frames.specs.declared.texts.TextsFault.TheVariants as texts
 use Rattle.guard_files.specs.declared.fault.Fault.{Fault}
@@ -17,14 +18,14 @@ fault_status (Policy f) = 2
 fault_status (Run f) = 3
 fault_status NoMemory = 3
 
--- What is reported of it. A fault of a layer prints as itself, which tests show.
+-- What is reported of it. A fault of modules or of a policy prints as itself, which tests show.
 abbrev pub IsText : Fault → List ℕ → Type 0
 IsText BadHex text = text ≡ codes "bad hex"
 IsText (CannotRead file obstacle) text = text ≡ codes "cannot read " ++ string_bytes file
 IsText (TooLarge file) text = text ≡ codes "too large " ++ string_bytes file
 IsText (Schema f) text = Unit {0}
 IsText (Policy f) text = Unit {0}
-IsText (Run f) text = Unit {0}
+IsText (Run f) text = text ≡ run_text f
 IsText NoMemory text = text ≡ codes "no-memory"
 
 -- That memory ran out is the program's own, and each other fault of a policy stays one of the policy.

@@ -1,6 +1,6 @@
 -- The records of a stream of many links: one octet of kind, two of link, four of length, high octets first, and as many
 -- octets.
-use Rattle.std.specs.Prelude.{◌≡◌, ◌≤◌, ℕ, List, ◌∷◌, ◌++◌, length, map, ◌<◌, ◌^◌, ◌⊎◌, true}
+use Rattle.std.specs.Prelude.{◌≡◌, ◌≤◌, ℕ, nat_eq, List, [], ◌∷◌, ◌++◌, length, map, ◌<◌, ◌^◌, ◌⊎◌, true, if◌then◌else◌}
 use Rattle.std.specs.Int.{w16, w32, to_be_bytes}
 use Rattle.std.specs.List.{concat, All}
 use Rattle.std.specs.Io.KnownBytes.{IsAtEnd}
@@ -52,3 +52,21 @@ IsBadRecord input rest =
 abbrev pub IsLost : Input → List ℕ → Type 0
 IsLost input rest =
     HasNoRecord rest × ((input.failed ≡ true) ⊎ WentUpBy input.asked_before (2 ^ 40) input.asked_after)
+
+-- ---- what records say of one link
+
+-- the octets of the link in a record
+abbrev pub of_link : ℕ → Record → List ℕ
+of_link link (piece other octets) = if nat_eq other link then octets else []
+of_link link (end other) = []
+of_link link reload = []
+
+-- those in records, in order
+abbrev pub link_octets : ℕ → List Record → List ℕ
+link_octets link records = concat (map (of_link link) records)
+
+-- the record isn't the end of the link
+abbrev pub LeavesOpen : ℕ → Record → Type 0
+LeavesOpen link (piece other octets) = Unit {0}
+LeavesOpen link (end other) = other ≡ link → ⊥
+LeavesOpen link reload = Unit {0}

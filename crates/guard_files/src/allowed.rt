@@ -1,5 +1,5 @@
 //! The value of a message, and the rules that allow it.
-ghost use Rattle.std.specs.Prelude.{◌≡◌, ◌&&◌, ◌++◌, OnOk, IfOk, IsTrue, Some};
+ghost use Rattle.std.specs.Prelude.{◌≡◌, ◌&&◌, IfOk, IsTrue, Some};
 ghost use Rattle.guard_model.specs.ValueView.{value_view};
 ghost use Rattle.guard_model.specs.TypeView.{type_view};
 ghost use Rattle.guard_der.specs.Fits.{fits};
@@ -9,7 +9,7 @@ ghost use Rattle.guard_policy.specs.Decisions.{allows, rules_of, speaks_of};
 ghost use Rattle.guard_policy.specs.PolicyView.{policy_view, route_view, said_view};
 ghost use Rattle.guard_policy.specs.inside.Applicable.{AreApplicable};
 ghost use Rattle.guard_policy.specs.Policies.{declared_type};
-ghost use Rattle.guard_files.specs.Allowed.{allowing, allowing_line_of, allowing_lines, OfValue, HasValue};
+ghost use Rattle.guard_files.specs.Allowed.{allowing, allowing_lines, OfValue, HasValue};
 
 use crate::octets::add_line;
 use guard_der::{DecodeFault, decode};
@@ -18,46 +18,11 @@ use guard_model::{OutOfMemory, Ty, Value};
 use guard_policy::{Effect, Policy, Route, SaidRule};
 use std::alloc::Global;
 
-/// A line for each rule that allows the value on the route, in the order of the file. It fails only where memory runs
-/// out.
-fn allowing_lines(
-    alloc: Global,
-    policy: &Policy,
-    route: &Route,
-    value: &Value,
-) -> Result<Vec<u8>, OutOfMemory>
-    requires { AreApplicable (route_view route.now) (value_view value.now) (policy_view policy.now).rules }
-    ensures { IfOk result (λ text. text.items
-        ≡ allowing_lines (route_view route.now) (value_view value.now) (policy_view policy.now).rules) }
-{
-    let mut text = Vec::new(alloc);
-    for number in 0..policy.rules() {
-        let Some(rule) = policy.rule(number) else {
-            unreachable!();
-        };
-        add_allowing(&mut text, route, value, &rule)?;
-    }
-    Ok(text)
-}
-
-/// Adds the line of a rule that speaks of the route and allows the value.
-fn add_allowing(
-    text: &mut Vec<u8>,
-    route: &Route,
-    value: &Value,
-    rule: &SaidRule,
-) -> Result<(), OutOfMemory>
-    requires sound { IsTrue (is_sound (said_view rule.now).ty) }
-    requires fits { IsTrue (speaks_of (route_view route.now) (said_view rule.now))
-        → IsTrue (fits (said_view rule.now).ty (value_view value.now)) }
-    ensures { OnOk result (text.new.items ≡ text.old.items
-        ++ allowing_line_of (route_view route.now) (value_view value.now) (said_view rule.now)) }
-{
-    if allows(route, value, rule) {
-        add_line(text, b"  allowed by ", rule.name)
-    } else {
-        Ok(())
-    }
+/// The rules that allow a value, in the order of the file: their numbers, and a line for each.
+#[derive(Drop)]
+struct Allowed {
+    numbers: Vec<usize>,
+    lines: Vec<u8>,
 }
 
 /// Whether the rule speaks of the route and allows the value.
@@ -71,27 +36,31 @@ fn allows(route: &Route, value: &Value, rule: &SaidRule) -> bool
     rule.speaks_of(route) && rule.effect == Effect::Allow && member(rule.ty, value)
 }
 
-/// The numbers of the rules that allow the value on the route, in the order of the file.
+/// The rules that allow the value on the route. It fails only where memory runs out.
 fn allowing(
     alloc: Global,
     policy: &Policy,
     route: &Route,
     value: &Value,
-) -> Result<Vec<usize>, OutOfMemory>
+) -> Result<Allowed, OutOfMemory>
     requires { AreApplicable (route_view route.now) (value_view value.now) (policy_view policy.now).rules }
-    ensures { IfOk result (λ numbers. numbers.items
+    ensures numbers { IfOk result (λ found. found.numbers.items
         ≡ allowing (rules_of (policy_view policy.now) (route_view route.now)) (value_view value.now)) }
+    ensures lines { IfOk result (λ found. found.lines.items
+        ≡ allowing_lines (route_view route.now) (value_view value.now) (policy_view policy.now).rules) }
 {
     let mut numbers = Vec::new(alloc);
+    let mut lines = Vec::new(alloc);
     for number in 0..policy.rules() {
         let Some(rule) = policy.rule(number) else {
             unreachable!();
         };
         if allows(route, value, &rule) {
             numbers.push(number)?;
+            add_line(&mut lines, b"  allowed by ", rule.name)?;
         }
     }
-    Ok(numbers)
+    Ok(Allowed { numbers, lines })
 }
 
 /// A line for each rule that allows the value which the octets encode, in the order of the file.
@@ -108,7 +77,7 @@ pub fn pass_note(
         (λ t v. note.items ≡ allowing_lines (route_view route.now) v (policy_view policy.now).rules)) }
 {
     let (_, value) = value_of(alloc, policy, route.message, octets)?;
-    allowing_lines(alloc, policy, route, &value)
+    Ok(allowing(alloc, policy, route, &value)?.lines)
 }
 
 /// The declared type of the message, and the value of it that the octets encode.
@@ -149,5 +118,5 @@ pub fn allowing_octets(
         (λ t v. numbers.items ≡ allowing (rules_of (policy_view policy.now) (route_view route.now)) v)) }
 {
     let (_, value) = value_of(alloc, policy, route.message, octets)?;
-    allowing(alloc, policy, route, &value)
+    Ok(allowing(alloc, policy, route, &value)?.numbers)
 }

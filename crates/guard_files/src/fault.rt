@@ -45,7 +45,7 @@ impl Fault {
         }
     }
 
-    /// What is reported of it. A fault of a layer prints as itself.
+    /// What is reported of it. A fault of modules or of a policy prints as itself.
     pub fn text(&self, alloc: Global) -> Result<String, AllocError>
         ensures { IfOk result (λ text. IsText self.now (string_bytes text)) }
     {
@@ -55,7 +55,7 @@ impl Fault {
             Fault::TooLarge(path) => format!(in alloc; "too large {path}"),
             Fault::Schema(fault) => format!(in alloc; "{fault}"),
             Fault::Policy(fault) => format!(in alloc; "{fault}"),
-            Fault::Run(fault) => format!(in alloc; "{fault}"),
+            Fault::Run(fault) => String::from_str(alloc, fault.text()),
             Fault::NoMemory => String::from_str(alloc, "no-memory"),
         }
     }

@@ -7,18 +7,18 @@ ghost use Rattle.guard_frames.specs.Totals.{WentUpBy};
 ghost use Rattle.guard_files.specs.NextFrame.{IsNoFrame};
 ghost use Rattle.guard_files.specs.declared.stop.Stop.TheVariants as stop;
 
+use crate::octets::room;
 use crate::records::fill_front;
 use crate::stop::Stop;
-use guard_frames::{LENGTH_OCTETS, LONGEST_BODY, LONGEST_FRAME, RunFault, Source, body_length};
+use guard_frames::{LENGTH_OCTETS, LONGEST_FRAME, RunFault, Source, allowed_length};
 use guard_model::OutOfMemory;
 use std::alloc::Global;
 
-/// Room for a frame. (A caller that sees so many zeros as a list runs the checker out of memory.)
+/// Room for a frame.
 pub fn new_frame_room(alloc: Global) -> Result<Vec<u8>, OutOfMemory>
     ensures { IfOk result (λ room. length room.items ≡ 1048580) }
 {
-    let size = LONGEST_FRAME;
-    Ok(vec![in alloc; 0u8; size]?)
+    room(alloc, LONGEST_FRAME)
 }
 
 /// The size of the next frame, whose octets are the first ones in the room then; none where the source has ended.
@@ -49,10 +49,9 @@ pub fn next_frame<S: Source>(
     if count < LENGTH_OCTETS {
         return Err(RunFault::TornFrame);
     }
-    let body = body_length(&room[..LENGTH_OCTETS]);
-    if body > LONGEST_BODY {
+    let Some(body) = allowed_length(&room[..LENGTH_OCTETS]) else {
         return Err(RunFault::FrameTooLong);
-    }
+    };
     let behind = match fill_body(source, room, body, reads) {
         Ok(behind) => behind,
         Err(_) => return Err(RunFault::ReadFailed),

@@ -1,54 +1,31 @@
 //! All that a source gives.
-ghost use Rattle.std.specs.Prelude.{◌≡◌, length, IfOk, IfErr};
+ghost use Rattle.std.specs.Prelude.{IfOk, IfErr};
 ghost use Rattle.guard_files.specs.Devices.{source_of};
-ghost use Rattle.guard_files.specs.Intake.{IsRead, IsLost};
-ghost use Rattle.guard_files.specs.declared.intake.Unread.TheVariants.{Lost, NoMemory};
+ghost use Rattle.guard_files.specs.Intake.{IsRead, IsNotRead};
 
+use crate::fault::Fault;
+use crate::octets::room;
 use crate::records::fill;
-use guard_frames::{MOST_READS, Source};
-use guard_model::OutOfMemory;
+use guard_der::LONGEST_ENCODING;
+use guard_frames::{MOST_READS, RunFault, Source};
 use std::alloc::Global;
 
-/// The most octets that are taken, and one more.
-const ROOM: usize = 1_048_577;
-
-/// Why it isn't known what a source gives.
-#[derive(Clone, Copy, Debug, PartialEq, Eq)]
-pub enum Unread {
-    /// The source failed, or was asked too often.
-    Lost,
-    NoMemory,
-}
-
-impl From<OutOfMemory> for Unread {
-    ghost from_gives = { λ _ e. e ≡ NoMemory };
-
-    fn from(_e: OutOfMemory) -> Unread {
-        Unread::NoMemory
-    }
-}
+/// One octet more than a message may have.
+const ROOM: usize = LONGEST_ENCODING + 1;
 
 /// All that the source gives; of more than 1,048,576 octets the first 1,048,577. It is asked 2^40 times at most, and
-/// not at all where there is no memory.
-pub fn read_all<S: Source>(alloc: Global, source: &mut S) -> Result<Vec<u8>, Unread>
+/// not at all where there is no memory. It fails with F5 where the source does or was asked too often, and with
+/// NoMemory.
+pub fn read_all<S: Source>(alloc: Global, source: &mut S) -> Result<Vec<u8>, Fault>
     ensures read { IfOk result (λ octets.
         IsRead (source_of S.tells S.takes S.has_failed source.old source.new) octets.items) }
-    ensures lost { IfErr result (λ u. u ≡ Lost
-        → IsLost (source_of S.tells S.takes S.has_failed source.old source.new)) }
+    ensures lost { IfErr result (IsNotRead (source_of S.tells S.takes S.has_failed source.old source.new)) }
 {
-    let mut room = new_room(alloc)?;
+    let mut octets = room(alloc, ROOM)?;
     let mut reads = MOST_READS;
-    let Ok(count) = fill(source, room.as_mut_slice(), &mut reads) else {
-        return Err(Unread::Lost);
+    let Ok(count) = fill(source, octets.as_mut_slice(), &mut reads) else {
+        return Err(Fault::Run(RunFault::ReadFailed));
     };
-    room.truncate(count);
-    Ok(room)
-}
-
-/// Room for as many octets. (A caller that sees so many zeros as a list runs the checker out of memory.)
-fn new_room(alloc: Global) -> Result<Vec<u8>, OutOfMemory>
-    ensures { IfOk result (λ room. length room.items ≡ 1048577) }
-{
-    let size = ROOM;
-    Ok(vec![in alloc; 0u8; size]?)
+    octets.truncate(count);
+    Ok(octets)
 }

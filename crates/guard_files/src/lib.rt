@@ -5,7 +5,7 @@
 //! |---|---|---|
 //! | Which policy is at a path? | `loading.rt` | `specs/Reading.antt` |
 //! | What is an answer, and how is it given? | `answer.rt`, `giving.rt` | `specs/Answers.antt` |
-//! | How is a frame read, and which route has its body? | `frames.rt`, `bodies.rt` | `specs/NextFrame.antt` |
+//! | How is a frame read? | `frames.rt` | `specs/NextFrame.antt` |
 //! | What is a record, and how is it read? | `records.rt` | `specs/Records.antt`, `specs/Headers.antt` |
 //! | Which texts does a policy at a path need? | `texts.rt`, `files.rt` | `specs/Reading.antt`, `specs/Files.antt` |
 //! | Which number have the texts of a policy? | `digest.rt` | `specs/Digest.antt` |
@@ -21,7 +21,6 @@
 
 mod allowed;
 mod answer;
-mod bodies;
 mod digest;
 mod explaining;
 mod fault;
@@ -41,7 +40,6 @@ mod word;
 
 pub use allowed::{allowing_octets, pass_note, value_of};
 pub use answer::{Answer, Remarked};
-pub use bodies::route_in;
 pub use digest::digest_of;
 pub use explaining::{Refusal, sources_of};
 pub use fault::Fault;
@@ -49,15 +47,15 @@ pub use files::{Files, FilesFault, Obstacle};
 pub use frames::{new_frame_room, next_frame};
 pub use giving::give;
 pub use guard_report::add;
-pub use intake::{Unread, read_all};
+pub use intake::read_all;
 pub use loaded::Loaded;
 pub use loading::{load, load_noted, load_numbered, read_noted, said_by};
-pub use octets::add_line;
+pub use octets::{add_line, drop_front};
 pub use outputs::{
     FAILED, report, tell, tell_bad_record, tell_failed_read, tell_failed_write, tell_line,
     tell_no_memory, tell_text, tell_with, write, write_remarked,
 };
-pub use records::{Header, LINKS, LONGEST_PIECE, new_room, next_record};
+pub use records::{Header, LINKS, LONGEST_PIECE, new_room, next_record, size_of_link};
 pub use rule_text::add_said;
 pub use stop::Stop;
 pub use texts::{Texts, read, read_front};

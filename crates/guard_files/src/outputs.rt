@@ -1,5 +1,5 @@
 //! What goes to standard output and to standard error.
-ghost use Rattle.std.specs.Prelude.{◌≡◌, ◌++◌, ℕ, List, true, IfOk, OnErr, codes, string_bytes};
+ghost use Rattle.std.specs.Prelude.{◌≡◌, ◌≤◌, ◌++◌, ℕ, List, true, length, IfOk, OnErr, codes, string_bytes};
 ghost use Rattle.std.specs.Io.KnownBytes.{Appends};
 ghost use Rattle.guard_frames.specs.Prefix.{IsProperPrefix};
 ghost use Rattle.guard_files.specs.Devices.{device_of};
@@ -11,17 +11,11 @@ ghost use Rattle.guard_files.specs.Remarked.{WritesRemarked, remarked_view};
 
 use crate::answer::Remarked;
 use crate::fault::Fault;
-use guard_frames::{Failed, Sink, put_all};
+use guard_frames::{Failed, RunFault, ShortLine, Sink, append, put_all};
 use std::alloc::{AllocError, Global};
 
 /// What is reported where there is no memory to say anything else.
 const NO_MEMORY: &[u8] = b"derguard: no-memory\n";
-
-const WRITE_FAILED: &[u8] = b"derguard: F2 WriteFailed\n";
-
-const READ_FAILED: &[u8] = b"derguard: F5 ReadFailed\n";
-
-const BAD_RECORD: &[u8] = b"derguard: bad record\n";
 
 /// The status where a stream or a device failed, or memory ran out.
 pub const FAILED: u8 = 3;
@@ -121,21 +115,33 @@ pub fn tell_no_memory<E: Sink>(err: &mut E) -> u8
 pub fn tell_bad_record<E: Sink>(err: &mut E) -> u8
     ensures { TellsLine (codes "bad record") 3 (device_of E.taken E.has_failed err.old err.new) result }
 {
-    tell_line(BAD_RECORD, FAILED, err)
+    tell_short("bad record", err)
 }
 
 /// Tells that standard input failed.
 pub fn tell_failed_read<E: Sink>(err: &mut E) -> u8
     ensures { TellsLine (codes "F5 ReadFailed") 3 (device_of E.taken E.has_failed err.old err.new) result }
 {
-    tell_line(READ_FAILED, FAILED, err)
+    tell_short(RunFault::ReadFailed.text(), err)
 }
 
 /// Tells that standard output failed.
 pub fn tell_failed_write<E: Sink>(err: &mut E) -> u8
     ensures { TellsLine (codes "F2 WriteFailed") 3 (device_of E.taken E.has_failed err.old err.new) result }
 {
-    tell_line(WRITE_FAILED, FAILED, err)
+    tell_short(RunFault::WriteFailed.text(), err)
+}
+
+/// Reports a short text after `derguard: `, which takes no memory, with the status of what failed.
+fn tell_short<E: Sink>(text: &str, err: &mut E) -> u8
+    requires { length text.now ≤ 64 }
+    ensures { TellsLine text.now 3 (device_of E.taken E.has_failed err.old err.new) result }
+{
+    let mut line = ShortLine::new();
+    append(&mut line, b"derguard: ");
+    append(&mut line, text.as_bytes());
+    append(&mut line, b"\n");
+    tell_line(line.as_slice(), FAILED, err)
 }
 
 fn line(alloc: Global, text: &str) -> Result<String, AllocError>

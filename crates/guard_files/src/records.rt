@@ -3,10 +3,12 @@ ghost use Rattle.std.specs.Prelude.{◌≡◌, ◌<◌, ◌≤◌, ◌⊎◌, �
 ghost use Rattle.std.specs.Prelude.{take, drop, IfOk, IfErr, IfSome, OnErr, None};
 ghost use Rattle.std.specs.Io.KnownBytes.{Consumes, IsAtEnd};
 ghost use Rattle.guard_frames.specs.Totals.{WentUpBy};
-ghost use Rattle.guard_files.specs.Records.{record_octets, IsBadHeader};
+ghost use Rattle.guard_files.specs.Records.{record_octets, of_link, IsBadHeader, LeavesOpen};
+ghost use Rattle.guard_files.specs.Records.Record.{end};
 ghost use Rattle.guard_files.specs.Headers.{record_of, header_octets, IsGood, IsNone};
 ghost use Rattle.guard_files.specs.declared.stop.Stop.TheVariants as stop;
 
+use crate::octets::room;
 use crate::stop::Stop;
 use guard_frames::{Failed, Source};
 use guard_model::OutOfMemory;
@@ -50,12 +52,26 @@ fn header_in(octets: &[u8]) -> Option<Header>
     }
 }
 
-/// Room for the octets of one record. (A caller that sees so many zeros as a list runs the checker out of memory.)
+/// How many octets of the link the record with this header has, which are its first ones; none where it is the link's
+/// end.
+pub fn size_of_link(header: Header, link: u64) -> Option<usize>
+    requires { IsGood header }
+    ensures piece { IfSome result (λ n. (n ≤ 1048576) × ((room : List ℕ) → LeavesOpen link (record_of header room)
+        × (take n room ≡ of_link link (record_of header room)))) }
+    ensures end { result ≡ None → (room : List ℕ) → record_of header room ≡ end link }
+{
+    match header {
+        Header::Piece(other, size) if u64::from(other) == link => Some(size),
+        Header::End(other) if u64::from(other) == link => None,
+        Header::Piece(_, _) | Header::End(_) | Header::Reload => Some(0),
+    }
+}
+
+/// Room for the octets of one record.
 pub fn new_room(alloc: Global) -> Result<Vec<u8>, OutOfMemory>
     ensures { IfOk result (λ room. length room.items ≡ 1048576) }
 {
-    let size = LONGEST_PIECE;
-    Ok(vec![in alloc; 0u8; size]?)
+    room(alloc, LONGEST_PIECE)
 }
 
 /// The header of the next record, whose octets are the first ones in the room then; none where the source has ended.

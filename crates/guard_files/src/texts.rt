@@ -13,6 +13,7 @@ ghost use Rattle.guard_files.specs.inside.Texts.{CannotAllBeRead, IsBeforeModule
 use crate::fault::Fault;
 use crate::files::{Files, FilesFault};
 use crate::loading::read_noted;
+use guard_lexer::LONGEST_TEXT;
 use guard_notes::beside;
 use guard_policy::module_files;
 use guard_schema::read_modules;
@@ -23,7 +24,7 @@ use std::alloc::{AllocError, Global};
 const MOST: usize = 67_108_864;
 
 /// One octet more than a module, or a message in a file, may have.
-const FRONT: usize = 1_048_577;
+const FRONT: usize = LONGEST_TEXT + 1;
 
 /// The text of a policy, the files of the modules that it lists, in order, and their texts.
 #[derive(Drop)]
@@ -126,13 +127,8 @@ pub fn read<F: Files>(alloc: Global, path: &str, files: &mut F) -> Result<Vec<u8
     ensures missing { IfErr result (IsUnreadable (F.told files.old) path.now) }
     ensures next { F.told files.new ≡ after_read (F.told files.old) }
 {
-    match files.read(alloc, path, MOST + 1) {
-        Ok(text) => whole(alloc, path, text),
-        Err(FilesFault::CannotRead(obstacle)) => {
-            Err(Fault::CannotRead(String::from_str(alloc, path)?, obstacle))
-        }
-        Err(FilesFault::OutOfMemory) => Err(Fault::NoMemory),
-    }
+    let text = read_up_to(alloc, path, MOST + 1, files)?;
+    whole(alloc, path, text)
 }
 
 /// The text that was read, unless it has too many octets.
@@ -155,7 +151,21 @@ pub fn read_front<F: Files>(alloc: Global, path: &str, files: &mut F) -> Result<
     ensures missing { IfErr result (HasNoFront (F.told files.old) path.now) }
     ensures next { F.told files.new ≡ after_read (F.told files.old) }
 {
-    match files.read(alloc, path, FRONT) {
+    read_up_to(alloc, path, FRONT, files)
+}
+
+/// At most so many octets of the text at the path, the first ones. What can't be read is named.
+fn read_up_to<F: Files>(
+    alloc: Global,
+    path: &str,
+    most: usize,
+    files: &mut F,
+) -> Result<Vec<u8>, Fault>
+    ensures text { IfOk result (λ text. HasFirst most (F.told files.old) path.now text.items) }
+    ensures missing { IfErr result (HasNoFront (F.told files.old) path.now) }
+    ensures next { F.told files.new ≡ after_read (F.told files.old) }
+{
+    match files.read(alloc, path, most) {
         Ok(text) => Ok(text),
         Err(FilesFault::CannotRead(obstacle)) => {
             Err(Fault::CannotRead(String::from_str(alloc, path)?, obstacle))

@@ -5,10 +5,10 @@ use Rattle.guard_policy.specs.Decisions.{rules_of, speaking}
 use Rattle.guard_policy.specs.Policies.{AbstractRule}
 use Rattle.guard_policy.specs.PolicyView.{policy_view, route_view, said_view}
 use Rattle.guard_policy.proofs.Applicable.{applicable_number}
-use Rattle.guard_files.specs.Allowed.{allowing}
-use Rattle.guard_files.proofs.AllowingLaws.{no_number, one_number, none_of}
+use Rattle.guard_files.specs.Allowed.{allowing, allowing_lines}
+use Rattle.guard_files.proofs.AllowingLaws.{no_line, no_number, one_line, one_number, none_of}
 use Rattle.guard_files.proofs.allowed.allowing.Goals as goal
-use Rattle.guard_files.proofs.allowed.allowing.Goals.{then-allows+in_ok-push, else-allows}
+use Rattle.guard_files.proofs.allowed.allowing.Goals.{then-allows+in_ok-push+in_ok-add_line, else-allows}
 
 pub unreachable-requires : goal.unreachable-requires
 unreachable-requires c =
@@ -33,20 +33,38 @@ loop-number-preserved c =
     let route = route_view c.args.route.now in
     let v = value_view c.args.value.now in
     let r = said_view c.in-Some.rule in
-    let done = c.loop-number.numbers.items in
+    let i = c.loop-number.number in
+    let numbers = c.loop-number.numbers.items in
+    let lines = c.loop-number.lines.items in
+    let so_far = c.loop-number.invariant in
+    let at = sym c.in-Some.ensures in
     elim c.if-allows.branch [
-      | then-allows+in_ok-push w ↦ rw (w.numbers-is, w.in_ok-push.ensures.items) (one_number route v p.rules c.loop-number.number r done (allowing (rules_of p route) v) (sym c.in-Some.ensures) (sym c.allows.ensures ∙ w.if-allows.true) c.loop-number.invariant)
-      | else-allows w ↦ rw w.numbers-is (no_number route v p.rules c.loop-number.number r done (allowing (rules_of p route) v) (sym c.in-Some.ensures) (sym c.allows.ensures ∙ w.if-allows.false) c.loop-number.invariant)
+      | then-allows+in_ok-push+in_ok-add_line w ↦
+          let has = sym c.allows.ensures ∙ w.if-allows.true in
+          record {
+            numbers = rw (w.numbers-is, w.in_ok-push.ensures.items) (one_number route v p.rules i r numbers (allowing (rules_of p route) v) at has so_far.numbers);
+            lines = rw (w.lines-is, w.in_ok-add_line.ensures) (one_line route v p.rules i r lines (allowing_lines route v p.rules) at has so_far.lines);
+          }
+      | else-allows w ↦
+          let none = sym c.allows.ensures ∙ w.if-allows.false in
+          record {
+            numbers = rw w.numbers-is (no_number route v p.rules i r numbers (allowing (rules_of p route) v) at none so_far.numbers);
+            lines = rw w.lines-is (no_line route v p.rules i r lines (allowing_lines route v p.rules) at none so_far.lines);
+          }
     ]
 
-pub returns : goal.returns
-returns c =
+pub returns-clause-numbers : goal.returns-clause-numbers
+returns-clause-numbers c =
     let p = policy_view c.args.policy.now in
-    let route = route_view c.args.route.now in
-    let v = value_view c.args.value.now in
-    let past = c.loop-number-test.false in
-    let many = c.rules-number-end.ensures in
-    let all : length p.rules ≤ c.loop-number.number = omega (arith, past, many) in
+    let all : length p.rules ≤ c.loop-number.number = omega (arith, c.loop-number-test.false, c.rules-number-end.ensures) in
     sym (append-nil c.loop-number.numbers.items)
-    ∙ ap (λ (rest : List AbstractRule). c.loop-number.numbers.items ++ allowing (speaking route c.loop-number.number rest) v) (sym (drop_all c.loop-number.number p.rules all))
-    ∙ c.loop-number.invariant
+    ∙ ap (λ (rest : List AbstractRule). c.loop-number.numbers.items ++ allowing (speaking (route_view c.args.route.now) c.loop-number.number rest) (value_view c.args.value.now)) (sym (drop_all c.loop-number.number p.rules all))
+    ∙ c.loop-number.invariant.numbers
+
+pub returns-clause-lines : goal.returns-clause-lines
+returns-clause-lines c =
+    let p = policy_view c.args.policy.now in
+    let all : length p.rules ≤ c.loop-number.number = omega (arith, c.loop-number-test.false, c.rules-number-end.ensures) in
+    sym (append-nil c.loop-number.lines.items)
+    ∙ ap (λ (rest : List AbstractRule). c.loop-number.lines.items ++ allowing_lines (route_view c.args.route.now) (value_view c.args.value.now) rest) (sym (drop_all c.loop-number.number p.rules all))
+    ∙ c.loop-number.invariant.lines

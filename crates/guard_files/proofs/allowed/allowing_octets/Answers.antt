@@ -1,4 +1,3 @@
-use Rattle.std.proofs.lemmas.Result.{IfOk-weaker}
 use Rattle.guard_model.specs.TypeView.{type_view}
 use Rattle.guard_model.specs.ValueView.{value_view}
 use Rattle.guard_policy.specs.PolicyView.{policy_view, route_view}
@@ -14,4 +13,4 @@ allowing-requires c =
 pub returns : goal.returns
 returns c =
     let found = c.in_ok-value.ensures in
-    IfOk-weaker c.allowing.result _ _ (λ numbers e. (type_view c.in_ok-value.field-0-0.now, value_view c.in_ok-value.value, found.0, found.1, found.2, e)) c.allowing.ensures
+    (type_view c.in_ok-value.field-0-0.now, value_view c.in_ok-value.value, found.0, found.1, found.2, c.in_ok-allowing.ensures.numbers)

@@ -1,12 +1,11 @@
-use Rattle.std.proofs.lemmas.Result.{IfOk-weaker}
 use Rattle.guard_model.specs.TypeView.{type_view}
 use Rattle.guard_model.specs.ValueView.{value_view}
 use Rattle.guard_policy.specs.PolicyView.{policy_view, route_view}
 use Rattle.guard_policy.proofs.Applicable.{applicable_from_consistent}
 use Rattle.guard_files.proofs.allowed.pass_note.Goals as goal
 
-pub allowing_lines-requires : goal.allowing_lines-requires
-allowing_lines-requires c =
+pub allowing-requires : goal.allowing-requires
+allowing-requires c =
     let p = policy_view c.args.policy.now in
     let found = c.in_ok-value.ensures in
     applicable_from_consistent p.messages p.rules (route_view c.args.route.now) (type_view c.in_ok-value.field-0-0.now) (value_view c.in_ok-value.value) c.args.policy.now.kept.consistent found.0 found.1
@@ -14,4 +13,4 @@ allowing_lines-requires c =
 pub returns : goal.returns
 returns c =
     let found = c.in_ok-value.ensures in
-    IfOk-weaker c.allowing_lines.result _ _ (λ note e. (type_view c.in_ok-value.field-0-0.now, value_view c.in_ok-value.value, found.0, found.1, found.2, e)) c.allowing_lines.ensures
+    (type_view c.in_ok-value.field-0-0.now, value_view c.in_ok-value.value, found.0, found.1, found.2, c.in_ok-allowing.ensures.lines)

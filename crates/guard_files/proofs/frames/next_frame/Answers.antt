@@ -9,8 +9,8 @@ returns-in-Err-fill_body-clause-none g c =
     let four : 4 ≤ length room = omega (arith, c.fill_front.auto.room, c.requires) in
     let head = head_read _ _ c.in-Ok.count room c.in-Ok.ensures.within c.if-count-lt-LENGTH_OCTETS.false c.in-Ok.ensures.given in
     let lost = c.in-Err-fill_body.ensures.lost in
-    let rest = torn_read room c.body_length-body.result four c.body_length-body.ensures.value _ _ _ lost.0
-    c.if-body-gt-LONGEST_BODY.false lost.1 head lost.2 in
+    let rest = torn_read room c.in-Some.body four c.in-Some.ensures.allowed.0 _ _ _ lost.0
+    c.in-Some.ensures.allowed.1 lost.1 head lost.2 in
     (rest.0, rest.1, (rest.3, c.in-Err-fill_body.ensures.failed.1))
 
 pub returns-then-behind-body-clause-none : goal.returns-then-behind-body-clause-none
@@ -21,8 +21,8 @@ returns-then-behind-body-clause-none g c =
     let part = take c.in-Ok-fill_body.behind (drop 4 c.fill_body.new.room) in
     let size : length part ≡ c.in-Ok-fill_body.behind =
     length-take-le c.in-Ok-fill_body.behind (drop 4 c.fill_body.new.room)
-    (omega (arith, c.if-behind-body.true, c.if-body-gt-LONGEST_BODY.false, four, c.fill_body.auto.room, c.fill_front.auto.room, c.requires, length-drop 4 c.fill_body.new.room)) in
-    let few : length part < c.body_length-body.result = omega (arith, c.if-behind-body.true, size) in
-    let rest = torn_read room c.body_length-body.result four c.body_length-body.ensures.value _ _ _ part
-    c.if-body-gt-LONGEST_BODY.false few head c.in-Ok-fill_body.ensures.given in
+    (omega (arith, c.if-behind-body.true, c.in-Some.ensures.allowed.1, four, c.fill_body.auto.room, c.fill_front.auto.room, c.requires, length-drop 4 c.fill_body.new.room)) in
+    let few : length part < c.in-Some.body = omega (arith, c.if-behind-body.true, size) in
+    let rest = torn_read room c.in-Some.body four c.in-Some.ensures.allowed.0 _ _ _ part
+    c.in-Some.ensures.allowed.1 few head c.in-Ok-fill_body.ensures.given in
     (rest.0, rest.1, (rest.2, rest.3, c.in-Ok-fill_body.ensures.end c.if-behind-body.true))

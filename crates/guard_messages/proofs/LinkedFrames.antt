@@ -1,5 +1,5 @@
 -- The frames of one link in records that are read one after another.
-use Rattle.std.proofs.Common.{◌≡◌, ◌∙◌, ◌+◌, ◌<◌, ◌≤◌, ◌^◌, ◌⊎◌, inl, inr, ℕ, Bool, true, false, cond, nat_eq, List, [], ◌∷◌, ◌++◌, ap, refl, sym, subst, length, length-append, take, drop, map, arith, append_assoc}
+use Rattle.std.proofs.Common.{◌≡◌, ◌∙◌, ◌+◌, ◌<◌, ◌≤◌, ◌^◌, ◌⊎◌, inl, inr, ℕ, Bool, List, [], ◌∷◌, ◌++◌, ap, refl, sym, subst, length, length-append, take, drop, map, arith, append_assoc}
 use Rattle.std.specs.Prelude.{Option}
 use Rattle.std.specs.List.{concat, All}
 use Rattle.std.specs.Io.KnownBytes.{Consumes, IsAtEnd}
@@ -16,15 +16,16 @@ use Rattle.guard_files.specs.declared.stop.Stop.{Stop}
 use Rattle.guard_files.specs.declared.stop.Stop.TheVariants.{BadRecord, ReadFailed, WriteFailed, ErrorFailed}
 use Rattle.guard_files.specs.Devices.{Input, input_of}
 use Rattle.guard_files.specs.Files.{Told}
-use Rattle.guard_files.specs.Records.{Record, record_octets, IsAllowed}
-use Rattle.guard_files.specs.Records.Record.{piece, end, reload}
+use Rattle.guard_files.specs.Records.{LeavesOpen, Record, link_octets, of_link, record_octets, IsAllowed}
+use Rattle.guard_files.specs.Records.Record.{end}
 use Rattle.guard_files.specs.Headers.{IsNone}
+use Rattle.guard_files.proofs.RecordLaws.{one_more}
 use Rattle.guard_files.proofs.RecordReading.{joined_last}
 use Rattle.guard_files.specs.declared.fault.Fault.TheVariants.{Run, NoMemory}
 use Rattle.guard_messages.specs.declared.unfound.Unfound.{Unfound}
 use Rattle.guard_messages.specs.declared.unfound.Unfound.TheVariants as unfound
 use Rattle.guard_messages.specs.Finding.{IsUnfound, of_stop}
-use Rattle.guard_messages.specs.Linked.{LeavesOpen, ReadsLink, IsNthOfLink, link_octets}
+use Rattle.guard_messages.specs.Linked.{ReadsLink, IsNthOfLink}
 use Rattle.guard_messages.specs.Numbered.{IsNatural, IsNumber}
 use Rattle.guard_messages.specs.Questions.{linked}
 use Rattle.guard_messages.specs.inside.Passed.{AreFrames, Completes, Holds, IsUnlinked, Refuses, joins}
@@ -67,100 +68,44 @@ found_frame a b target frame at size count e f passed is cut =
       subst IsFrame (sym same) is,
     )
 
--- ---- the octets of a link
-
-link_octets-append : (link : ℕ) (rs ss : List Record) → link_octets link (rs ++ ss) ≡ link_octets link rs ++ link_octets link ss
-link_octets-append link [] ss = refl
-link_octets-append link (piece other octets ∷ rs) ss = go (nat_eq other link) (link_octets-append link rs ss)
-  where
-    go : (b : Bool) → link_octets link (rs ++ ss) ≡ link_octets link rs ++ link_octets link ss
-        → cond b (octets ++ link_octets link (rs ++ ss)) (link_octets link (rs ++ ss))
-        ≡ cond b (octets ++ link_octets link rs) (link_octets link rs) ++ link_octets link ss
-    go true e = ap (λ s. octets ++ s) e ∙ sym (append_assoc octets (link_octets link rs) (link_octets link ss))
-    go false e = e
-link_octets-append link (end other ∷ rs) ss = link_octets-append link rs ss
-link_octets-append link (reload ∷ rs) ss = link_octets-append link rs ss
-
 -- ---- one record
 
-no_octets : (link : ℕ) (held : List ℕ) (r : Record) → link_octets link (r ∷ []) ≡ [] → joins link held r ≡ held
-no_octets link held r none = ap (λ s. held ++ s) none ∙ append-nil held
+-- with these octets of the link
+module _ (link : ℕ) (r : Record) (held octets : List ℕ) (before : ℕ) (going : LeavesOpen link r) (are : octets ≡ of_link link r) where
+  pub piece_completes : (frame : List ℕ) → ((more : List ℕ) × AreFrames (held ++ octets) before (frame ++ more) × IsFrame frame)
+      → Completes link r held before frame
+  piece_completes frame (more, passed, is) = record {
+    going = going;
+    more = more;
+    passed = subst (λ (s : List ℕ). AreFrames (held ++ s) before (frame ++ more)) are passed;
+    is = is;
+  }
 
-joins_piece : (link other : ℕ) (held octets : List ℕ) → other ≡ link → joins link held (piece other octets) ≡ held ++ octets
-joins_piece link other held octets is = go (nat_eq other link) refl
-  where
-    go : (b : Bool) → nat_eq other link ≡ b → held ++ cond b (octets ++ []) [] ≡ held ++ octets
-    go true e = ap (λ s. held ++ s) (append-nil octets)
-    go false e = absurd (grind (arith, e, is))
+  pub piece_holds : (later : List ℕ) (left : ℕ) → ((count : ℕ) × (left + count ≡ before) × AreFrames (held ++ octets) count later × IsUnfinished later)
+      → Holds link r held later before left
+  piece_holds later left (count, counted, passed, unfinished) = record {
+    going = going;
+    count = count;
+    counted = counted;
+    passed = subst (λ (s : List ℕ). AreFrames (held ++ s) count later) are passed;
+    unfinished = unfinished;
+  }
 
-joins_other : (link other : ℕ) (held octets : List ℕ) → (other ≡ link → ⊥) → joins link held (piece other octets) ≡ held
-joins_other link other held octets differs = go (nat_eq other link) refl
-  where
-    go : (b : Bool) → nat_eq other link ≡ b → held ++ cond b (octets ++ []) [] ≡ held
-    go true e = absurd (differs (grind (arith, e)))
-    go false e = append-nil held
+  pub piece_refuses : (u : Unfound)
+      → ((u ≡ unfound.Faulty (Run FrameTooLong)) × ((rest : List ℕ) × (count : ℕ) × (count ≤ before) × AreFrames (held ++ octets) count rest × IsTooLong rest))
+      ⊎ (u ≡ unfound.Faulty NoMemory) → Refuses u link r held before
+  piece_refuses u (inl (why, (rest, count, few, passed, long))) =
+      subst (λ (x : Unfound). Refuses x link r held before) (sym why)
+      (going, (rest, count, few, subst (λ (s : List ℕ). AreFrames (held ++ s) count rest) are passed, long))
+  piece_refuses u (inr why) = subst (λ (x : Unfound). Refuses x link r held before) (sym why) tt
 
-pub piece_completes : (link other : ℕ) (held octets : List ℕ) (before : ℕ) (frame : List ℕ) → other ≡ link
-    → ((more : List ℕ) × AreFrames (held ++ octets) before (frame ++ more) × IsFrame frame)
-    → Completes link (piece other octets) held before frame
-piece_completes link other held octets before frame is (more, passed, frame_is) = record {
-  going = tt;
-  more = more;
-  passed = subst (λ (s : List ℕ). AreFrames s before (frame ++ more)) (sym (joins_piece link other held octets is)) passed;
-  is = frame_is;
-}
-
-pub piece_holds : (link other : ℕ) (held octets later : List ℕ) (before left : ℕ) → other ≡ link
-    → ((count : ℕ) × (left + count ≡ before) × AreFrames (held ++ octets) count later × IsUnfinished later)
-    → Holds link (piece other octets) held later before left
-piece_holds link other held octets later before left is (count, counted, passed, unfinished) = record {
-  going = tt;
-  count = count;
-  counted = counted;
-  passed = subst (λ (s : List ℕ). AreFrames s count later) (sym (joins_piece link other held octets is)) passed;
-  unfinished = unfinished;
-}
-
-pub piece_refuses : (u : Unfound) (link other : ℕ) (held octets : List ℕ) (before : ℕ) → other ≡ link
-    → ((u ≡ unfound.Faulty (Run FrameTooLong)) × ((rest : List ℕ) × (count : ℕ) × (count ≤ before) × AreFrames (held ++ octets) count rest × IsTooLong rest))
-    ⊎ (u ≡ unfound.Faulty NoMemory) → Refuses u link (piece other octets) held before
-piece_refuses u link other held octets before is (inl (why, (rest, count, few, passed, long))) =
-    subst (λ (x : Unfound). Refuses x link (piece other octets) held before) (sym why)
-    (tt, (rest, count, few, subst (λ (s : List ℕ). AreFrames s count rest) (sym (joins_piece link other held octets is)) passed, long))
-piece_refuses u link other held octets before is (inr why) =
-    subst (λ (x : Unfound). Refuses x link (piece other octets) held before) (sym why) tt
-
--- a record that adds nothing
-stays_held : (link : ℕ) (r : Record) (held : List ℕ) (before : ℕ) → LeavesOpen link r → joins link held r ≡ held → IsUnfinished held
-    → Holds link r held held before before
-stays_held link r held before going same unfinished = record {
-  going = going;
-  count = 0;
-  counted = omega arith;
-  passed = subst (λ (s : List ℕ). AreFrames s 0 held) (sym same) (no_frames held);
-  unfinished = unfinished;
-}
-
-pub other_holds : (link other : ℕ) (held octets : List ℕ) (before : ℕ) → (other ≡ link → ⊥) → IsUnfinished held
-    → Holds link (piece other octets) held held before before
-other_holds link other held octets before differs unfinished =
-    stays_held link (piece other octets) held before tt (joins_other link other held octets differs) unfinished
-
-pub end_holds : (link other : ℕ) (held : List ℕ) (before : ℕ) → (other ≡ link → ⊥) → IsUnfinished held
-    → Holds link (end other) held held before before
-end_holds link other held before differs unfinished =
-    stays_held link (end other) held before differs (no_octets link held (end other) refl) unfinished
-
-pub reload_holds : (link : ℕ) (held : List ℕ) (before : ℕ) → IsUnfinished held → Holds link reload held held before before
-reload_holds link held before unfinished =
-    stays_held link reload held before tt (no_octets link held reload refl) unfinished
-
-pub end_refuses : (u : Unfound) (link other : ℕ) (held : List ℕ) (before : ℕ) → other ≡ link
-    → ((u ≡ unfound.NoSuchFrame) × (held ≡ [])) ⊎ ((u ≡ unfound.Faulty (Run TornFrame)) × (0 < length held)) → Refuses u link (end other) held before
-end_refuses u link other held before is (inl (why, none)) =
-    subst (λ (x : Unfound). Refuses x link (end other) held before) (sym why) (ap end is, none)
-end_refuses u link other held before is (inr (why, some)) =
-    subst (λ (x : Unfound). Refuses x link (end other) held before) (sym why) (ap end is, some)
+-- the end of the link
+pub end_refuses : (u : Unfound) (link : ℕ) (r : Record) (held : List ℕ) (before : ℕ) → r ≡ end link
+    → ((u ≡ unfound.NoSuchFrame) × (held ≡ [])) ⊎ ((u ≡ unfound.Faulty (Run TornFrame)) × (0 < length held)) → Refuses u link r held before
+end_refuses u link r held before is (inl (why, none)) =
+    subst (λ (x : Unfound). Refuses x link r held before) (sym why) (is, none)
+end_refuses u link r held before is (inr (why, some)) =
+    subst (λ (x : Unfound). Refuses x link r held before) (sym why) (is, some)
 
 -- The records so far, and what is held of the link.
 pub record LinkedSoFar (link n : ℕ) (a b : Option (List ℕ)) (held : List ℕ) (before : ℕ) : Type 0 where
@@ -195,8 +140,8 @@ module _ (link n : ℕ) (a b : Option (List ℕ)) (held : List ℕ) (before : �
       → link_octets link (so_far.records ++ r ∷ []) ≡ concat (so_far.frames ++ others) ++ rest
   octets_more r others rest e =
       joined_frames so_far.frames others (link_octets link (so_far.records ++ r ∷ [])) (joins link held r) rest
-      (link_octets-append link so_far.records (r ∷ []) ∙ ap (λ s. s ++ link_octets link (r ∷ [])) so_far.octets
-      ∙ append_assoc (concat so_far.frames) held (link_octets link (r ∷ []))) e
+      (one_more link so_far.records r ∙ ap (λ s. s ++ of_link link r) so_far.octets
+      ∙ append_assoc (concat so_far.frames) held (of_link link r)) e
 
   given_more : (c : Option (List ℕ)) (r : Record) → Consumes b c (record_octets r)
       → Consumes a c (concat (map record_octets (so_far.records ++ r ∷ [])))

@@ -1,25 +1,11 @@
 -- The frame of a number, from 1, of one link in a stream of records.
-use Rattle.std.specs.Prelude.{◌≡◌, ◌<◌, ◌+◌, ◌⊎◌, ℕ, nat_eq, List, [], ◌∷◌, ◌++◌, length, map, if◌then◌else◌}
+use Rattle.std.specs.Prelude.{◌≡◌, ◌<◌, ◌+◌, ◌⊎◌, ℕ, List, [], ◌++◌, length, map}
 use Rattle.std.specs.List.{concat, All}
 use Rattle.std.specs.Io.KnownBytes.{Consumes, IsAtEnd}
 use Rattle.guard_frames.specs.Frames.{IsFrame, IsTooLong, IsUnfinished}
 use Rattle.guard_files.specs.Devices.{Input}
-use Rattle.guard_files.specs.Records.{IsBadRecord, IsLost, Record, record_octets, IsAllowed}
-use Rattle.guard_files.specs.Records.Record.{piece, end, reload}
-
--- the octets of the link's pieces, in order
-abbrev pub link_octets : ℕ → List Record → List ℕ
-link_octets link [] = []
-link_octets link (piece other octets ∷ records) =
-    if nat_eq other link then octets ++ link_octets link records else link_octets link records
-link_octets link (end other ∷ records) = link_octets link records
-link_octets link (reload ∷ records) = link_octets link records
-
--- the record isn't the end of this link
-abbrev pub LeavesOpen : ℕ → Record → Type 0
-LeavesOpen link (piece other octets) = Unit {0}
-LeavesOpen link (end other) = other ≡ link → ⊥
-LeavesOpen link reload = Unit {0}
+use Rattle.guard_files.specs.Records.{IsBadRecord, IsLost, LeavesOpen, Record, link_octets, record_octets, IsAllowed}
+use Rattle.guard_files.specs.Records.Record.{end}
 
 -- Records and a rest were read. The link's octets in the records are these frames, fewer than the number, and what is
 -- held of the next ones.

@@ -17,10 +17,8 @@ use crate::holding::bad_header;
 use crate::question::Spot;
 use crate::reasons::verdict_note;
 use crate::rule_types::Grounds;
-use guard_files::{
-    Answer, Fault, Files, Loaded, Refusal, Texts, add, read_noted, route_in, sources_of,
-};
-use guard_frames::Body;
+use guard_files::{Answer, Fault, Files, Loaded, Refusal, Texts, add, read_noted, sources_of};
+use guard_frames::{Body, route_of};
 use guard_model::OutOfMemory;
 use guard_policy::{Policy, Route, Verdict};
 use guard_report::verdict_text;
@@ -98,7 +96,7 @@ fn verdict_answer(
             explain,
             grounds,
             policy,
-            &route_in(&body),
+            &route_of(&body),
             body.message_octets,
         ),
         None => bad_header(alloc),

@@ -1,10 +1,8 @@
 //! The octets of a message that is written, is in a file or comes in.
 ghost use Rattle.std.specs.Prelude.{◌≡◌, ◌≤◌, ◌⊎◌, drop, length, IfOk, IfErr};
-ghost use Rattle.guard_frames.specs.declared.running.RunFault.TheVariants.{ReadFailed};
 ghost use Rattle.guard_files.specs.Devices.{Input, source_of};
 ghost use Rattle.guard_files.specs.Files.{Told};
-ghost use Rattle.guard_files.specs.Intake.{IsRead, IsLost};
-ghost use Rattle.guard_files.specs.declared.fault.Fault.TheVariants.{Run, NoMemory};
+ghost use Rattle.guard_files.specs.declared.fault.Fault.TheVariants.{NoMemory};
 ghost use Rattle.guard_messages.specs.Finding.{is_input, IsFrameAt, IsKeptBy, IsNotKeptBy, IsFound, IsUnfound};
 ghost use Rattle.guard_messages.specs.Finding.{LeavesInput};
 ghost use Rattle.guard_messages.specs.Questions.{spot_view, written, kept, framed, linked};
@@ -13,14 +11,12 @@ use crate::linked::linked_frame;
 use crate::numbered::{natural_in, nth_frame, number_in};
 use crate::question::Spot;
 use crate::unfound::Unfound;
-use guard_files::{Fault, Files, Unread, new_frame_room, new_room, read_all, read_front};
-use guard_frames::{LENGTH_OCTETS, RunFault, Source};
+use guard_der::LONGEST_ENCODING;
+use guard_files::{Fault, Files, new_frame_room, new_room, read_all, read_front};
+use guard_frames::{LENGTH_OCTETS, Source};
 use guard_model::OutOfMemory;
 use hex::FromHexError;
 use std::alloc::Global;
-
-/// The most octets of a message.
-const MOST: usize = 1_048_576;
 
 /// The octets at the spot; of a frame those behind its length.
 pub fn find<F: Files, S: Source>(
@@ -70,7 +66,7 @@ fn kept_octets<F: Files, S: Source>(
         (source_of S.tells S.takes S.has_failed input.old input.new)) }
 {
     let octets = all_at(alloc, path, files, input)?;
-    if octets.len() > MOST {
+    if octets.len() > LONGEST_ENCODING {
         return Err(Unfound::TooLong);
     }
     Ok(octets)
@@ -89,23 +85,9 @@ fn all_at<F: Files, S: Source>(
         (source_of S.tells S.takes S.has_failed input.old input.new) f ⊎ (f ≡ NoMemory)) }
 {
     if path == "-" {
-        read_input(alloc, input)
+        read_all(alloc, input)
     } else {
         read_front(alloc, path, files)
-    }
-}
-
-/// All that standard input gives, to one octet more than a message has.
-fn read_input<S: Source>(alloc: Global, input: &mut S) -> Result<Vec<u8>, Fault>
-    ensures read { IfOk result (λ octets.
-        IsRead (source_of S.tells S.takes S.has_failed input.old input.new) octets.items) }
-    ensures lost { IfErr result (λ f. ((f ≡ Run ReadFailed)
-        × IsLost (source_of S.tells S.takes S.has_failed input.old input.new)) ⊎ (f ≡ NoMemory)) }
-{
-    match read_all(alloc, input) {
-        Ok(octets) => Ok(octets),
-        Err(Unread::Lost) => Err(Fault::Run(RunFault::ReadFailed)),
-        Err(Unread::NoMemory) => Err(Fault::NoMemory),
     }
 }
 

@@ -12,8 +12,8 @@ ghost use Rattle.guard_messages.specs.Shown.{ShowsHeld, ShowsHeldJson, ShowsMess
 
 use crate::question::{Question, Spot};
 use crate::values::{on_a_line, show_json, show_octets};
-use guard_files::{Answer, Fault, Files, Refusal, load_noted, route_in};
-use guard_frames::{Body, read_body};
+use guard_files::{Answer, Fault, Files, Refusal, load_noted};
+use guard_frames::{Body, read_body, route_of};
 use guard_model::OutOfMemory;
 use guard_policy::{Policy, Route};
 use std::alloc::Global;
@@ -108,7 +108,7 @@ fn as_json(alloc: Global, policy: &Policy, held: Option<Body>) -> Result<Answer,
         (answer_view a)) }
 {
     match held {
-        Some(body) => show_json(alloc, policy, &route_in(&body), body.message_octets),
+        Some(body) => show_json(alloc, policy, &route_of(&body), body.message_octets),
         None => on_a_line(alloc, b"bad-header"),
     }
 }

@@ -1,6 +1,6 @@
 //! The frame of a number, of those of one link in a stream of records.
 ghost use Rattle.std.specs.Prelude.{◌≡◌, ◌<◌, ◌≤◌, ◌+◌, ◌⊎◌, ◌++◌, ℕ, List, [], None};
-ghost use Rattle.std.specs.Prelude.{drop, length, take, IfOk, IfErr, IfSome, OnOk};
+ghost use Rattle.std.specs.Prelude.{drop, length, take, IfOk, IfErr, IfSome};
 ghost use Rattle.guard_frames.specs.Frames.{IsFrame, IsTooLong, IsUnfinished};
 ghost use Rattle.guard_frames.specs.declared.running.RunFault.TheVariants.{FrameTooLong, TornFrame};
 ghost use Rattle.guard_files.specs.Devices.{source_of};
@@ -12,7 +12,7 @@ ghost use Rattle.guard_messages.specs.inside.Passed.{IsUnlinked, Refuses};
 ghost use Rattle.guard_messages.specs.declared.unfound.Unfound.TheVariants.{Faulty, NoSuchFrame};
 
 use crate::unfound::Unfound;
-use guard_files::{Fault, Header, add, next_record};
+use guard_files::{Fault, Header, add, drop_front, next_record, size_of_link};
 use guard_frames::{Cut, MOST_READS, Rest, RunFault, Source, first_cut};
 use guard_model::OutOfMemory;
 use std::alloc::Global;
@@ -82,29 +82,15 @@ fn take_record(
 ) -> Result<Option<Vec<u8>>, Unfound>
     requires good { IsGood header }
     requires room { length room.now ≡ 1048576 }
-    requires unfinished { IsUnfinished held.old.items }
     ensures frame { IfOk result (λ found. IfSome found (λ frame.
         Completes link (record_of header room.now) held.old.items before.old frame.items)) }
     ensures none { IfOk result (λ found. found ≡ None →
         Holds link (record_of header room.now) held.old.items held.new.items before.old before.new) }
     ensures refused { IfErr result (λ u. Refuses u link (record_of header room.now) held.old.items before.old) }
 {
-    match header {
-        Header::Piece(other, size) => {
-            if u64::from(other) == link {
-                take_piece(alloc, &room[..size], held, before)
-            } else {
-                Ok(None)
-            }
-        }
-        Header::End(other) => {
-            if u64::from(other) == link {
-                Err(ended(held.as_slice()))
-            } else {
-                Ok(None)
-            }
-        }
-        Header::Reload => Ok(None),
+    match size_of_link(header, link) {
+        Some(size) => take_piece(alloc, &room[..size], held, before),
+        None => Err(ended(held.as_slice())),
     }
 }
 
@@ -160,15 +146,4 @@ fn copied(alloc: Global, octets: &[u8], at: usize, size: usize) -> Result<Vec<u8
     ensures { IfOk result (λ part. part.items ≡ take size (drop at octets.now)) }
 {
     Ok(Vec::from_slice(alloc, &octets[at..at + size])?)
-}
-
-/// Drops so many octets at the front.
-fn drop_front(alloc: Global, octets: &mut Vec<u8>, count: usize) -> Result<(), OutOfMemory>
-    requires { count ≤ length octets.old.items }
-    ensures { OnOk result (octets.new.items ≡ drop count octets.old.items) }
-{
-    if count > 0 {
-        *octets = Vec::from_slice(alloc, &octets[count..])?;
-    }
-    Ok(())
 }

@@ -1,18 +1,18 @@
 -- What is made of the octets of a link, piece by piece.
-use Rattle.std.specs.Prelude.{◌≡◌, ◌<◌, ◌≤◌, ◌+◌, ℕ, List, [], ◌∷◌, ◌++◌, drop, length, take}
+use Rattle.std.specs.Prelude.{◌≡◌, ◌<◌, ◌≤◌, ◌+◌, ℕ, List, [], ◌++◌, drop, length, take}
 use Rattle.std.specs.List.{concat, All}
 use Rattle.guard_frames.specs.Frames.{IsFrame, IsTooLong, IsUnfinished}
 use Rattle.guard_frames.specs.declared.running.RunFault.TheVariants.{FrameTooLong, TornFrame}
 use Rattle.guard_files.specs.declared.fault.Fault.TheVariants.{Run, NoMemory}
 use Rattle.guard_files.specs.Devices.{Input}
-use Rattle.guard_files.specs.Records.{Record}
+use Rattle.guard_files.specs.Records.{LeavesOpen, Record, of_link}
 use Rattle.guard_files.specs.Records.Record.{end}
 use Rattle.guard_messages.specs.declared.unfound.Unfound.{Unfound}
 use Rattle.guard_messages.specs.declared.unfound.Unfound.TheVariants.{Faulty, NoSuchFrame, BadRecord}
 use Rattle.guard_messages.specs.declared.linked.Passed.{Passed}
 use Rattle.guard_messages.specs.declared.linked.Passed.TheVariants.{Frame, Held, TooLong}
 use Rattle.guard_messages.specs.Finding.{StopsLink}
-use Rattle.guard_messages.specs.Linked.{EndsBefore, IsBadBefore, LeavesOpen, link_octets}
+use Rattle.guard_messages.specs.Linked.{EndsBefore, IsBadBefore}
 
 -- The octets are as many frames, and then this rest.
 pub record AreFrames (octets : List ℕ) (count : ℕ) (rest : List ℕ) : Type 0 where
@@ -35,7 +35,7 @@ IsPassed octets old new TooLong =
 -- the one that is looked for
 
 abbrev pub joins : ℕ → List ℕ → Record → List ℕ
-joins link held r = held ++ link_octets link (r ∷ [])
+joins link held r = held ++ of_link link r
 
 -- The frame is there.
 pub record Completes (link : ℕ) (r : Record) (held : List ℕ) (before : ℕ) (frame : List ℕ) : Type 0 where

@@ -12,5 +12,5 @@ returns-in-Some c =
     let p = policy_view c.args.policy.now in
     let g = grounds_view c.args.grounds.now in
     let decided = subst (λ (r : AbstractRoute). IfOk c.verdict_on.result (λ a. IsVerdict c.args.explain g p r c.in-Some.body.message_octets.now (answer_view a)))
-    c.route_in.ensures c.verdict_on.ensures in
+    c.route_of.ensures c.verdict_on.ensures in
     rw c.in-Some.is decided

@@ -3,7 +3,7 @@ use Rattle.std.proofs.Common.{◌≡◌, ◌∙◌, ◌+◌, ◌<◌, ◌^◌, �
 use Rattle.std.specs.Prelude.{Option, Some, Result, Ok, Err, IfOk, IfErr}
 use Rattle.std.specs.List.{concat, All}
 use Rattle.std.specs.Io.KnownBytes.{Appends, Consumes}
-use Rattle.std.proofs.lemmas.List.{append-nil, map-append, take-append-drop, drop-drop}
+use Rattle.std.proofs.lemmas.List.{append-nil, take-append-drop, drop-drop}
 use Rattle.std.proofs.lemmas.List.Elements.{All-append}
 use Rattle.std.proofs.lemmas.List.Folds.{concat-append}
 use Rattle.guard_frames.specs.Bodies.{AbstractBody, body_in}
@@ -17,21 +17,25 @@ use Rattle.guard_frames.proofs.Appending.{Appends_none, Appends_trans, Prefix_se
 use Rattle.guard_frames.proofs.Elements.{All_none, All_more}
 use Rattle.guard_frames.proofs.Holding.{empty_unfinished}
 use Rattle.guard_frames.proofs.Reading.{Consumes_none, Consumes_trans}
+use Rattle.guard_frames.specs.declared.running.RunFault.TheVariants as run
 use Rattle.guard_files.specs.Devices.{Input, Device, input_of, device}
-use Rattle.guard_files.specs.Records.{Record, record_octets, IsAllowed}
+use Rattle.guard_files.specs.Records.{Record, link_octets, record_octets, IsAllowed, LeavesOpen}
 use Rattle.guard_files.specs.Records.Record.{end}
 use Rattle.guard_files.specs.Writing.{TookAll, Writes, TellsNoMemory}
+use Rattle.guard_files.specs.declared.stop.Stop.{Stop}
+use Rattle.guard_files.specs.declared.stop.Stop.TheVariants as stop
+use Rattle.guard_files.proofs.RecordLaws.{one_more}
 use Rattle.guard_files.proofs.RecordReading.{joined_last, short_none}
 use Rattle.guard_authors.specs.declared.comparing.Origin.{Origin}
 use Rattle.guard_authors.specs.declared.comparing.Origin.TheVariants.{Stream, Link}
 use Rattle.guard_authors.specs.declared.comparing.Uncompared.{Uncompared}
-use Rattle.guard_authors.specs.declared.comparing.Uncompared.TheVariants as why
+use Rattle.guard_authors.specs.declared.comparing.Uncompared.TheVariants.{Run}
 use Rattle.guard_authors.specs.declared.differing.Tally.{Tally}
 use Rattle.guard_authors.specs.declared.summary.Sums.{Sums}
-use Rattle.guard_authors.specs.Comparing.{ComparesFrames, Ends, Gives, GivesOfLink, IsBad, IsFailed, IsStopped, LeavesOpen, Progress, Reaches, of_link}
+use Rattle.guard_authors.specs.Comparing.{ComparesFrames, Ends, Gives, GivesOfLink, IsBad, IsFailed, IsStopped, Progress, Reaches}
 use Rattle.guard_authors.specs.Differing.{AbstractComparison, AbstractTexts, AreLines, AreVerdictTexts, IsLine, after, compared_line, compared_status, no_frames, total_line, written}
 use Rattle.guard_authors.specs.inside.Counting.{AreCounted, BeginsCounting, CountsFrame, summed, total_text}
-use Rattle.guard_authors.specs.inside.Pieces.{AddsPiece, AreCompared, EndsBehind, HasPassed, HasTaken, StopsReading, StopsTaking}
+use Rattle.guard_authors.specs.inside.Pieces.{AddsPiece, AreCompared, EndsBehind, HasPassed, HasTaken, StopsReading, StopsTaking, of_stop}
 use Rattle.guard_authors.proofs.RowsCounted.{frames_begun, frames_counted, frames_none, frames_one, frames_then}
 use Rattle.guard_authors.proofs.SummaryLines.{is_summary}
 
@@ -131,7 +135,7 @@ pub record CameOfLink (link : ℕ) (a b : Option (List ℕ)) (octets : List ℕ)
   pub allowed : All IsAllowed records
   pub open_still : All (LeavesOpen link) records
   pub given : Consumes a b (concat (map record_octets records))
-  pub are : octets ≡ concat (map (of_link link) records)
+  pub are : octets ≡ link_octets link records
 
 -- these octets so far
 abbrev pub CameSoFar : Origin → Option (List ℕ) → Option (List ℕ) → List ℕ → Type 0
@@ -148,13 +152,6 @@ came_none (Link link) a = record {
   are = refl;
 }
 
-of_more : (link : ℕ) (records : List Record) (r : Record)
-    → concat (map (of_link link) (records ++ r ∷ [])) ≡ concat (map (of_link link) records) ++ of_link link r
-of_more link records r =
-    ap concat (map-append (of_link link) records (r ∷ []))
-    ∙ concat-append (map (of_link link) records) (of_link link r ∷ [])
-    ∙ ap (λ s. concat (map (of_link link) records) ++ s) (append-nil (of_link link r))
-
 came_more : (origin : Origin) (a b c : Option (List ℕ)) (octets piece : List ℕ) → CameSoFar origin a b octets
     → AddsPiece origin b c piece → CameSoFar origin a c (octets ++ piece)
 came_more Stream a b c octets piece h p = Consumes_trans a b c octets piece h p
@@ -164,7 +161,7 @@ came_more (Link link) a b c octets piece h (r, ok, stays, read, is) = record {
   open_still = All_more (LeavesOpen link) h.records r h.open_still stays;
   given = subst (λ (s : List ℕ). Consumes a c s) (sym (joined_last h.records r))
       (Consumes_trans a b c (concat (map record_octets h.records)) (record_octets r) h.given read);
-  are = ap (λ s. s ++ piece) h.are ∙ ap (λ s. concat (map (of_link link) h.records) ++ s) is ∙ sym (of_more link h.records r);
+  are = ap (λ s. s ++ piece) h.are ∙ ap (λ s. link_octets link h.records ++ s) is ∙ sym (one_more link h.records r);
 }
 
 -- with this rest, of a stream none
@@ -200,37 +197,31 @@ ends (Link link) a b c y z failed octets h (inr (read, at_end)) =
     ([], gives (Link link) a b c y z failed octets h read, inr (refl, at_end))
 
 -- why no more can be read
-abbrev IsWhy : Uncompared → Origin → Input → List ℕ → Type 0
-IsWhy why.Lost origin input rest = IsFailed origin input rest
-IsWhy why.BadRecord origin input rest = IsBad origin input rest
+abbrev IsWhy : Stop → Origin → Input → List ℕ → Type 0
+IsWhy stop.ReadFailed origin input rest = IsFailed origin input rest
+IsWhy stop.BadRecord origin input rest = IsBad origin input rest
 IsWhy _ origin input rest = ⊥
 
-reading_stops : (u : Uncompared) (origin : Origin) (a b c : Option (List ℕ)) (y z reads : ℕ) (failed : Bool) (octets : List ℕ)
-    → CameSoFar origin a b octets → StopsReading u origin b c failed reads → (reads ≡ 0 → WentUpBy y (2 ^ 40) z)
-    → (rest : List ℕ) × Gives origin (input_of a c y z failed) octets rest × IsWhy u origin (input_of a c y z failed) rest
-reading_stops why.Lost Stream a b c y z reads failed octets h (read, because) asked =
+reading_stops : (s : Stop) (origin : Origin) (a b c : Option (List ℕ)) (y z reads : ℕ) (failed : Bool) (octets : List ℕ)
+    → CameSoFar origin a b octets → StopsReading origin s b c failed reads → (reads ≡ 0 → WentUpBy y (2 ^ 40) z)
+    → (rest : List ℕ) × Gives origin (input_of a c y z failed) octets rest × IsWhy s origin (input_of a c y z failed) rest
+reading_stops stop.ReadFailed Stream a b c y z reads failed octets h (read, because) asked =
     ([], gives Stream a b c y z failed octets h read, elim because [ inl x ↦ inl x | inr x ↦ inr (asked x) ])
-reading_stops why.Lost (Link link) a b c y z reads failed octets h (rest, read, (none, because)) asked = (
+reading_stops stop.ReadFailed (Link link) a b c y z reads failed octets h (rest, read, (none, because)) asked = (
   rest,
   gives_rest link a b c y z failed octets rest h read,
   (none, elim because [ inl x ↦ inl x | inr x ↦ inr (asked x) ]),
 )
-reading_stops why.BadRecord Stream a b c y z reads failed octets h stops asked = absurd stops
-reading_stops why.BadRecord (Link link) a b c y z reads failed octets h (rest, read, bad) asked =
+reading_stops stop.BadRecord (Link link) a b c y z reads failed octets h (rest, read, bad) asked =
     (rest, gives_rest link a b c y z failed octets rest h read, bad)
-reading_stops why.Torn origin a b c y z reads failed octets h stops asked = absurd stops
-reading_stops why.TooLong origin a b c y z reads failed octets h stops asked = absurd stops
-reading_stops why.WriteFailed origin a b c y z reads failed octets h stops asked = absurd stops
-reading_stops why.NoMemory origin a b c y z reads failed octets h stops asked = absurd stops
+reading_stops _ Stream a b c y z reads failed octets h stops asked = absurd stops
+reading_stops _ (Link link) a b c y z reads failed octets h stops asked = absurd stops.2
 
-is_stopped : (u : Uncompared) (origin : Origin) (input : Input) (g : Progress) (out : Device) → IsWhy u origin input g.rest
-    → IsUnfinished g.left → TookAll g.lines out → IsStopped u origin input g out
-is_stopped why.Lost origin input g out h unfinished took = (h, unfinished, took)
-is_stopped why.BadRecord origin input g out h unfinished took = (h, unfinished, took)
-is_stopped why.Torn origin input g out h unfinished took = absurd h
-is_stopped why.TooLong origin input g out h unfinished took = absurd h
-is_stopped why.WriteFailed origin input g out h unfinished took = absurd h
-is_stopped why.NoMemory origin input g out h unfinished took = absurd h
+is_stopped : (s : Stop) (origin : Origin) (input : Input) (g : Progress) (out : Device) → IsWhy s origin input g.rest
+    → IsUnfinished g.left → TookAll g.lines out → IsStopped (of_stop s) origin input g out
+is_stopped stop.ReadFailed origin input g out h unfinished took = (h, unfinished, took)
+is_stopped stop.BadRecord origin input g out h unfinished took = (h, unfinished, took)
+is_stopped _ origin input g out h unfinished took = absurd h
 
 failed_at : (origin : Origin) (a b : Option (List ℕ)) (y z : ℕ) (failed : Bool) → WentUpBy y (2 ^ 40) z
     → IsFailed origin (input_of a b y z failed) []
@@ -321,15 +312,12 @@ module _ (c : AbstractComparison) (origin : Origin) (a b o o₁ : Option (List �
       → AddsPiece origin b b₁ piece → StopsTaking c (held ++ piece) t u (device o₁ o₂ f)
       → (g : Progress) × Reaches c origin (input_of a b₁ y z failed) g
       × IsStopped u origin (input_of a b₁ y z failed) g (device o o₂ f)
-  stopped_taking why.Torn b₁ o₂ y z failed f piece adds h = absurd h
-  stopped_taking why.TooLong b₁ o₂ y z failed f piece adds (left, lines, new, h, long, took) = (
+  stopped_taking (Run run.FrameTooLong) b₁ o₂ y z failed f piece adds (left, lines, new, h, long, took) = (
     record { lines = so_far.lines ++ lines; tally = new.tally; left = left; rest = [] },
     compared_more b₁ y z failed piece left lines new adds h,
     (refl, long, Appends_trans o o₁ o₂ so_far.lines lines so_far.sent took),
   )
-  stopped_taking why.BadRecord b₁ o₂ y z failed f piece adds h = absurd h
-  stopped_taking why.Lost b₁ o₂ y z failed f piece adds h = absurd h
-  stopped_taking why.WriteFailed b₁ o₂ y z failed f piece adds (left, lines, new, h, (part, inside, sent, broken)) = (
+  stopped_taking (Run run.WriteFailed) b₁ o₂ y z failed f piece adds (left, lines, new, h, (part, inside, sent, broken)) = (
     record { lines = so_far.lines ++ lines; tally = new.tally; left = left; rest = [] },
     compared_more b₁ y z failed piece left lines new adds h,
     (
@@ -342,11 +330,12 @@ module _ (c : AbstractComparison) (origin : Origin) (a b o o₁ : Option (List �
       ),
     ),
   )
-  stopped_taking why.NoMemory b₁ o₂ y z failed f piece adds (left, lines, new, h, took) = (
+  stopped_taking (Run run.OutOfMemory) b₁ o₂ y z failed f piece adds (left, lines, new, h, took) = (
     record { lines = so_far.lines ++ lines; tally = new.tally; left = left; rest = [] },
     compared_more b₁ y z failed piece left lines new adds h,
     Appends_trans o o₁ o₂ so_far.lines lines so_far.sent took,
   )
+  stopped_taking _ b₁ o₂ y z failed f piece adds h = absurd h
 
   -- no more come
   all_compared : (b₁ : Option (List ℕ)) (y z : ℕ) (failed f : Bool) → EndsBehind origin b b₁ → held ≡ []
@@ -358,7 +347,7 @@ module _ (c : AbstractComparison) (origin : Origin) (a b o o₁ : Option (List �
 
   torn_at_end : (b₁ : Option (List ℕ)) (y z : ℕ) (failed f : Bool) → EndsBehind origin b b₁ → 0 < length held
       → (g : Progress) × Reaches c origin (input_of a b₁ y z failed) g
-      × IsStopped why.Torn origin (input_of a b₁ y z failed) g (device o o₁ f)
+      × IsStopped (Run run.TornFrame) origin (input_of a b₁ y z failed) g (device o o₁ f)
   torn_at_end b₁ y z failed f behind some =
       let e = ends origin a b b₁ y z failed so_far.octets so_far.came behind in
       (progress e.0, reaches b₁ y z failed e.0 e.1, (e.2, some, so_far.unfinished, so_far.sent))
@@ -381,7 +370,7 @@ module _ (c : AbstractComparison) (origin : Origin) (a b o o₁ : Option (List �
   ended_whole b₁ y z failed f (Err u) slice same h behind = tt
 
   pub ended_torn : (b₁ : Option (List ℕ)) (y z : ℕ) (failed f : Bool) (r : Result Sums Uncompared) (slice : List ℕ) → slice ≡ held
-      → IfErr r (λ u. (u ≡ why.Torn) × (0 < length slice)) → EndsBehind origin b b₁
+      → IfErr r (λ u. (u ≡ Run run.TornFrame) × (0 < length slice)) → EndsBehind origin b b₁
       → IfErr r (λ u. (g : Progress) × Reaches c origin (input_of a b₁ y z failed) g
       × IsStopped u origin (input_of a b₁ y z failed) g (device o o₁ f))
   ended_torn b₁ y z failed f (Ok x) slice same h behind = tt
@@ -391,22 +380,22 @@ module _ (c : AbstractComparison) (origin : Origin) (a b o o₁ : Option (List �
       (torn_at_end b₁ y z failed f behind (subst (λ (s : List ℕ). 0 < length s) same some))
 
   -- no more can be read
-  pub stopped_reading : (u : Uncompared) (b₁ : Option (List ℕ)) (y z reads : ℕ) (failed f : Bool)
-      → StopsReading u origin b b₁ failed reads → (reads ≡ 0 → WentUpBy y (2 ^ 40) z)
+  pub stopped_reading : (s : Stop) (b₁ : Option (List ℕ)) (y z reads : ℕ) (failed f : Bool)
+      → StopsReading origin s b b₁ failed reads → (reads ≡ 0 → WentUpBy y (2 ^ 40) z)
       → (g : Progress) × Reaches c origin (input_of a b₁ y z failed) g
-      × IsStopped u origin (input_of a b₁ y z failed) g (device o o₁ f)
-  stopped_reading u b₁ y z reads failed f stops asked =
-      let e = reading_stops u origin a b b₁ y z reads failed so_far.octets so_far.came stops asked in (
+      × IsStopped (of_stop s) origin (input_of a b₁ y z failed) g (device o o₁ f)
+  stopped_reading s b₁ y z reads failed f stops asked =
+      let e = reading_stops s origin a b b₁ y z reads failed so_far.octets so_far.came stops asked in (
         progress e.0,
         reaches b₁ y z failed e.0 e.1,
-        is_stopped u origin (input_of a b₁ y z failed) (progress e.0) (device o o₁ f) e.2
+        is_stopped s origin (input_of a b₁ y z failed) (progress e.0) (device o o₁ f) e.2
             so_far.unfinished so_far.sent,
       )
 
   -- it was asked too often
   pub lost_at_last : (y z : ℕ) (failed f : Bool) → WentUpBy y (2 ^ 40) z
       → (g : Progress) × Reaches c origin (input_of a b y z failed) g
-      × IsStopped why.Lost origin (input_of a b y z failed) g (device o o₁ f)
+      × IsStopped (Run run.ReadFailed) origin (input_of a b y z failed) g (device o o₁ f)
   lost_at_last y z failed f asked = (
     progress [],
     reaches b y z failed [] (gives origin a b b y z failed so_far.octets so_far.came (Consumes_none b)),
@@ -447,12 +436,12 @@ total_written c origin input t o o₁ o₂ f₁ f err status (g, r, e, none, sam
       ),
     )
 total_written c origin input t o o₁ o₂ f₁ f err status (g, r, e, none, same, counted, took) (inr (kept, told)) =
-    inr (why.NoMemory, g, r, subst (λ (x : Option (List ℕ)). Appends o x g.lines) (sym kept) took, told)
+    inr (Run run.OutOfMemory, g, r, subst (λ (x : Option (List ℕ)). Appends o x g.lines) (sym kept) took, told)
 
 -- there is no memory to begin with
 pub nothing_begun : (c : AbstractComparison) (origin : Origin) (a o : Option (List ℕ)) (y : ℕ) (failed f : Bool)
     → (g : Progress) × Reaches c origin (input_of a a y y failed) g
-    × IsStopped why.NoMemory origin (input_of a a y y failed) g (device o o f)
+    × IsStopped (Run run.OutOfMemory) origin (input_of a a y y failed) g (device o o f)
 nothing_begun c origin a o y failed f = (
   record { lines = []; tally = no_frames; left = []; rest = [] },
   record {
@@ -469,4 +458,4 @@ nothing_begun c origin a o y failed f = (
 pub none_begun : (c : AbstractComparison) (origin : Origin) (a o : Option (List ℕ)) (y : ℕ) (failed f : Bool) (err : Device) (status : ℕ)
     → TellsNoMemory err status → ComparesFrames c origin (input_of a a y y failed) (device o o f) err status
 none_begun c origin a o y failed f err status told =
-    let h = nothing_begun c origin a o y failed f in inr (why.NoMemory, h.0, h.1, h.2, told)
+    let h = nothing_begun c origin a o y failed f in inr (Run run.OutOfMemory, h.0, h.1, h.2, told)

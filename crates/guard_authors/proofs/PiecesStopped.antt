@@ -7,8 +7,9 @@ use Rattle.guard_frames.specs.Frames.{IsTooLong}
 use Rattle.guard_frames.specs.Prefix.{IsProperPrefix}
 use Rattle.guard_frames.specs.declared.cut.Rest.{Rest}
 use Rattle.guard_frames.specs.declared.cut.Rest.TheVariants as rests
+use Rattle.guard_frames.specs.declared.running.RunFault.TheVariants as run
 use Rattle.guard_files.specs.Devices.{device}
-use Rattle.guard_authors.specs.declared.comparing.Uncompared.TheVariants as why
+use Rattle.guard_authors.specs.declared.comparing.Uncompared.TheVariants.{Run}
 use Rattle.guard_authors.specs.declared.summary.Sums.{Sums}
 use Rattle.guard_authors.specs.Differing.{AbstractComparison, AreLines}
 use Rattle.guard_authors.specs.inside.Pieces.{AreCompared, HasPassed, StopsTaking}
@@ -30,20 +31,20 @@ passed_whole c octets slice whole old before at new behind same is none h =
 pub stopped_writing : (c : AbstractComparison) (whole left behind said : List ℕ) (old new : Sums) (o o₁ : Option (List ℕ)) (f : Bool)
     → AreCompared c whole old left behind new → said ≡ behind
     → ((part : List ℕ) × IsProperPrefix part said × Appends o o₁ part) → f ≡ true
-    → StopsTaking c whole old why.WriteFailed (device o o₁ f)
+    → StopsTaking c whole old (Run run.WriteFailed) (device o o₁ f)
 stopped_writing c whole left behind said old new o o₁ f h same (part, inside, sent) broken =
     (left, behind, new, h, (part, subst (λ (s : List ℕ). IsProperPrefix part s) same inside, sent, broken))
 
 pub stopped_behind : (c : AbstractComparison) (whole left behind said : List ℕ) (old new : Sums) (o o₁ : Option (List ℕ)) (f : Bool)
     → AreCompared c whole old left behind new → said ≡ behind → Appends o o₁ said
-    → StopsTaking c whole old why.NoMemory (device o o₁ f)
+    → StopsTaking c whole old (Run run.OutOfMemory) (device o o₁ f)
 stopped_behind c whole left behind said old new o o₁ f h same sent =
     (left, behind, new, h, subst (λ (s : List ℕ). Appends o o₁ s) same sent)
 
 pub stopped_long : (c : AbstractComparison) (octets slice whole behind said : List ℕ) (old new : Sums) (at : ℕ) (rest : Rest)
     (o o₁ : Option (List ℕ)) (f : Bool) → AreCompared c whole old (drop at whole) behind new → slice ≡ octets → octets ≡ whole
     → IsRest (drop at slice) rest → rest ≡ rests.TooLong → said ≡ behind → Appends o o₁ said
-    → StopsTaking c whole old why.TooLong (device o o₁ f)
+    → StopsTaking c whole old (Run run.FrameTooLong) (device o o₁ f)
 stopped_long c octets slice whole behind said old new at rest o o₁ f h same is left long said_so sent = (
   drop at whole,
   behind,

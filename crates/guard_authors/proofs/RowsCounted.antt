@@ -1,119 +1,88 @@
 -- The rows of frames, counted one after another.
 use Rattle.std.proofs.Common.{◌≡◌, ◌∙◌, ◌+◌, ◌<◌, ◌≤◌, ℕ, Bool, true, false, cond, List, [], ◌∷◌, ◌++◌, ap, refl, sym, subst, length, drop, set, get_or, replicate, arith, append_assoc}
-use Rattle.std.specs.Prelude.{nat_eq, Some, Result, Ok, Err, OnOk}
+use Rattle.std.specs.Prelude.{nat_eq, Option, None, Some, Result, Ok, Err, OnOk}
 use Rattle.std.proofs.lemmas.Grind.{get_or_default_zero}
 use Rattle.std.specs.List.{count_by}
-use Rattle.std.proofs.lemmas.Bool.{eqb-true, eqb-false}
+use Rattle.std.proofs.lemmas.Bool.{eqb-true, eqb-false, ne_eqb}
 use Rattle.std.proofs.lemmas.List.{append-nil, get_or-set_same, get_or-set_other, get_or-replicate, length-set, length-replicate}
 use Rattle.std.proofs.lemmas.List.Sums.{sum_by_push}
-use Rattle.guard_policy.specs.Decisions.{IsReason}
-use Rattle.guard_policy.specs.Policies.{AbstractPolicy, AbstractRoute}
-use Rattle.guard_policy.specs.Verdicts.{AbstractVerdict}
-use Rattle.guard_frames.specs.Bodies.{AbstractBody, body_in}
-use Rattle.guard_frames.specs.OfPolicy.{route_of}
+use Rattle.guard_policy.specs.Policies.{AbstractPolicy}
+use Rattle.guard_frames.specs.Bodies.{body_in}
 use Rattle.guard_frames.specs.Totals.{later}
 use Rattle.guard_authors.specs.declared.summary.Counts.{Counts}
 use Rattle.guard_authors.specs.declared.summary.Row.{Row}
-use Rattle.guard_authors.specs.declared.summary.Row.TheVariants.{Rule, Reason}
 use Rattle.guard_authors.specs.declared.summary.Sums.{Sums}
-use Rattle.guard_authors.specs.declared.summary.Unruled.{Unruled}
 use Rattle.guard_authors.specs.Differing.{AbstractComparison, written}
-use Rattle.guard_authors.specs.Summary.{AreRows, IsRow, IsRowOf, how_often, place_of, reasons_in, rules_in}
+use Rattle.guard_authors.specs.Summary.{AreRows, how_often, is_at}
 use Rattle.guard_authors.specs.inside.Counting.{AreCounted, AreCounts, BeginsCounting, CountsBodies, CountsBody, CountsFrame, CountsFrames, IsCount, IsCounted, count_at}
 
--- ---- a number more
+-- ---- a row more
 
-often_more : (numbers : List ℕ) (n i : ℕ) → how_often (numbers ++ n ∷ []) i ≡ later (how_often numbers i) (cond (nat_eq n i) 1 0)
-often_more numbers n i =
-    let more = sum_by_push (λ x. cond (nat_eq x i) 1 0) numbers n in
-    let of_one : later 0 (count_by (λ x. nat_eq x i) (numbers ++ n ∷ [])) ≡ later 0 (count_by (λ x. nat_eq x i) numbers + cond (nat_eq n i) 1 0) =
+often_more : (number : Row → Option ℕ) (rows : List Row) (row : Row) (i : ℕ)
+    → how_often number (rows ++ row ∷ []) i ≡ later (how_often number rows i) (cond (is_at i (number row)) 1 0)
+often_more number rows row i =
+    let more = sum_by_push (λ x. cond (is_at i (number x)) 1 0) rows row in
+    let of_one : later 0 (count_by (λ x. is_at i (number x)) (rows ++ row ∷ []))
+    ≡ later 0 (count_by (λ x. is_at i (number x)) rows + cond (is_at i (number row)) 1 0) =
     ap (later 0) more in
     of_one ∙ omega arith
 
-often_same : (numbers : List ℕ) (n i : ℕ) → nat_eq n i ≡ true → how_often (numbers ++ n ∷ []) i ≡ later (how_often numbers i) 1
-often_same numbers n i same = often_more numbers n i ∙ ap (λ b. later (how_often numbers i) (cond b 1 0)) same
+often_same : (number : Row → Option ℕ) (rows : List Row) (row : Row) (i : ℕ) → is_at i (number row) ≡ true
+    → how_often number (rows ++ row ∷ []) i ≡ later (how_often number rows i) 1
+often_same number rows row i same =
+    often_more number rows row i ∙ ap (λ b. later (how_often number rows i) (cond b 1 0)) same
 
-often_other : (numbers : List ℕ) (n i : ℕ) → nat_eq n i ≡ false → how_often (numbers ++ n ∷ []) i ≡ how_often numbers i
-often_other numbers n i other =
-    let none : later (how_often numbers i) 0 ≡ how_often numbers i = omega arith in
-    often_more numbers n i ∙ ap (λ b. later (how_often numbers i) (cond b 1 0)) other ∙ none
+often_other : (number : Row → Option ℕ) (rows : List Row) (row : Row) (i : ℕ) → is_at i (number row) ≡ false
+    → how_often number (rows ++ row ∷ []) i ≡ how_often number rows i
+often_other number rows row i other =
+    let none : later (how_often number rows i) 0 ≡ how_often number rows i = omega arith in
+    often_more number rows row i ∙ ap (λ b. later (how_often number rows i) (cond b 1 0)) other ∙ none
 
 -- ---- a count
 
-pub none_counted : (many : ℕ) (counts : List ℕ) → counts ≡ replicate many 0 → IsCount many [] counts
-none_counted many counts same = (
+pub none_counted : (number : Row → Option ℕ) (many : ℕ) (counts : List ℕ) → counts ≡ replicate many 0 → IsCount number many [] counts
+none_counted number many counts same = (
   ap length same ∙ length-replicate many 0,
   λ i lt. ap (λ xs. count_at xs i) same ∙ get_or-replicate many i 0 0 lt,
 )
 
-one_at : (many : ℕ) (numbers counts : List ℕ) (n : ℕ) → IsCount many numbers counts → n < length counts → (i : ℕ) → i < many
-    → (b : Bool) → nat_eq n i ≡ b → count_at (set counts n (later (count_at counts n) 1)) i ≡ how_often (numbers ++ n ∷ []) i
-one_at many numbers counts n h inside i lt true e =
+one_at : (number : Row → Option ℕ) (many : ℕ) (rows : List Row) (row : Row) (counts : List ℕ) (n : ℕ) → Some n ≡ number row
+    → IsCount number many rows counts → n < length counts → (i : ℕ) → i < many → (b : Bool) → nat_eq n i ≡ b
+    → count_at (set counts n (later (count_at counts n) 1)) i ≡ how_often number (rows ++ row ∷ []) i
+one_at number many rows row counts n of h inside i lt true e =
     let same : n ≡ i = eqb-true n i e in
     subst (λ (j : ℕ). count_at (set counts n (later (count_at counts n) 1)) j ≡ later (count_at counts j) 1) same
     (get_or-set_same counts n (later (count_at counts n) 1) 0 inside)
-    ∙ ap (λ k. later k 1) (h.1 i lt) ∙ sym (often_same numbers n i e)
-one_at many numbers counts n h inside i lt false e =
+    ∙ ap (λ k. later k 1) (h.1 i lt) ∙ sym (often_same number rows row i (sym (ap (is_at i) of) ∙ e))
+one_at number many rows row counts n of h inside i lt false e =
     get_or-set_other counts n i (later (count_at counts n) 1) 0 (λ is. eqb-false n i e (sym is))
-    ∙ h.1 i lt ∙ sym (often_other numbers n i e)
+    ∙ h.1 i lt ∙ sym (often_other number rows row i (sym (ap (is_at i) of) ∙ e))
 
-pub one_counted : (many : ℕ) (numbers counts : List ℕ) (n : ℕ) → n < length counts → IsCount many numbers counts
-    → IsCount many (numbers ++ n ∷ []) (set counts n (later (count_at counts n) 1))
-one_counted many numbers counts n inside h = (
-  length-set counts n (later (count_at counts n) 1) ∙ h.0,
-  λ i lt. one_at many numbers counts n h inside i lt (nat_eq n i) refl,
-)
-
--- as the code has it: a number is read, and one more is written
+-- a number is read, and one more is written
 pub counted_at : (counts : List ℕ) (n was is : ℕ) → n < length counts → was ≡ get_or counts n was → is ≡ later was 1
-    → (many : ℕ) (numbers : List ℕ) → IsCount many numbers counts → IsCount many (numbers ++ n ∷ []) (set counts n is)
-counted_at counts n was is inside read more many numbers h =
+    → (number : Row → Option ℕ) (many : ℕ) (rows : List Row) (row : Row) → Some n ≡ number row
+    → IsCount number many rows counts → IsCount number many (rows ++ row ∷ []) (set counts n is)
+counted_at counts n was is inside read more number many rows row of h =
     let same : is ≡ later (count_at counts n) 1 =
     more ∙ ap (λ (k : ℕ). later k 1) (read ∙ get_or_default_zero counts n was inside) in
-    subst (λ (k : ℕ). IsCount many (numbers ++ n ∷ []) (set counts n k)) (sym same) (one_counted many numbers counts n inside h)
+    subst (λ (k : ℕ). IsCount number many (rows ++ row ∷ []) (set counts n k)) (sym same) (
+      length-set counts n (later (count_at counts n) 1) ∙ h.0,
+      λ i lt. one_at number many rows row counts n of h inside i lt (nat_eq n i) refl,
+    )
 
--- one that has no count
-pub other_counted : (many : ℕ) (numbers counts : List ℕ) (n : ℕ) → length counts ≤ n → IsCount many numbers counts
-    → IsCount many (numbers ++ n ∷ []) counts
-other_counted many numbers counts n past h = (
+-- a row that has no number, or none of these counts
+pub not_counted : (number : Row → Option ℕ) (many : ℕ) (rows : List Row) (row : Row) (counts : List ℕ) → number row ≡ None
+    → IsCount number many rows counts → IsCount number many (rows ++ row ∷ []) counts
+not_counted number many rows row counts none h =
+    (h.0, λ i lt. h.1 i lt ∙ sym (often_other number rows row i (ap (is_at i) none)))
+
+pub past_counted : (number : Row → Option ℕ) (many : ℕ) (rows : List Row) (row : Row) (counts : List ℕ) (n : ℕ) → Some n ≡ number row
+    → length counts ≤ n → IsCount number many rows counts → IsCount number many (rows ++ row ∷ []) counts
+past_counted number many rows row counts n of past h = (
   h.0,
-  λ i lt. h.1 i lt ∙ sym (elim (nat_eq n i) as (λ b. nat_eq n i ≡ b → how_often (numbers ++ n ∷ []) i ≡ how_often numbers i) [
-    | true ↦ λ e. let same : n ≡ i = eqb-true n i e in let size = h.0 in absurd (omega (arith, past, lt, same, size))
-    | false ↦ λ e. often_other numbers n i e
-  ] refl),
-)
-
--- ---- a row more
-
-rules_then : (a b : List Row) → rules_in (a ++ b) ≡ rules_in a ++ rules_in b
-rules_then [] b = refl
-rules_then (Rule i ∷ a) b = ap (λ ns. i ∷ ns) (rules_then a b)
-rules_then (Reason k ∷ a) b = rules_then a b
-
-reasons_then : (a b : List Row) → reasons_in (a ++ b) ≡ reasons_in a ++ reasons_in b
-reasons_then [] b = refl
-reasons_then (Rule i ∷ a) b = reasons_then a b
-reasons_then (Reason k ∷ a) b = ap (λ ns. place_of k ∷ ns) (reasons_then a b)
-
-abbrev pub CountsNumber : ℕ → List ℕ → List ℕ → Type 0
-CountsNumber n before after =
-    (many : ℕ) (numbers : List ℕ) → IsCount many numbers before → IsCount many (numbers ++ n ∷ []) after
-
-pub counts_rule : (n : ℕ) (rules rules₁ reasons : List ℕ) → CountsNumber n rules rules₁ → (many : ℕ) (rows : List Row)
-    → IsCount many (rules_in rows) rules × IsCount 6 (reasons_in rows) reasons
-    → IsCount many (rules_in (rows ++ Rule n ∷ [])) rules₁ × IsCount 6 (reasons_in (rows ++ Rule n ∷ [])) reasons
-counts_rule n rules rules₁ reasons counts many rows h = (
-  subst (λ (ns : List ℕ). IsCount many ns rules₁) (sym (rules_then rows (Rule n ∷ []))) (counts many (rules_in rows) h.0),
-  subst (λ (ns : List ℕ). IsCount 6 ns reasons) (sym (reasons_then rows (Rule n ∷ []) ∙ append-nil (reasons_in rows))) h.1,
-)
-
-pub counts_reason : (k : Unruled) (n : ℕ) (rules reasons reasons₁ : List ℕ) → n ≡ place_of k → CountsNumber n reasons reasons₁ → (many : ℕ) (rows : List Row)
-    → IsCount many (rules_in rows) rules × IsCount 6 (reasons_in rows) reasons
-    → IsCount many (rules_in (rows ++ Reason k ∷ [])) rules × IsCount 6 (reasons_in (rows ++ Reason k ∷ [])) reasons₁
-counts_reason k n rules reasons reasons₁ is counts many rows h = (
-  subst (λ (ns : List ℕ). IsCount many ns rules) (sym (rules_then rows (Reason k ∷ []) ∙ append-nil (rules_in rows))) h.0,
-  subst (λ (ns : List ℕ). IsCount 6 ns reasons₁) (ap (λ (i : ℕ). reasons_in rows ++ i ∷ []) is ∙ sym (reasons_then rows (Reason k ∷ [])))
-      (counts 6 (reasons_in rows) h.1),
+  λ i lt. let size = h.0 in
+      let other : nat_eq n i ≡ false = ne_eqb n i (λ same. omega (arith, past, lt, same, size)) in
+      h.1 i lt ∙ sym (often_other number rows row i (sym (ap (is_at i) of) ∙ other)),
 )
 
 -- ---- the frames
@@ -187,13 +156,3 @@ none_written false lines line is = absurd cc
 pub one_written : (asked : Bool) (before after line : List ℕ) → asked ≡ false → after ≡ before ++ line → after ≡ before ++ written asked line
 one_written true before after line is added = absurd cc
 one_written false before after line is added = added
-
--- ---- the row of a frame
-
-pub row_is : (p : AbstractPolicy) (b : AbstractBody) (route : AbstractRoute) (w : AbstractVerdict) (row : Row) → route ≡ route_of b
-    → IsReason p route b.message_octets w → IsRow p route b.message_octets w row → IsRowOf p (Some b) row
-row_is p b route w row same reason is = (
-  w,
-  subst (λ (r : AbstractRoute). IsReason p r b.message_octets w) same reason,
-  subst (λ (r : AbstractRoute). IsRow p r b.message_octets w row) same is,
-)

@@ -6,11 +6,9 @@ use Rattle.guard_files.specs.RuleText.{said_text}
 use Rattle.guard_authors.specs.declared.summary.Counts.{Counts}
 use Rattle.guard_authors.specs.declared.summary.Row.{Row}
 use Rattle.guard_authors.specs.declared.summary.Sums.{Sums}
-use Rattle.guard_authors.specs.declared.summary.Unruled.{Unruled}
-use Rattle.guard_authors.specs.declared.summary.Unruled.TheVariants.{BadHeader, UnknownMessage, Undecodable, OutsideType, NotAllowed, NoRule}
 use Rattle.guard_authors.specs.Differing.{AbstractComparison}
-use Rattle.guard_authors.specs.Summary.{IsSummary, both_lines, counted_lines, how_often, place_of, policy_lines, reason_line, reason_lines, reasons_in, rule_lines, rules_in}
-use Rattle.guard_authors.specs.inside.Counting.{AreCounted, AreCounts, count_at, count_of, lines_of_counts, summed}
+use Rattle.guard_authors.specs.Summary.{IsSummary, both_lines, counted_lines, how_often, place_of, policy_lines, reason_line, reason_lines, rule_lines, rule_of}
+use Rattle.guard_authors.specs.inside.Counting.{AreCounted, AreCounts, count_at, lines_of_counts, summed}
 
 -- ---- one rule after another
 
@@ -48,14 +46,14 @@ one_rule_line often rules i r text all at so_far =
 
 -- the lines of a policy, as the code has them
 pub policy_added : (p : AbstractPolicy) (t x y rules rules₁ reasons reasons₁ : List ℕ) → rules ≡ rules₁ → reasons ≡ reasons₁
-    → x ≡ t ++ rule_lines (count_at rules) 0 p.rules → y ≡ x ++ reason_lines (count_of reasons)
-    → y ≡ t ++ policy_lines p (count_at rules₁) (count_of reasons₁)
+    → x ≡ t ++ rule_lines (count_at rules) 0 p.rules → y ≡ x ++ reason_lines (count_at reasons)
+    → y ≡ t ++ policy_lines p (count_at rules₁) (count_at reasons₁)
 policy_added p t x y rules rules₁ reasons reasons₁ er es ex ey =
     ey
-    ∙ ap (λ (s : List ℕ). s ++ reason_lines (count_of reasons)) ex
-    ∙ append_assoc t (rule_lines (count_at rules) 0 p.rules) (reason_lines (count_of reasons))
-    ∙ ap (λ (s : List ℕ). t ++ policy_lines p (count_at s) (count_of reasons)) er
-    ∙ ap (λ (s : List ℕ). t ++ policy_lines p (count_at rules₁) (count_of s)) es
+    ∙ ap (λ (s : List ℕ). s ++ reason_lines (count_at reasons)) ex
+    ∙ append_assoc t (rule_lines (count_at rules) 0 p.rules) (reason_lines (count_at reasons))
+    ∙ ap (λ (s : List ℕ). t ++ policy_lines p (count_at s) (count_at reasons)) er
+    ∙ ap (λ (s : List ℕ). t ++ policy_lines p (count_at rules₁) (count_at s)) es
 
 rules_alike : (f g : ℕ → ℕ) (i : ℕ) (rules : List AbstractRule) → ((k : ℕ) → k < i + length rules → f k ≡ g k)
     → rule_lines f i rules ≡ rule_lines g i rules
@@ -86,8 +84,8 @@ six : (t x₁ x₂ x₃ x₄ x₅ x₆ a b c d e f : List ℕ) → x₁ ≡ t ++
 six t x₁ x₂ x₃ x₄ x₅ x₆ a b c d e f e₁ e₂ e₃ e₄ e₅ e₆ = rw (e₆, e₅, e₄, e₃, e₂, e₁) (simp append_assoc)
 
 -- the lines of the reasons, one behind the other
-pub six_reasons : (often : Unruled → ℕ) (t x₁ x₂ x₃ x₄ x₅ x₆ : List ℕ) (a b c d e f : ℕ) → a ≡ often BadHeader → b ≡ often UnknownMessage
-    → c ≡ often Undecodable → d ≡ often OutsideType → e ≡ often NotAllowed → f ≡ often NoRule → x₁ ≡ t ++ reason_line (codes "bad-header") a
+pub six_reasons : (often : ℕ → ℕ) (t x₁ x₂ x₃ x₄ x₅ x₆ : List ℕ) (a b c d e f : ℕ) → a ≡ often 0 → b ≡ often 1
+    → c ≡ often 2 → d ≡ often 3 → e ≡ often 4 → f ≡ often 5 → x₁ ≡ t ++ reason_line (codes "bad-header") a
     → x₂ ≡ x₁ ++ reason_line (codes "unknown-message") b → x₃ ≡ x₂ ++ reason_line (codes "undecodable") c
     → x₄ ≡ x₃ ++ reason_line (codes "outside-type") d → x₅ ≡ x₄ ++ reason_line (codes "not-allowed") e
     → x₆ ≡ x₅ ++ reason_line (codes "no-rule") f → x₆ ≡ t ++ reason_lines often
@@ -98,25 +96,17 @@ six_reasons often t x₁ x₂ x₃ x₄ x₅ x₆ a b c d e f ea eb ec ed ee ef 
     ∙ ap (λ (s : List ℕ). t ++ s)
     (reasons_same a b c d e f _ _ _ _ _ _ ea eb ec ed ee ef)
 
-reasons_alike : (f g : Unruled → ℕ) → ((k : Unruled) → f k ≡ g k) → reason_lines f ≡ reason_lines g
-reasons_alike f g same = reasons_same _ _ _ _ _ _ _ _ _ _ _ _ (same BadHeader) (same UnknownMessage) (same Undecodable)
-    (same OutsideType) (same NotAllowed) (same NoRule)
-
-below_six : (k : Unruled) → place_of k < 6
-below_six BadHeader = omega arith
-below_six UnknownMessage = omega arith
-below_six Undecodable = omega arith
-below_six OutsideType = omega arith
-below_six NotAllowed = omega arith
-below_six NoRule = omega arith
+reasons_alike : (f g : ℕ → ℕ) → ((k : ℕ) → k < 6 → f k ≡ g k) → reason_lines f ≡ reason_lines g
+reasons_alike f g same = reasons_same _ _ _ _ _ _ _ _ _ _ _ _ (same 0 (omega arith)) (same 1 (omega arith))
+    (same 2 (omega arith)) (same 3 (omega arith)) (same 4 (omega arith)) (same 5 (omega arith))
 
 counts_alike : (p : AbstractPolicy) (rows : List Row) (counts : Counts) → AreCounts (length p.rules) rows counts
     → lines_of_counts p counts ≡ counted_lines p rows
 counts_alike p rows counts h =
-    ap (λ (s : List ℕ). s ++ reason_lines (count_of counts.reasons.items))
-    (rules_alike (count_at counts.rules.items) (how_often (rules_in rows)) 0 p.rules (λ k lt. h.0.1 k (omega (arith, lt))))
-    ∙ ap (λ (s : List ℕ). rule_lines (how_often (rules_in rows)) 0 p.rules ++ s)
-    (reasons_alike (count_of counts.reasons.items) (λ k. how_often (reasons_in rows) (place_of k)) (λ k. h.1.1 (place_of k) (below_six k)))
+    ap (λ (s : List ℕ). s ++ reason_lines (count_at counts.reasons.items))
+    (rules_alike (count_at counts.rules.items) (how_often rule_of rows) 0 p.rules (λ k lt. h.0.1 k (omega (arith, lt))))
+    ∙ ap (λ (s : List ℕ). rule_lines (how_often rule_of rows) 0 p.rules ++ s)
+    (reasons_alike (count_at counts.reasons.items) (how_often place_of rows) h.1.1)
 
 summed_as : (asked : Bool) (c : AbstractComparison) (frames : List (List ℕ)) (s : Sums) → c.summary ≡ asked → AreCounted c frames s
     → IsSummary asked c frames (summed asked c s)

@@ -1,43 +1,32 @@
 -- What comes of `compare`: the frames that come in under two policies. With Differing.antt and
 -- Summary.antt this is the page to read of it.
-use Rattle.std.specs.Prelude.{◌≡◌, ◌<◌, ◌≤◌, ◌^◌, ◌⊎◌, ℕ, Bool, true, nat_eq, List, [], ◌++◌, codes, length, map, Option, Some, None, option_map, if◌then◌else◌}
+use Rattle.std.specs.Prelude.{◌≡◌, ◌<◌, ◌≤◌, ◌^◌, ◌⊎◌, ℕ, Bool, true, List, [], ◌++◌, codes, length, map, Option, Some, None, option_map}
 use Rattle.std.specs.List.{concat, All}
 use Rattle.std.specs.Io.KnownBytes.{Consumes, IsAtEnd}
 use Rattle.std.specs.Str.Parse.{IsNumeral, digits_value, without_leading_plus}
 use Rattle.guard_policy.specs.Policies.{AbstractPolicy}
 use Rattle.guard_frames.specs.Frames.{IsFrame, IsTooLong, IsUnfinished}
 use Rattle.guard_frames.specs.Totals.{WentUpBy}
-use Rattle.guard_frames.specs.declared.running.RunFault.TheVariants.{FrameTooLong, TornFrame}
+use Rattle.guard_frames.specs.FaultTexts.{run_text}
+use Rattle.guard_frames.specs.declared.running.RunFault.TheVariants.{FrameTooLong, OutOfMemory, ReadFailed, TornFrame, WriteFailed}
 use Rattle.guard_files.specs.declared.fault.Fault.{Fault}
-use Rattle.guard_files.specs.declared.fault.Fault.TheVariants.{Run}
+use Rattle.guard_files.specs.declared.fault.Fault.TheVariants as fault
 use Rattle.guard_files.specs.Devices.{Input, Device, IsUnread, IsUntouched}
 use Rattle.guard_files.specs.Files.{Told, IsLater}
 use Rattle.guard_files.specs.Reading.{IsPolicyAt, IsNoPolicyAt}
-use Rattle.guard_files.specs.Records.{Record, record_octets, IsAllowed, IsBadRecord, IsLost}
-use Rattle.guard_files.specs.Records.Record.{piece, end, reload}
+use Rattle.guard_files.specs.Records.{Record, link_octets, record_octets, IsAllowed, IsBadRecord, IsLost, LeavesOpen}
+use Rattle.guard_files.specs.Records.Record.{end}
 use Rattle.guard_files.specs.Writing.{TookAll, TookPart, Writes, Tells, TellsLine, TellsText, TellsNoMemory}
 use Rattle.guard_authors.specs.declared.comparing.Comparing.{Comparing}
 use Rattle.guard_authors.specs.declared.comparing.Origin.{Origin}
 use Rattle.guard_authors.specs.declared.comparing.Origin.TheVariants.{Stream, Link}
 use Rattle.guard_authors.specs.declared.comparing.Uncompared.{Uncompared}
-use Rattle.guard_authors.specs.declared.comparing.Uncompared.TheVariants as why
+use Rattle.guard_authors.specs.declared.comparing.Uncompared.TheVariants.{Run, BadRecord}
 use Rattle.guard_authors.specs.declared.differing.Tally.{Tally}
 use Rattle.guard_authors.specs.Differing.{AbstractComparison, AreLines, no_frames, total_line, compared_status}
 use Rattle.guard_authors.specs.Summary.{IsSummary}
 
 -- ---- what came in
-
--- the octets of the link in a record
-abbrev pub of_link : ℕ → Record → List ℕ
-of_link link (piece other octets) = if nat_eq other link then octets else []
-of_link link (end other) = []
-of_link link reload = []
-
--- the record isn't the end of the link
-abbrev pub LeavesOpen : ℕ → Record → Type 0
-LeavesOpen link (piece other octets) = Unit {0}
-LeavesOpen link (end other) = other ≡ link → ⊥
-LeavesOpen link reload = Unit {0}
 
 -- Records and a rest came in, and these are the link's octets in the records.
 pub record GivesOfLink (link : ℕ) (input : Input) (octets rest : List ℕ) : Type 0 where
@@ -45,7 +34,7 @@ pub record GivesOfLink (link : ℕ) (input : Input) (octets rest : List ℕ) : T
   pub allowed : All IsAllowed records
   pub open_still : All (LeavesOpen link) records
   pub given : Consumes input.before input.after (concat (map record_octets records) ++ rest)
-  pub are : octets ≡ concat (map (of_link link) records)
+  pub are : octets ≡ link_octets link records
 
 -- The octets whose frames are compared, all that came in or those of a link; and what came in behind the records.
 abbrev pub Gives : Origin → Input → List ℕ → List ℕ → Type 0
@@ -98,21 +87,21 @@ ComparesAll c origin input out err status =
 -- Why they aren't compared to the end. Standard output has the lines of all frames that came whole before that, or failed
 -- inside them; where memory ran out, it has those of the first frames, and maybe not of all.
 abbrev pub IsStopped : Uncompared → Origin → Input → Progress → Device → Type 0
-IsStopped why.Torn origin input g out =
+IsStopped (Run TornFrame) origin input g out =
     Ends origin input g.rest × (0 < length g.left) × IsUnfinished g.left × TookAll g.lines out
-IsStopped why.TooLong origin input g out = (g.rest ≡ []) × IsTooLong g.left × TookAll g.lines out
-IsStopped why.BadRecord origin input g out = IsBad origin input g.rest × IsUnfinished g.left × TookAll g.lines out
-IsStopped why.Lost origin input g out = IsFailed origin input g.rest × IsUnfinished g.left × TookAll g.lines out
-IsStopped why.WriteFailed origin input g out = (g.rest ≡ []) × TookPart g.lines out
-IsStopped why.NoMemory origin input g out = TookAll g.lines out
+IsStopped (Run FrameTooLong) origin input g out = (g.rest ≡ []) × IsTooLong g.left × TookAll g.lines out
+IsStopped BadRecord origin input g out = IsBad origin input g.rest × IsUnfinished g.left × TookAll g.lines out
+IsStopped (Run ReadFailed) origin input g out = IsFailed origin input g.rest × IsUnfinished g.left × TookAll g.lines out
+IsStopped (Run WriteFailed) origin input g out = (g.rest ≡ []) × TookPart g.lines out
+IsStopped (Run OutOfMemory) origin input g out = TookAll g.lines out
 
 abbrev pub TellsStopped : Uncompared → Device → ℕ → Type 0
-TellsStopped why.Torn = Tells (Run TornFrame)
-TellsStopped why.TooLong = Tells (Run FrameTooLong)
-TellsStopped why.BadRecord = TellsLine (codes "bad record") 3
-TellsStopped why.Lost = TellsLine (codes "F5 ReadFailed") 3
-TellsStopped why.WriteFailed = TellsLine (codes "F2 WriteFailed") 3
-TellsStopped why.NoMemory = TellsNoMemory
+TellsStopped (Run TornFrame) = Tells (fault.Run TornFrame)
+TellsStopped (Run FrameTooLong) = Tells (fault.Run FrameTooLong)
+TellsStopped BadRecord = TellsLine (codes "bad record") 3
+TellsStopped (Run ReadFailed) = TellsLine (run_text ReadFailed) 3
+TellsStopped (Run WriteFailed) = TellsLine (run_text WriteFailed) 3
+TellsStopped (Run OutOfMemory) = TellsNoMemory
 
 abbrev pub ComparesFrames : AbstractComparison → Origin → Input → Device → Device → ℕ → Type 0
 ComparesFrames c origin input out err status =

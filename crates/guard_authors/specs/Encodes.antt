@@ -15,10 +15,10 @@ use Rattle.guard_files.specs.declared.fault.Fault.{Fault}
 use Rattle.guard_files.specs.Devices.{Input, Device, IsUnread, IsUntouched}
 use Rattle.guard_files.specs.Explaining.{TellsWith}
 use Rattle.guard_files.specs.Files.{Told}
-use Rattle.guard_files.specs.Intake.{IsRead, IsLost}
+use Rattle.guard_files.specs.Intake.{IsRead, IsNotRead}
 use Rattle.guard_files.specs.Reading.{AbstractLoaded, IsLoadedAt, IsNoPolicyAt}
 use Rattle.guard_files.specs.Remarked.{AbstractRemarked, WritesRemarked}
-use Rattle.guard_files.specs.Writing.{TellsOctets, TellsLine, TellsText, TellsNoMemory, Tells}
+use Rattle.guard_files.specs.Writing.{TellsOctets, TellsText, Tells}
 use Rattle.guard_authors.specs.declared.encoding.Encoding.{Encoding}
 use Rattle.guard_authors.specs.Framing.{IsPayload, HasNoPayload}
 use Rattle.guard_authors.specs.ValueTexts.{names_for, IsNoValue, OfText, value_note}
@@ -106,8 +106,7 @@ EncodesGiven l d asked (Some text) input out err status =
 -- It is read; or that failed, which is reported.
 EncodesGiven l d asked None input out err status =
     ((text : List ℕ) × IsRead input text × EncodesText l d asked text out err status)
-    ⊎ (IsLost input × IsUntouched out × TellsLine (codes "F5 ReadFailed") 3 err status)
-    ⊎ (IsUntouched out × TellsNoMemory err status)
+    ⊎ ((f : Fault) × IsNotRead input f × IsUntouched out × Tells f err status)
 
 -- ---- under a policy
 

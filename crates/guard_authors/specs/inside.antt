@@ -2,5 +2,4 @@
 pub mod TextFaults
 pub mod Caseless
 pub mod Counting
-pub mod Encoded
 pub mod Pieces

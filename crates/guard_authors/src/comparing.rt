@@ -1,19 +1,17 @@
 //! The frames that come in under two policies, an old one and a new one.
-ghost use Rattle.std.specs.Prelude.{◌≡◌, ◌⊎◌, ◌<◌, ◌≤◌, ◌-◌, ◌++◌, ℕ, List, [], None, true, false};
+ghost use Rattle.std.specs.Prelude.{◌≡◌, ◌⊎◌, ◌<◌, ◌≤◌, ◌-◌, ◌++◌, ℕ, [], None, true, false};
 ghost use Rattle.std.specs.Prelude.{drop, length, option_map, take, IfOk, IfErr, IfSome, OnOk};
 ghost use Rattle.guard_frames.specs.Cutting.{IsRest};
 ghost use Rattle.guard_frames.specs.Totals.{WentUpBy};
+ghost use Rattle.guard_frames.specs.declared.running.RunFault.TheVariants as run;
 ghost use Rattle.guard_policy.specs.PolicyView.{policy_view};
 ghost use Rattle.guard_files.specs.Devices.{source_of, device_of};
-ghost use Rattle.guard_files.specs.Headers.{record_of, IsGood};
-ghost use Rattle.guard_files.specs.Records.Record.{end};
 ghost use Rattle.guard_files.specs.Writing.{TellsNoMemory, TookAll, Writes};
 ghost use Rattle.guard_authors.specs.Comparing.{comparing_view, Compares, ComparesFrames, ComparesUnder, ComparesWith};
-ghost use Rattle.guard_authors.specs.Comparing.{Ends, IsLink, IsMeant, IsStopped, LeavesOpen, Progress, Reaches};
-ghost use Rattle.guard_authors.specs.Comparing.{of_link, TellsStopped};
+ghost use Rattle.guard_authors.specs.Comparing.{Ends, IsLink, IsMeant, IsStopped, Progress, Reaches, TellsStopped};
 ghost use Rattle.guard_authors.specs.Differing.{comparison_view, compared_status};
 ghost use Rattle.guard_authors.specs.declared.comparing.Origin.TheVariants.{Stream, Link};
-ghost use Rattle.guard_authors.specs.declared.comparing.Uncompared.TheVariants as why;
+ghost use Rattle.guard_authors.specs.declared.comparing.Uncompared.TheVariants.{Run};
 ghost use Rattle.guard_authors.specs.inside.Counting.{total_text, AreCounted};
 ghost use Rattle.guard_authors.specs.inside.Pieces.{of_stop, AddsPiece, EndsBehind, HasPassed, HasTaken, StopsReading};
 ghost use Rattle.guard_authors.specs.inside.Pieces.{StopsTaking};
@@ -21,8 +19,8 @@ ghost use Rattle.guard_authors.specs.inside.Pieces.{StopsTaking};
 use crate::differing::{Comparison, add_frame};
 use crate::summary::{Sums, summary_text};
 use guard_files::{
-    Fault, Files, Header, Stop, add, load, new_room, next_record, tell, tell_bad_record,
-    tell_failed_read, tell_failed_write, tell_no_memory, tell_text, write,
+    Fault, Files, Stop, add, drop_front, load, new_room, next_record, size_of_link, tell,
+    tell_bad_record, tell_failed_read, tell_failed_write, tell_no_memory, tell_text, write,
 };
 use guard_frames::{Cut, Failed, MOST_READS, Rest, RunFault, Sink, Source, first_cut, put_all};
 use guard_model::OutOfMemory;
@@ -60,32 +58,25 @@ struct Left {
 /// Why frames aren't compared to the end.
 #[derive(Clone, Copy, Debug, PartialEq, Eq)]
 pub enum Uncompared {
-    /// The end comes inside a frame.
-    Torn,
-    /// A length is above that of a frame.
-    TooLong,
+    /// As a stream isn't guarded to its end. Memory may run out behind its beginning too.
+    Run(RunFault),
     /// What comes in is no record, or is cut short by the end.
     BadRecord,
-    /// Standard input failed, or was asked too often.
-    Lost,
-    /// Standard output failed.
-    WriteFailed,
-    NoMemory,
 }
 
 impl From<OutOfMemory> for Uncompared {
-    ghost from_gives = { λ _ e. e ≡ why.NoMemory };
+    ghost from_gives = { λ _ e. e ≡ Run run.OutOfMemory };
 
     fn from(_e: OutOfMemory) -> Uncompared {
-        Uncompared::NoMemory
+        Uncompared::Run(RunFault::OutOfMemory)
     }
 }
 
 impl From<Failed> for Uncompared {
-    ghost from_gives = { λ _ e. e ≡ why.WriteFailed };
+    ghost from_gives = { λ _ e. e ≡ Run run.WriteFailed };
 
     fn from(_e: Failed) -> Uncompared {
-        Uncompared::WriteFailed
+        Uncompared::Run(RunFault::WriteFailed)
     }
 }
 
@@ -95,7 +86,9 @@ impl From<Stop> for Uncompared {
     fn from(stop: Stop) -> Uncompared {
         match stop {
             Stop::BadRecord => Uncompared::BadRecord,
-            Stop::ReadFailed | Stop::WriteFailed | Stop::ErrorFailed => Uncompared::Lost,
+            Stop::ReadFailed | Stop::WriteFailed | Stop::ErrorFailed => {
+                Uncompared::Run(RunFault::ReadFailed)
+            }
         }
     }
 }
@@ -251,12 +244,14 @@ fn tell_stopped<E: Sink>(alloc: Global, reason: Uncompared, err: &mut E) -> u8
     ensures { TellsStopped reason (device_of E.taken E.has_failed err.old err.new) result }
 {
     match reason {
-        Uncompared::Torn => tell(alloc, &Fault::Run(RunFault::TornFrame), err),
-        Uncompared::TooLong => tell(alloc, &Fault::Run(RunFault::FrameTooLong), err),
+        Uncompared::Run(RunFault::TornFrame) => tell(alloc, &Fault::Run(RunFault::TornFrame), err),
+        Uncompared::Run(RunFault::FrameTooLong) => {
+            tell(alloc, &Fault::Run(RunFault::FrameTooLong), err)
+        }
+        Uncompared::Run(RunFault::ReadFailed) => tell_failed_read(err),
+        Uncompared::Run(RunFault::WriteFailed) => tell_failed_write(err),
+        Uncompared::Run(RunFault::OutOfMemory) => tell_no_memory(err),
         Uncompared::BadRecord => tell_bad_record(err),
-        Uncompared::Lost => tell_failed_read(err),
-        Uncompared::WriteFailed => tell_failed_write(err),
-        Uncompared::NoMemory => tell_no_memory(err),
     }
 }
 
@@ -292,18 +287,18 @@ fn compare_all<S: Source, O: Sink>(
         };
         take_piece(alloc, comparison, &room[..size], &mut held, &mut sums, out)?;
     }
-    Err(Uncompared::Lost)
+    Err(Uncompared::Run(RunFault::ReadFailed))
 }
 
 /// What comes of the end: nothing may be left of a frame.
 fn ended(held: &[u8], sums: Sums) -> Result<Sums, Uncompared>
     ensures whole { IfOk result (λ s. (s ≡ sums) × (held.now ≡ [])) }
-    ensures torn { IfErr result (λ u. (u ≡ why.Torn) × (0 < length held.now)) }
+    ensures torn { IfErr result (λ u. (u ≡ Run run.TornFrame) × (0 < length held.now)) }
 {
     if held.is_empty() {
         Ok(sums)
     } else {
-        Err(Uncompared::Torn)
+        Err(Uncompared::Run(RunFault::TornFrame))
     }
 }
 
@@ -327,7 +322,7 @@ fn take_piece<O: Sink>(
     put_all(out, &lines)?;
     match left.rest {
         Rest::Unfinished => drop_front(alloc, held, left.at)?,
-        Rest::TooLong => return Err(Uncompared::TooLong),
+        Rest::TooLong => return Err(Uncompared::Run(RunFault::FrameTooLong)),
     }
     Ok(())
 }
@@ -354,17 +349,6 @@ fn pass(
     }
 }
 
-/// Drops so many octets at the front.
-fn drop_front(alloc: Global, octets: &mut Vec<u8>, count: usize) -> Result<(), OutOfMemory>
-    requires { count ≤ length octets.old.items }
-    ensures { OnOk result (octets.new.items ≡ drop count octets.old.items) }
-{
-    if count > 0 {
-        *octets = Vec::from_slice(alloc, &octets[count..])?;
-    }
-    Ok(())
-}
-
 // ---- the octets
 
 /// How many octets come next, which are the first ones in the room then; none at the end.
@@ -373,12 +357,12 @@ fn next_piece<S: Source>(
     origin: Origin,
     room: &mut [u8],
     reads: &mut u64,
-) -> Result<Option<usize>, Uncompared>
+) -> Result<Option<usize>, Stop>
     requires { length room.old ≡ 1048576 }
     ensures piece { IfOk result (λ found. IfSome found (λ n. (n ≤ 1048576) × (reads.new < reads.old)
         × AddsPiece origin (S.tells input.old) (S.tells input.new) (take n room.new))) }
     ensures end { IfOk result (λ found. found ≡ None → EndsBehind origin (S.tells input.old) (S.tells input.new)) }
-    ensures none { IfErr result (λ u. StopsReading u origin (S.tells input.old) (S.tells input.new)
+    ensures none { IfErr result (λ s. StopsReading origin s (S.tells input.old) (S.tells input.new)
         (S.has_failed input.new) reads.new) }
     ensures counted { WentUpBy (S.takes input.old) (reads.old - reads.new) (S.takes input.new) }
     ensures fewer { reads.new ≤ reads.old }
@@ -393,24 +377,24 @@ fn next_octets<S: Source>(
     input: &mut S,
     room: &mut [u8],
     reads: &mut u64,
-) -> Result<Option<usize>, Uncompared>
+) -> Result<Option<usize>, Stop>
     requires { length room.old ≡ 1048576 }
     ensures piece { IfOk result (λ found. IfSome found (λ n. (n ≤ 1048576) × (reads.new < reads.old)
         × AddsPiece Stream (S.tells input.old) (S.tells input.new) (take n room.new))) }
     ensures end { IfOk result (λ found. found ≡ None → EndsBehind Stream (S.tells input.old) (S.tells input.new)) }
-    ensures none { IfErr result (λ u. StopsReading u Stream (S.tells input.old) (S.tells input.new)
+    ensures none { IfErr result (λ s. StopsReading Stream s (S.tells input.old) (S.tells input.new)
         (S.has_failed input.new) reads.new) }
     ensures counted { WentUpBy (S.takes input.old) (reads.old - reads.new) (S.takes input.new) }
     ensures fewer { reads.new ≤ reads.old }
 {
     if *reads == 0 {
-        return Err(Uncompared::Lost);
+        return Err(Stop::ReadFailed);
     }
     *reads -= 1;
     match input.take(room) {
         Ok(0) => Ok(None),
         Ok(size) => Ok(Some(size)),
-        Err(_) => Err(Uncompared::Lost),
+        Err(_) => Err(Stop::ReadFailed),
     }
 }
 
@@ -420,12 +404,12 @@ fn next_of_link<S: Source>(
     link: u64,
     room: &mut [u8],
     reads: &mut u64,
-) -> Result<Option<usize>, Uncompared>
+) -> Result<Option<usize>, Stop>
     requires { length room.old ≡ 1048576 }
     ensures piece { IfOk result (λ found. IfSome found (λ n. (n ≤ 1048576) × (reads.new < reads.old)
         × AddsPiece (Link link) (S.tells input.old) (S.tells input.new) (take n room.new))) }
     ensures end { IfOk result (λ found. found ≡ None → EndsBehind (Link link) (S.tells input.old) (S.tells input.new)) }
-    ensures none { IfErr result (λ u. StopsReading u (Link link) (S.tells input.old) (S.tells input.new)
+    ensures none { IfErr result (λ s. StopsReading (Link link) s (S.tells input.old) (S.tells input.new)
         (S.has_failed input.new) reads.new) }
     ensures counted { WentUpBy (S.takes input.old) (reads.old - reads.new) (S.takes input.new) }
     ensures fewer { reads.new ≤ reads.old }
@@ -434,18 +418,4 @@ fn next_of_link<S: Source>(
         return Ok(None);
     };
     Ok(size_of_link(header, link))
-}
-
-/// How many octets of the link come with this header; none where it is the end of the link.
-fn size_of_link(header: Header, link: u64) -> Option<usize>
-    requires { IsGood header }
-    ensures piece { IfSome result (λ n. (n ≤ 1048576) × ((room : List ℕ) → LeavesOpen link (record_of header room)
-        × (take n room ≡ of_link link (record_of header room)))) }
-    ensures end { result ≡ None → (room : List ℕ) → record_of header room ≡ end link }
-{
-    match header {
-        Header::Piece(other, size) if u64::from(other) == link => Some(size),
-        Header::End(other) if u64::from(other) == link => None,
-        Header::Piece(_, _) | Header::End(_) | Header::Reload => Some(0),
-    }
 }

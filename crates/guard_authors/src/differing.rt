@@ -12,8 +12,8 @@ ghost use Rattle.guard_authors.specs.inside.Counting.{CountsFrame};
 
 use crate::summary::Sums;
 use guard_eval::Violation;
-use guard_files::{add, route_in};
-use guard_frames::{Body, read_body};
+use guard_files::add;
+use guard_frames::{Body, read_body, route_of};
 use guard_model::{OutOfMemory, Site};
 use guard_policy::{Policy, Route, Verdict};
 use guard_report::{add_route, verdict_text};
@@ -154,7 +154,7 @@ fn body_line(
     ensures { IfOk result (λ line. IsLine (comparison_view comparison.now) number (Some (body_view body.now))
         line.items) }
 {
-    let route = route_in(body);
+    let route = route_of(body);
     let old = texts_of(alloc, comparison.old, &route, body.message_octets)?;
     let new = texts_of(alloc, comparison.new, &route, body.message_octets)?;
     compared_line(alloc, comparison.by_place, number, &route, &old, &new)

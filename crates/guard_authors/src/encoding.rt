@@ -9,24 +9,21 @@ ghost use Rattle.guard_der.specs.Sound.{is_sound};
 ghost use Rattle.guard_eval.specs.Violations.{violation, violation_view};
 ghost use Rattle.guard_policy.specs.PolicyView.{policy_view};
 ghost use Rattle.guard_policy.specs.SaidView.{said_message_view};
-ghost use Rattle.guard_files.specs.declared.fault.Fault.TheVariants.{NoMemory};
 ghost use Rattle.guard_files.specs.Devices.{source_of, device_of, IsUntouched};
 ghost use Rattle.guard_files.specs.Explaining.{TellsWith};
 ghost use Rattle.guard_files.specs.Reading.{loaded_view};
 ghost use Rattle.guard_files.specs.Remarked.{remarked_view};
-ghost use Rattle.guard_authors.specs.declared.encoding.Unencoded.TheVariants.{NoValue};
 ghost use Rattle.guard_authors.specs.Encodes.{encoding_view, in_form, line_of_violation, violation_status};
-ghost use Rattle.guard_authors.specs.Encodes.{IsEncoded, EncodesText, EncodesGiven, EncodesUnder, Encodes};
+ghost use Rattle.guard_authors.specs.Encodes.{IsEncoded, IsUnframed, EncodesText, EncodesGiven, EncodesUnder, Encodes};
 ghost use Rattle.guard_authors.specs.Framing.{IsPayload, HasNoPayload};
-ghost use Rattle.guard_authors.specs.ValueTexts.{value_note};
-ghost use Rattle.guard_authors.specs.inside.Encoded.{IsUnencoded};
+ghost use Rattle.guard_authors.specs.ValueTexts.{names_for, value_note, IsNoValue, OfText};
 
 use crate::framing::frame;
 use crate::written::encoded;
 use guard_eval::{Violation, first_violation};
 use guard_files::{
-    Fault, Files, Loaded, Remarked, Texts, Unread, read_all, tell, tell_failed_read, tell_line,
-    tell_no_memory, tell_text, tell_with, write_remarked,
+    Fault, Files, Loaded, Remarked, Texts, read_all, tell, tell_line, tell_no_memory, tell_text,
+    tell_with, write_remarked,
 };
 use guard_frames::{Sink, Source};
 use guard_model::{OutOfMemory, Ty, Value};
@@ -135,8 +132,7 @@ fn encode_read<S: Source, O: Sink, E: Sink>(
 {
     match read_all(alloc, input) {
         Ok(text) => encode_text(alloc, asked, loaded, message, &text, out, err),
-        Err(Unread::Lost) => tell_failed_read(err),
-        Err(Unread::NoMemory) => tell_no_memory(err),
+        Err(fault) => tell(alloc, &fault, err),
     }
 }
 
@@ -156,9 +152,9 @@ fn encode_text<O: Sink, E: Sink>(
         (device_of E.taken E.has_failed err.old err.new) result }
 {
     match answer(alloc, asked, loaded, message, text) {
-        Ok(encoded) => write_remarked(&encoded, out, err),
-        Err(Unencoded::NoValue(fault)) => tell_no_value(alloc, text, &fault, err),
-        Err(Unencoded::NoFrame) => tell_text(alloc, "bad frame", 2, err),
+        Ok(Some(encoded)) => write_remarked(&encoded, out, err),
+        Ok(None) => tell_text(alloc, "bad frame", 2, err),
+        Err(fault) => tell_no_value(alloc, text, &fault, err),
     }
 }
 
@@ -195,57 +191,34 @@ fn value_note(alloc: Global, text: &[u8], fault: &Fault) -> Result<String, OutOf
 
 // ---- what is written
 
-/// Why nothing is written.
-#[derive(Drop)]
-enum Unencoded {
-    /// The text writes no value, or memory ran out.
-    NoValue(Fault),
-    /// A name is none, or the body would be too long.
-    NoFrame,
-}
-
-impl From<Fault> for Unencoded {
-    ghost from_gives = { λ f e. e ≡ NoValue f };
-
-    fn from(fault: Fault) -> Unencoded {
-        Unencoded::NoValue(fault)
-    }
-}
-
-impl From<OutOfMemory> for Unencoded {
-    ghost from_gives = { λ _ e. e ≡ NoValue NoMemory };
-
-    fn from(_e: OutOfMemory) -> Unencoded {
-        Unencoded::NoValue(Fault::NoMemory)
-    }
-}
-
-/// What is written of the value that the text writes.
+/// What is written of the value that the text writes; none where no frame holds it.
 fn answer(
     alloc: Global,
     asked: &Encoding,
     loaded: &Loaded,
     message: &SaidMessage,
     text: &[u8],
-) -> Result<Remarked, Unencoded>
+) -> Result<Option<Remarked>, Fault>
     requires { IsTrue (is_sound (type_view message.now.ty.now)) }
-    ensures encoded { IfOk result (λ e. IsEncoded (loaded_view loaded.now) (said_message_view message.now)
-        (encoding_view asked.now) text.now (remarked_view e)) }
-    ensures none { IfErr result (IsUnencoded (loaded_view loaded.now) (said_message_view message.now)
-        (encoding_view asked.now) text.now) }
+    ensures encoded { IfOk result (λ found. IfSome found (λ e. IsEncoded (loaded_view loaded.now)
+        (said_message_view message.now) (encoding_view asked.now) text.now (remarked_view e))) }
+    ensures unframed { IfOk result (λ found. found ≡ None → IsUnframed (loaded_view loaded.now)
+        (said_message_view message.now) (encoding_view asked.now) text.now) }
+    ensures none { IfErr result (OfText (IsNoValue (names_for (loaded_view loaded.now) (said_message_view message.now))
+        (type_view message.now.ty.now) text.now)) }
 {
     let (value, octets) = encoded(alloc, &loaded.modules, message, text)?;
     let held = payload(alloc, asked, octets)?;
     let Some(payload) = held else {
-        return Err(Unencoded::NoFrame);
+        return Ok(None);
     };
     let (remarks, status) = said(alloc, &loaded.policy, asked.message, message.ty, &value)?;
     let out = in_form(alloc, asked.der, payload)?;
-    Ok(Remarked {
+    Ok(Some(Remarked {
         out,
         remarks,
         status,
-    })
+    }))
 }
 
 /// The octets, or a frame that holds them where a sender or a receiver is asked for; none where no frame does.

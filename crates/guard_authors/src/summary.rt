@@ -1,67 +1,63 @@
 //! How many frames each rule of two policies let through or stopped.
-ghost use Rattle.std.specs.Prelude.{◌≡◌, ◌++◌, ℕ, List, [], ◌∷◌, Some, codes, decimal, true, IfOk, OnOk};
+ghost use Rattle.std.specs.Prelude.{◌≡◌, ◌++◌, ℕ, List, Option, [], ◌∷◌, Some, codes, decimal, true, IfOk, OnOk};
 ghost use Rattle.guard_frames.specs.Bodies.{body_in, body_view};
 ghost use Rattle.guard_frames.specs.Totals.{later};
-ghost use Rattle.guard_policy.specs.Policies.{AbstractPolicy, AbstractRoute};
 ghost use Rattle.guard_policy.specs.PolicyView.{policy_view};
-ghost use Rattle.guard_policy.specs.Verdicts.{pass, verdict_view};
 ghost use Rattle.guard_authors.specs.Differing.{comparison_view};
-ghost use Rattle.guard_authors.specs.Summary.{place_of, policy_lines, reason_line, reason_lines, rule_lines, IsRow, IsRowOf};
-ghost use Rattle.guard_authors.specs.inside.Counting.{count_at, count_of, summed, AreCounts, BeginsCounting};
+ghost use Rattle.guard_authors.specs.Summary.{place_of, policy_lines, reason_line, reason_lines, rule_lines, rule_of};
+ghost use Rattle.guard_authors.specs.Summary.{IsRow};
+ghost use Rattle.guard_authors.specs.inside.Counting.{count_at, summed, AreCounts, BeginsCounting};
 ghost use Rattle.guard_authors.specs.inside.Counting.{CountsFrame, IsCount};
 ghost use Rattle.guard_authors.specs.declared.summary.Row.{Row};
 
 use crate::differing::{Comparison, Tally};
-use guard_files::{add, add_said, route_in};
-use guard_frames::{Body, read_body};
+use guard_files::{add, add_said};
+use guard_frames::{Body, Reason, Why, read_body, reason_of, route_of};
 use guard_model::OutOfMemory;
-use guard_policy::{Passing, Policy, Verdict};
+use guard_policy::{Passing, Policy};
 use itoa::Buffer;
 use std::alloc::{AllocError, Global};
 
 /// How many reasons there are why no rule has a frame.
 const REASONS: usize = 6;
 
-/// Why no rule has a frame, in the order of the table.
-#[derive(Clone, Copy, Debug, PartialEq, Eq)]
-pub enum Unruled {
-    /// It isn't three names and a message.
-    BadHeader,
-    /// The policy declares no message of its name.
-    UnknownMessage,
-    /// Its octets break the encoding rules.
-    Undecodable,
-    /// Its value is outside its declared type.
-    OutsideType,
-    /// No allowing rule of its route has its value.
-    NotAllowed,
-    /// No allowing rule speaks of its route.
-    NoRule,
-}
-
-impl Unruled {
-    /// The place of its count, from 0.
-    fn place(self) -> usize
-        ensures { result ≡ place_of self }
-    {
-        match self {
-            Unruled::BadHeader => 0,
-            Unruled::UnknownMessage => 1,
-            Unruled::Undecodable => 2,
-            Unruled::OutsideType => 3,
-            Unruled::NotAllowed => 4,
-            Unruled::NoRule => 5,
-        }
-    }
-}
-
 /// In which row of a policy's table a frame is counted.
 #[derive(Clone, Copy, Debug, PartialEq, Eq)]
 pub enum Row {
-    /// That of the rule of this number, which let it through or stopped it.
-    Rule(usize),
-    /// That of the reason why no rule has it.
-    Reason(Unruled),
+    /// It goes, by the rule of this number.
+    Goes(usize),
+    /// It stays, for this reason.
+    Stays(Why),
+}
+
+impl Row {
+    /// The number of the rule that has it: the one by which it goes, or which denies it.
+    fn rule(self) -> Option<usize>
+        ensures { result ≡ rule_of self }
+    {
+        match self {
+            Row::Goes(rule) | Row::Stays(Why::Decided(Reason::DeniedBy(rule))) => Some(rule),
+            Row::Stays(_) => None,
+        }
+    }
+
+    /// The place in the table, from 0, of the reason why no rule has it.
+    fn place(self) -> Option<usize>
+        ensures { result ≡ place_of self }
+    {
+        let Row::Stays(why) = self else {
+            return None;
+        };
+        match why {
+            Why::BadHeader => Some(0),
+            Why::Decided(Reason::UnknownMessage) => Some(1),
+            Why::Decided(Reason::Undecodable) => Some(2),
+            Why::Decided(Reason::OutsideType) => Some(3),
+            Why::Decided(Reason::NotAllowed) => Some(4),
+            Why::Decided(Reason::NoRule) => Some(5),
+            Why::NoMemory | Why::Decided(Reason::DeniedBy(_)) => None,
+        }
+    }
 }
 
 /// How many frames were counted in each row. Each number stays at the greatest of 64 bits.
@@ -95,17 +91,19 @@ impl Counts {
         ensures { (many : ℕ) (rows : List Row) → AreCounts many rows self.old
             → AreCounts many (rows ++ row ∷ []) self.new }
     {
-        match row {
-            Row::Rule(number) => count_one(&mut self.rules, number),
-            Row::Reason(reason) => count_one(&mut self.reasons, reason.place()),
-        }
+        count_one(&mut self.rules, row.rule());
+        count_one(&mut self.reasons, row.place());
     }
 }
 
-fn count_one(counts: &mut Vec<u64>, number: usize)
-    ensures { (many : ℕ) (numbers : List ℕ) → IsCount many numbers counts.old.items
-        → IsCount many (numbers ++ number ∷ []) counts.new.items }
+/// Counts one more at this place, if there is one.
+fn count_one(counts: &mut Vec<u64>, place: Option<usize>)
+    ensures { (place_in : Row → Option ℕ) (many : ℕ) (rows : List Row) (row : Row) → place ≡ place_in row
+        → IsCount place_in many rows counts.old.items → IsCount place_in many (rows ++ row ∷ []) counts.new.items }
 {
+    let Some(number) = place else {
+        return;
+    };
     if number < counts.len() {
         let more = one_more(counts[number]);
         counts[number] = more;
@@ -154,41 +152,24 @@ impl Sums {
 // ---- the row of a frame
 
 fn row_of(alloc: Global, policy: &Policy, body: &[u8]) -> Result<Row, OutOfMemory>
-    ensures { IfOk result (λ row. IsRowOf (policy_view policy.now) (body_in body.now) row) }
+    ensures { IfOk result (IsRow (policy_view policy.now) (body_in body.now)) }
 {
     match read_body(body) {
         Some(body) => decided_row(alloc, policy, &body),
-        None => Ok(Row::Reason(Unruled::BadHeader)),
+        None => Ok(Row::Stays(Why::BadHeader)),
     }
 }
 
 fn decided_row(alloc: Global, policy: &Policy, body: &Body) -> Result<Row, OutOfMemory>
-    ensures { IfOk result (λ row. IsRowOf (policy_view policy.now) (Some (body_view body.now)) row) }
+    ensures { IfOk result (IsRow (policy_view policy.now) (Some (body_view body.now))) }
 {
-    let route = route_in(body);
+    let route = route_of(body);
     match policy.look_at(&route, body.message_octets) {
-        Passing::Goes(rule) => Ok(Row::Rule(rule)),
+        Passing::Goes(rule) => Ok(Row::Goes(rule)),
         Passing::Stopped(told) => {
             let verdict = policy.reason_as_told(alloc, &route, body.message_octets, told)?;
-            Ok(stopped_row(&verdict))
+            Ok(Row::Stays(Why::Decided(reason_of(&verdict))))
         }
-    }
-}
-
-/// The row of a message that stays, by its verdict.
-fn stopped_row(verdict: &Verdict) -> Row
-    requires { verdict_view verdict.now ≡ pass → ⊥ }
-    ensures { (p : AbstractPolicy) (route : AbstractRoute) (octets : List ℕ)
-        → IsRow p route octets (verdict_view verdict.now) result }
-{
-    match verdict {
-        Verdict::Pass => unreachable!(),
-        Verdict::DeniedBy(number) => Row::Rule(*number),
-        Verdict::UnknownMessage => Row::Reason(Unruled::UnknownMessage),
-        Verdict::Undecodable(_) => Row::Reason(Unruled::Undecodable),
-        Verdict::OutsideType(_) => Row::Reason(Unruled::OutsideType),
-        Verdict::NotAllowed(_) => Row::Reason(Unruled::NotAllowed),
-        Verdict::NoRule => Row::Reason(Unruled::NoRule),
     }
 }
 
@@ -223,7 +204,7 @@ fn both_text(alloc: Global, comparison: &Comparison, sums: &Sums) -> Result<Vec<
 
 fn add_policy(text: &mut Vec<u8>, policy: &Policy, counts: &Counts) -> Result<(), OutOfMemory>
     ensures { OnOk result (text.new.items ≡ text.old.items ++ policy_lines (policy_view policy.now)
-        (count_at counts.now.rules.items) (count_of counts.now.reasons.items)) }
+        (count_at counts.now.rules.items) (count_at counts.now.reasons.items)) }
 {
     add_rules(text, policy, &counts.rules)?;
     add_reasons(text, &counts.reasons)
@@ -244,23 +225,16 @@ fn add_rules(text: &mut Vec<u8>, policy: &Policy, counts: &[u64]) -> Result<(), 
     Ok(())
 }
 
+/// Adds the line of each reason, in the order of their places.
 fn add_reasons(text: &mut Vec<u8>, counts: &[u64]) -> Result<(), OutOfMemory>
-    ensures { OnOk result (text.new.items ≡ text.old.items ++ reason_lines (count_of counts.now)) }
+    ensures { OnOk result (text.new.items ≡ text.old.items ++ reason_lines (count_at counts.now)) }
 {
-    add_reason(text, b"bad-header", count_of(counts, Unruled::BadHeader))?;
-    add_reason(
-        text,
-        b"unknown-message",
-        count_of(counts, Unruled::UnknownMessage),
-    )?;
-    add_reason(text, b"undecodable", count_of(counts, Unruled::Undecodable))?;
-    add_reason(
-        text,
-        b"outside-type",
-        count_of(counts, Unruled::OutsideType),
-    )?;
-    add_reason(text, b"not-allowed", count_of(counts, Unruled::NotAllowed))?;
-    add_reason(text, b"no-rule", count_of(counts, Unruled::NoRule))
+    add_reason(text, b"bad-header", count_at(counts, 0))?;
+    add_reason(text, b"unknown-message", count_at(counts, 1))?;
+    add_reason(text, b"undecodable", count_at(counts, 2))?;
+    add_reason(text, b"outside-type", count_at(counts, 3))?;
+    add_reason(text, b"not-allowed", count_at(counts, 4))?;
+    add_reason(text, b"no-rule", count_at(counts, 5))
 }
 
 /// Adds the line of a reason that is there.
@@ -292,10 +266,4 @@ fn count_at(counts: &[u64], number: usize) -> u64
         Some(count) => *count,
         None => 0,
     }
-}
-
-fn count_of(counts: &[u64], reason: Unruled) -> u64
-    ensures { result ≡ count_of counts.now reason }
-{
-    count_at(counts, reason.place())
 }

@@ -5,28 +5,23 @@ use Rattle.guard_frames.specs.Bodies.{AbstractBody}
 use Rattle.guard_authors.specs.declared.summary.Counts.{Counts}
 use Rattle.guard_authors.specs.declared.summary.Row.{Row}
 use Rattle.guard_authors.specs.declared.summary.Sums.{Sums}
-use Rattle.guard_authors.specs.declared.summary.Unruled.{Unruled}
 use Rattle.guard_authors.specs.Differing.{AbstractComparison, no_frames, total_line}
-use Rattle.guard_authors.specs.Summary.{AreRows, IsRowOf, both_lines, how_often, place_of, policy_lines, reasons_in, rules_in}
+use Rattle.guard_authors.specs.Summary.{AreRows, IsRow, both_lines, how_often, place_of, policy_lines, rule_of}
 
 -- ---- one policy
 
 abbrev pub count_at : List ℕ → ℕ → ℕ
 count_at counts i = get_or counts i 0
 
--- that of a reason
-abbrev pub count_of : List ℕ → Unruled → ℕ
-count_of counts k = count_at counts (place_of k)
-
--- so many counts, of how often each number is there
-abbrev pub IsCount : ℕ → List ℕ → List ℕ → Type 0
-IsCount many numbers counts =
-    (length counts ≡ many) × ((i : ℕ) → i < many → count_at counts i ≡ how_often numbers i)
+-- so many counts, of how many rows are of each number
+abbrev pub IsCount : (Row → Option ℕ) → ℕ → List Row → List ℕ → Type 0
+IsCount number many rows counts =
+    (length counts ≡ many) × ((i : ℕ) → i < many → count_at counts i ≡ how_often number rows i)
 
 -- what is counted of frames in these rows, where there are so many rules
 abbrev pub AreCounts : ℕ → List Row → Counts → Type 0
 AreCounts many rows counts =
-    IsCount many (rules_in rows) counts.rules.items × IsCount 6 (reasons_in rows) counts.reasons.items
+    IsCount rule_of many rows counts.rules.items × IsCount place_of 6 rows counts.reasons.items
 
 -- in these rows and one more
 abbrev pub CountsRow : ℕ → Row → Counts → Counts → Type 0
@@ -46,7 +41,7 @@ BeginsCounting c s =
 
 -- the frame with this body
 abbrev pub CountsBody : AbstractPolicy → Option AbstractBody → Counts → Counts → Type 0
-CountsBody p body before after = (row : Row) × IsRowOf p body row × CountsRow (length p.rules) row before after
+CountsBody p body before after = (row : Row) × IsRow p body row × CountsRow (length p.rules) row before after
 
 abbrev pub CountsFrame : AbstractComparison → Option AbstractBody → Sums → Sums → Type 0
 CountsFrame c body before after =
@@ -71,7 +66,7 @@ AreCounted c frames s = c.summary ≡ true → IsCounted c.old frames s.under_ol
 -- ---- the table, by the counts
 
 abbrev pub lines_of_counts : AbstractPolicy → Counts → List ℕ
-lines_of_counts p counts = policy_lines p (count_at counts.rules.items) (count_of counts.reasons.items)
+lines_of_counts p counts = policy_lines p (count_at counts.rules.items) (count_at counts.reasons.items)
 
 abbrev pub summed : Bool → AbstractComparison → Sums → List ℕ
 summed false c s = []

@@ -3,28 +3,28 @@ use Rattle.std.specs.Prelude.{◌≡◌, ◌≤◌, ◌⊎◌, ℕ, Bool, true, 
 use Rattle.std.specs.List.{concat, All}
 use Rattle.std.specs.Io.KnownBytes.{Consumes, IsAtEnd}
 use Rattle.guard_frames.specs.Frames.{IsFrame, IsTooLong, IsUnfinished}
+use Rattle.guard_frames.specs.declared.running.RunFault.TheVariants as run
 use Rattle.guard_files.specs.declared.stop.Stop.{Stop}
 use Rattle.guard_files.specs.declared.stop.Stop.TheVariants as stop
 use Rattle.guard_files.specs.Devices.{Device}
 use Rattle.guard_files.specs.Headers.{IsNone}
-use Rattle.guard_files.specs.Records.{Record, record_octets, IsAllowed}
+use Rattle.guard_files.specs.Records.{Record, of_link, record_octets, IsAllowed, LeavesOpen}
 use Rattle.guard_files.specs.Records.Record.{end}
 use Rattle.guard_files.specs.Writing.{TookAll, TookPart}
 use Rattle.guard_authors.specs.declared.comparing.Origin.{Origin}
 use Rattle.guard_authors.specs.declared.comparing.Origin.TheVariants.{Stream, Link}
 use Rattle.guard_authors.specs.declared.comparing.Uncompared.{Uncompared}
-use Rattle.guard_authors.specs.declared.comparing.Uncompared.TheVariants as why
+use Rattle.guard_authors.specs.declared.comparing.Uncompared.TheVariants.{Run, BadRecord}
 use Rattle.guard_authors.specs.declared.summary.Sums.{Sums}
-use Rattle.guard_authors.specs.Comparing.{LeavesOpen, of_link}
 use Rattle.guard_authors.specs.Differing.{AbstractComparison, AreLines}
 use Rattle.guard_authors.specs.inside.Counting.{CountsFrames}
 
 -- why no record could be read
 abbrev pub of_stop : Stop → Uncompared
-of_stop stop.BadRecord = why.BadRecord
-of_stop stop.ReadFailed = why.Lost
-of_stop stop.WriteFailed = why.Lost
-of_stop stop.ErrorFailed = why.Lost
+of_stop stop.BadRecord = BadRecord
+of_stop stop.ReadFailed = Run run.ReadFailed
+of_stop stop.WriteFailed = Run run.ReadFailed
+of_stop stop.ErrorFailed = Run run.ReadFailed
 
 -- ---- one read, by what the source tells before and after it
 
@@ -41,18 +41,14 @@ EndsBehind (Link link) before after =
     Consumes before after (record_octets (end link)) ⊎ (Consumes before after [] × IsAtEnd after)
 
 -- why nothing could be read
-abbrev pub StopsReading : Uncompared → Origin → Option (List ℕ) → Option (List ℕ) → Bool → ℕ → Type 0
-StopsReading why.Lost Stream before after failed reads =
+abbrev pub StopsReading : Origin → Stop → Option (List ℕ) → Option (List ℕ) → Bool → ℕ → Type 0
+StopsReading Stream stop.ReadFailed before after failed reads =
     Consumes before after [] × ((failed ≡ true) ⊎ (reads ≡ 0))
-StopsReading why.Lost (Link link) before after failed reads =
-    (rest : List ℕ) × Consumes before after rest × IsNone stop.ReadFailed rest (IsAtEnd after) failed reads
-StopsReading why.BadRecord Stream before after failed reads = ⊥
-StopsReading why.BadRecord (Link link) before after failed reads =
-    (rest : List ℕ) × Consumes before after rest × IsNone stop.BadRecord rest (IsAtEnd after) failed reads
-StopsReading why.Torn origin before after failed reads = ⊥
-StopsReading why.TooLong origin before after failed reads = ⊥
-StopsReading why.WriteFailed origin before after failed reads = ⊥
-StopsReading why.NoMemory origin before after failed reads = ⊥
+StopsReading Stream stop.BadRecord before after failed reads = ⊥
+StopsReading Stream stop.WriteFailed before after failed reads = ⊥
+StopsReading Stream stop.ErrorFailed before after failed reads = ⊥
+StopsReading (Link link) s before after failed reads =
+    (rest : List ℕ) × Consumes before after rest × IsNone s rest (IsAtEnd after) failed reads
 
 -- ---- octets that are held and the piece behind them
 
@@ -82,13 +78,13 @@ HasTaken c octets old left new out =
 
 -- A length is too great, standard output failed, or memory ran out, before the lines were written or behind that.
 abbrev pub StopsTaking : AbstractComparison → List ℕ → Sums → Uncompared → Device → Type 0
-StopsTaking c octets old why.TooLong out =
+StopsTaking c octets old (Run run.FrameTooLong) out =
     (left : List ℕ) × (lines : List ℕ) × (new : Sums) × AreCompared c octets old left lines new × IsTooLong left
     × TookAll lines out
-StopsTaking c octets old why.WriteFailed out =
+StopsTaking c octets old (Run run.WriteFailed) out =
     (left : List ℕ) × (lines : List ℕ) × (new : Sums) × AreCompared c octets old left lines new × TookPart lines out
-StopsTaking c octets old why.NoMemory out =
+StopsTaking c octets old (Run run.OutOfMemory) out =
     (left : List ℕ) × (lines : List ℕ) × (new : Sums) × AreCompared c octets old left lines new × TookAll lines out
-StopsTaking c octets old why.Torn out = ⊥
-StopsTaking c octets old why.BadRecord out = ⊥
-StopsTaking c octets old why.Lost out = ⊥
+StopsTaking c octets old (Run run.TornFrame) out = ⊥
+StopsTaking c octets old (Run run.ReadFailed) out = ⊥
+StopsTaking c octets old BadRecord out = ⊥

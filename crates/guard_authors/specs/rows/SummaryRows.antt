@@ -6,10 +6,11 @@ use Rattle.guard_model.specs.AbstractType.{AbstractType}
 use Rattle.guard_policy.specs.declared.policy.Effect.{Effect}
 use Rattle.guard_policy.specs.declared.policy.Effect.TheVariants.{Allow, Deny}
 use Rattle.guard_policy.specs.Policies.{AbstractPolicy, AbstractRule}
+use Rattle.guard_frames.specs.declared.why.Reason.TheVariants.{UnknownMessage, Undecodable, OutsideType, DeniedBy, NotAllowed, NoRule}
+use Rattle.guard_frames.specs.declared.why.Why.TheVariants.{BadHeader, Decided}
 use Rattle.guard_authors.specs.declared.summary.Row.{Row}
-use Rattle.guard_authors.specs.declared.summary.Row.TheVariants.{Rule, Reason}
-use Rattle.guard_authors.specs.declared.summary.Unruled.TheVariants.{BadHeader, UnknownMessage, Undecodable, OutsideType, NotAllowed, NoRule}
-use Rattle.guard_authors.specs.Summary.{IsRowOf, counted_lines, how_often, reasons_in, rules_in}
+use Rattle.guard_authors.specs.declared.summary.Row.TheVariants.{Goes, Stays}
+use Rattle.guard_authors.specs.Summary.{IsRow, counted_lines, how_often, place_of, rule_of}
 
 abbrev rule : AbstractType → List ℕ → Effect → AbstractRule
 rule t name effect = record {
@@ -31,18 +32,18 @@ policy t = record {
 }
 
 abbrev five : List Row
-five = Rule 0 ∷ Reason NoRule ∷ Rule 0 ∷ Rule 1 ∷ Rule 0 ∷ []
+five = Goes 0 ∷ Stays (Decided NoRule) ∷ Goes 0 ∷ Stays (Decided (DeniedBy 1)) ∷ Goes 0 ∷ []
 
-pub let_through : how_often (rules_in five) 0 ≡ 3
+pub let_through : how_often rule_of five 0 ≡ 3
 let_through = refl
 
-pub stopped : how_often (rules_in five) 1 ≡ 1
+pub stopped : how_often rule_of five 1 ≡ 1
 stopped = refl
 
-pub of_no_rule : how_often (reasons_in five) 5 ≡ 1
+pub of_no_rule : how_often place_of five 5 ≡ 1
 of_no_rule = refl
 
-pub no_bad_header : how_often (reasons_in five) 0 ≡ 0
+pub no_bad_header : how_often place_of five 0 ≡ 0
 no_bad_header = refl
 
 pub table : (t : AbstractType) → counted_lines (policy t) five
@@ -52,7 +53,8 @@ table t = refl
 
 -- each reason, and a rule that has no frame
 abbrev each : List Row
-each = Reason BadHeader ∷ Reason UnknownMessage ∷ Reason Undecodable ∷ Reason OutsideType ∷ Reason NotAllowed ∷ Reason NoRule ∷ Reason NotAllowed ∷ Rule 1 ∷ []
+each = Stays BadHeader ∷ Stays (Decided UnknownMessage) ∷ Stays (Decided Undecodable) ∷ Stays (Decided OutsideType)
+    ∷ Stays (Decided NotAllowed) ∷ Stays (Decided NoRule) ∷ Stays (Decided NotAllowed) ∷ Stays (Decided (DeniedBy 1)) ∷ []
 
 pub reasons : (t : AbstractType) → counted_lines (policy t) each
     ≡ codes "  north>south order: allow small 0\n" ++ codes "  north>south order: deny big 1\n"
@@ -61,5 +63,5 @@ pub reasons : (t : AbstractType) → counted_lines (policy t) each
 unfolding digits
 reasons t = refl
 
-pub not_three_names : (t : AbstractType) → IsRowOf (policy t) None (Reason BadHeader)
+pub not_three_names : (t : AbstractType) → IsRow (policy t) None (Stays BadHeader)
 not_three_names t = refl

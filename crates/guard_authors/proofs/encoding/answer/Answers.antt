@@ -1,8 +1,8 @@
 use Rattle.guard_model.specs.ValueView.{value_view}
 use Rattle.guard_authors.proofs.encoding.answer.Goals as goal
 
-pub returns-in_default-clause-none : goal.returns-in_default-clause-none
-returns-in_default-clause-none c = record {
+pub returns-in_default-clause-unframed : goal.returns-in_default-clause-unframed
+returns-in_default-clause-unframed c = λ same. record {
   v = value_view c.in_ok-value.value;
   octets = c.in_ok-value.octets.items;
   encoding = c.in_ok-value.ensures.encoding;

@@ -14,8 +14,5 @@ returns-in-Ok g c =
     let err = device (g.E.Sink.taken c.args.err.now) (g.E.Sink.taken c.encode_text.new.err) (g.E.Sink.has_failed c.encode_text.new.err) in
     inl (c.in-Ok.text.items, c.in-Ok.ensures.read, subst (λ (text : List ℕ). EncodesText l d asked text out err c.encode_text.result) c.deref.ensures.value c.encode_text.ensures)
 
-pub returns-in-Err-Lost : goal.returns-in-Err-Lost
-returns-in-Err-Lost g c = inr (inl ((rw c.in-Err-Lost.field-0-is at c.in-Err-Lost.ensures.lost) refl, refl, c.tell_failed_read.ensures))
-
-pub returns-in-Err-NoMemory : goal.returns-in-Err-NoMemory
-returns-in-Err-NoMemory g c = inr (inr (refl, c.tell_no_memory.ensures))
+pub returns-in-Err : goal.returns-in-Err
+returns-in-Err g c = inr (c.in-Err.fault, c.in-Err.ensures.lost, refl, c.tell.ensures)

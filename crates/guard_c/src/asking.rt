@@ -21,11 +21,7 @@ pub(crate) fn route_in(names: &[u8]) -> Option<Route>
     if !body.message_octets.is_empty() {
         return None;
     }
-    Some(Route {
-        from: body.sender,
-        to: body.receiver,
-        message: body.name,
-    })
+    Some(guard_frames::route_of(&body))
 }
 
 /// The route of a message from a sender to a receiver under a name; None where one of the three is no name.

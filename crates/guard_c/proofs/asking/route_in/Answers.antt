@@ -15,4 +15,4 @@ returns-then-not-is_empty c route are =
 pub returns : goal.returns
 returns c =
     let none : length c.in_ok-body.body.message_octets.now ≡ 0 = search rules in
-    are_names c.args.names.now (body_view c.in_ok-body.body) c.in_ok-body.ensures (empty_list c.in_ok-body.body.message_octets.now none)
+    rw c.route_of.ensures (are_names c.args.names.now (body_view c.in_ok-body.body) c.in_ok-body.ensures (empty_list c.in_ok-body.body.message_octets.now none))

@@ -2,6 +2,7 @@
 
 import argparse
 import json
+import signal
 import sys
 import threading
 from pathlib import Path
@@ -137,6 +138,8 @@ def run(words: argparse.Namespace) -> int:
 
 def main() -> int:
     """Runs the command line in a thread whose stack is large enough for nested types."""
+    if hasattr(signal, "SIGPIPE"):
+        signal.signal(signal.SIGPIPE, signal.SIG_DFL)  # where nobody reads on, as behind `| head`, this ends
     words = parser().parse_args()
     statuses: list[int] = []
 

@@ -38,6 +38,7 @@ class Outputs:
         self.empty: set[tuple[ListOf, Scope]] = set()
         self.holes: dict[str, Change] = {}
         self.left: dict[str, dict[Change, None]] = {}
+        self.once: dict[object, Change] = {}
 
     # types
 
@@ -347,10 +348,12 @@ class Outputs:
     def note(
         self, site: Site, node: Node, step: str, why: str, mark: str = SAME, new: str = "", old: str | None = None
     ) -> None:
-        """Writes a change down for the output that is made; SAME leaves values and encodings as they are."""
+        """Writes a change down for the output that is made; SAME leaves values and encodings as they are. Outputs of
+        one definition share the changes in which they are alike."""
         original = node.text() if old is None else old
         key = (site.place, node.source, node.a, step, original, mark)
-        self.here.changes.setdefault(key, Change(site.place, node, step, why, mark, original, new))
+        change = self.once.setdefault((key, why, new), Change(site.place, node, step, why, mark, original, new))
+        self.here.changes.setdefault(key, change)
 
     def renamed(self, node: Definition | Item | Component, site: Site, name: str) -> list[Edit]:
         """What writes another name at the beginning of a node, where its own isn't that."""
@@ -367,13 +370,16 @@ class Outputs:
         self.here.uses, self.here.changes, self.here.imports = mark
 
     def hole(self, site: Site, node: Node, kind: str, why: str, candidates: Iterable[Typed] = ()) -> CannotGo:
-        cause = self.holes.setdefault(str(site.place), Change(site.place, node, kind, why))
+        stop = self.stop(site.place, node, kind, why)
+        hole = self.holes.setdefault(str(site.place), stop.causes[0])
         texts = [self.full_text(there, tree) for there, tree in candidates]
-        cause.candidates = list(dict.fromkeys(cause.candidates + texts))
-        return CannotGo([cause])
+        hole.candidates = list(dict.fromkeys(hole.candidates + texts))
+        return stop
 
     def stop(self, place: Place, node: Node, kind: str, why: str, ends: bool = False) -> CannotGo:
-        return CannotGo([Change(place, node, kind, why)], ends)
+        """Why a part can't go. A part that is lowered again, as at another depth of a recursion, with other parameters
+        or into a module beside, has the cause that it had."""
+        return CannotGo([self.once.setdefault((place, kind, why), Change(place, node, kind, why))], ends)
 
     def unless_left_out(self, site: Site, node: Node, fixed: str, make: Callable[[], Lowered]) -> Lowered | CannotGo:
         """What is made of a part; or why it is left out, where nothing says that it has to be there (`fixed`)."""

@@ -152,13 +152,14 @@ class Result:
 
     def collect(self) -> None:
         """Numbers the changes that messages reach, and joins their marks."""
-        self.changes = [change for text in self.texts for out in text.outputs for change in out.changes.values()]
-        self.changes.sort(key=lambda change: tuple(where(change).values()))
+        found = dict.fromkeys(one for text in self.texts for out in text.outputs for one in out.changes.values())
+        self.changes = sorted(found, key=lambda change: tuple(where(change).values()))
         for number, change in enumerate(self.changes, 1):
             change.number, change.signed = number, self.job.bindings.signs(change)
         for message in self.messages:
             if message.out is not None:
-                message.changes = [one for out in reached([message.out]) for one in out.changes.values()]
+                reach = (one for out in reached([message.out]) for one in out.changes.values())
+                message.changes = list(dict.fromkeys(reach))
                 marks = {MARKS.index(change.mark) for change in message.changes}
                 message.mark = MARKS[min(sum(marks), 3)]  # tighter (1) and looser (2) make neither (3)
 

@@ -4,6 +4,10 @@ from __future__ import annotations
 
 import contextlib
 import io
+import os
+import signal
+import subprocess
+import sys
 import tempfile
 import unittest
 from pathlib import Path
@@ -266,6 +270,18 @@ class Says(Case):
         with contextlib.redirect_stdout(io.StringIO()) as told, contextlib.redirect_stderr(io.StringIO()) as said:
             status = main.run(main.parser().parse_args([*words, *files]))
         return status, told.getvalue(), said.getvalue()
+
+    def test_output_that_nobody_reads(self) -> None:
+        """Behind `| head` it ends by SIGPIPE, once all is written."""
+        reads, writes = os.pipe()
+        os.close(reads)
+        with tempfile.TemporaryDirectory() as folder, open(writes, "w", encoding="utf-8") as writer:
+            Path(folder, "a.asn1").write_text(self.text("A ::= NULL"))
+            words = [sys.executable, "-B", str(Path(main.__file__).with_name("derguard-lower"))]
+            words += ["--message", "A", "-o", f"{folder}/o", f"{folder}/a.asn1"]
+            done = subprocess.run(words, stdout=writer, stderr=subprocess.PIPE, text=True, check=False)
+            self.assertTrue(Path(folder, "o", "lowering.json").is_file())
+        self.assertEqual((done.returncode, done.stderr), (-signal.SIGPIPE, ""))
 
     def nested(self, more: int) -> str:
         """A nests 22 deep down to a CHOICE in a list, and behind that `more` levels that can be left out."""

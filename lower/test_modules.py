@@ -71,6 +71,82 @@ class Holes(Case):
             lower([self.text("A ::= SEQUENCE {a ANY}")], "A", '[bind]\n"A.a" = "leave-out"')
 
 
+class Once(Case):
+    """The reports list a cause and a change once with their place, however often what has them is lowered."""
+
+    left = "the bindings leave it out"
+    vendor = "vendor [5] OPEN.&Type"
+
+    def causes(self, body: str, toml: str = "", names: str = "A", leave: bool = False) -> list[tuple[str, str]]:
+        """The places and causes of what can't go, whatever tags are; no line of the reports is there twice."""
+        told: list[list[tuple[str, str]]] = []
+        for tags in ("EXPLICIT", "IMPLICIT", "AUTOMATIC"):
+            result = lower([self.text(f"{body}\nOPEN ::= CLASS {{&Type}}", tags)], names, toml, leave)
+            lines = [line for line in report.as_markdown(result).split("\n") if line.startswith(("- ", "| "))]
+            self.assertEqual(lines, list(dict.fromkeys(lines)), tags)
+            held = json.loads(report.as_json(result))
+            told.append([(cause["place"], cause["cause"]) for cause in held["left_out"]])
+            for message in result.messages:
+                said = [(str(cause.place), cause.why) for cause in message.causes]
+                self.assertEqual(said, list(dict.fromkeys(said)), tags)
+                ids = [change.number for change in message.changes]
+                self.assertEqual(ids, list(dict.fromkeys(ids)), tags)
+        self.assertEqual(told, [told[0]] * len(told))
+        return told[0]
+
+    def test_lists_that_go_to_a_module_beside(self) -> None:
+        """Under AUTOMATIC TAGS a list whose tagged parts went is lowered again, into a module of its own."""
+        forms = ("CHOICE {a NULL, %s}", "SEQUENCE {a NULL, %s OPTIONAL}", "SET {a NULL, %s OPTIONAL}")
+        for form in (form % self.vendor for form in forms):
+            found = self.causes(f"A ::= {form}", '[bind]\n"A.vendor" = "leave-out"')
+            self.assertEqual(found, [("M.A.vendor", self.left)], form)
+            nested = f"A ::= SEQUENCE {{b [0] SEQUENCE OF {form}}}"
+            found = self.causes(nested, '[bind]\n"A.b.*.vendor" = "leave-out"')
+            self.assertEqual(found, [("M.A.b.*.vendor", self.left)], nested)
+
+    def test_definitions_with_parameters(self) -> None:
+        head = "A ::= SEQUENCE {p [0] P{NULL}, q [1] P{INTEGER}}\nP{T} ::= "
+        for form, place in (
+            (f"CHOICE {{t [0] T, {self.vendor}}}", "P.vendor"),
+            (f"SEQUENCE {{t [0] T, {self.vendor} OPTIONAL}}", "P.vendor"),
+            ("SET {t [0] T, l [1] SEQUENCE OF OPEN.&Type}", "P.l.*"),
+        ):
+            found = self.causes(head + form, f'[bind]\n"{place}" = "leave-out"')
+            self.assertEqual(found, [(f"M.{place}", self.left)], form)
+        found = self.causes(f"{head}SEQUENCE {{t [0] T, {self.vendor}, n [n] NULL}}")
+        wanted = [("M.P.vendor", "OPEN . &Type holds a value of any type"), ("M.P.n", "n isn't defined in M")]
+        self.assertEqual(found, wanted)
+
+    def test_recursions(self) -> None:
+        toml = '[bind]\n"A.vendor" = "leave-out"'
+        found = self.causes(f"A ::= CHOICE {{a [0] NULL, l [1] SEQUENCE OF A, {self.vendor}}}", toml)
+        self.assertEqual(found, [("M.A.vendor", self.left)])
+        body = "A ::= SEQUENCE {a [0] A OPTIONAL, b [1] B OPTIONAL}\nB ::= SEQUENCE {x NULL y NULL}"
+        self.assertEqual(self.causes(body, leave=True), [("M.B", "a comma is missing before y")])
+
+    def test_components_of(self) -> None:
+        body = "A ::= SEQUENCE {x NULL, COMPONENTS OF B, y B}\nB ::= SEQUENCE {p NULL, vendor OPEN.&Type OPTIONAL}"
+        self.assertEqual(self.causes(body, '[bind]\n"B.vendor" = "leave-out"'), [("M.B.vendor", self.left)])
+
+    def test_each_use_has_its_own_cause(self) -> None:
+        """What two uses of a place lack is told of both, and of each message what it lacks itself."""
+        body = "A ::= P{ANY}\nB ::= P{UTCTime}\nP{T} ::= SEQUENCE {t [0] EXPLICIT T}"
+        first, second = "ANY holds a value of any type", "UTCTime under its universal tag isn't in the profile"
+        self.assertEqual(self.causes(body, names="A B"), [("M.P.t", first), ("M.P.t", second)])
+        messages = lower([self.text(body)], "A B").messages
+        self.assertEqual([[cause.why for cause in one.causes] for one in messages], [[first], [second]])
+
+    def test_counts(self) -> None:
+        """A message's line counts changes as the table lists them: one for each place, of whatever definitions."""
+        body = f"A ::= SEQUENCE {{p [0] P{{NULL}}, q [1] P{{INTEGER}}}}\nP{{T}} ::= SEQUENCE {{t [0] T, {self.vendor} "
+        body += "OPTIONAL, w [6] OPEN.&Type OPTIONAL, ...}\nOPEN ::= CLASS {&Type}"
+        result = lower([self.text(body)], "A", '[bind]\n"P.vendor" = "leave-out"\n"P.w" = "leave-out"')
+        wanted = ["tighter: extension-mark (1 of them)", "tighter: left-out (2 of them)"]
+        self.assertEqual(sorted(result.messages[0].reasons()), wanted)
+        table = report.as_markdown(result).split("## Changes")[1].split("## What")[0]
+        self.assertEqual([table.count(f"| {step} |") for step in ("extension-mark", "left-out")], [1, 2])
+
+
 class Modules(Case):
     def test_imports(self) -> None:
         first = (

@@ -1,5 +1,6 @@
 """How bench/run measures: programs between pipes, the least of several turns, and the room of a process."""
 import os
+import signal
 import subprocess
 import sys
 import time
@@ -14,8 +15,17 @@ SECONDS = float(os.environ.get("BENCH_SECONDS", "0.3"))
 page = []
 
 
+def put(line):
+    """Prints a line. Where nobody reads on, as behind `| head`, the run ends without a word, as if by SIGPIPE."""
+    try:
+        print(line, flush=True)
+    except BrokenPipeError:
+        os.dup2(os.open(os.devnull, os.O_WRONLY), sys.stdout.fileno())
+        sys.exit(128 + signal.SIGPIPE)
+
+
 def say(line=""):
-    print(line, flush=True)
+    put(line)
     page.append(line)
 
 

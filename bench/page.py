@@ -4,7 +4,7 @@ import hashlib
 import os
 import subprocess
 
-from measure import GUARD, TOP, WALK, give_up
+from measure import GUARD, TOP, WALK, give_up, put
 
 
 def program(path):
@@ -59,7 +59,7 @@ def keep(lines, picture):
         file.write("\n".join([HEAD, "", *lines, ""]))
     with open(os.path.join(bench, "figures.svg"), "w") as file:
         file.write(picture)
-    print("bench/run: bench/figures.md and bench/figures.svg have these figures")
+    put("bench/run: bench/figures.md and bench/figures.svg have these figures")
 
 
 def plot(charts):

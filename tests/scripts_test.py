@@ -3,13 +3,17 @@ from __future__ import annotations
 
 import contextlib
 import io
+import os
 import pathlib
+import signal
 import socket
+import subprocess
 import sys
 import unittest
 
 sys.dont_write_bytecode = True
-sys.path.insert(0, str(pathlib.Path(__file__).resolve().parent))
+HERE = pathlib.Path(__file__).resolve().parent
+sys.path.insert(0, str(HERE))
 
 import tally
 import wire
@@ -65,6 +69,53 @@ class Counting(unittest.TestCase):
             counted.runs(lambda: [])
             counted.runs(lambda: wire.by_link(b"\0"))
         self.assertEqual((counted.counts.run, counted.counts.failed), (2, 1))
+
+
+SCRIPT = """
+import subprocess, sys
+from tally import Tally, give_up, status_of, told
+
+def main():
+    tally = Tally("tests/none")
+    try:
+        {}
+        return tally.close()
+    finally:
+        print("cleared up", file=sys.stderr)
+
+sys.exit(status_of(main))
+"""
+
+
+class OutputNobodyReads(unittest.TestCase):
+    def came(self, line: str, unbuffered: str = "", is_read: bool = False) -> tuple[int, list[str]]:
+        """The status of a script that has this line, and what it says of faults."""
+        reads, writes = os.pipe()
+        with open(reads) as reader, open(writes, "w") as writer:
+            if not is_read:
+                reader.close()
+            how = {"cwd": HERE, "env": {**os.environ, "PYTHONUNBUFFERED": unbuffered}}
+            words = [sys.executable, "-B", "-c", SCRIPT.format(line)]
+            done = subprocess.run(words, stdout=writer, stderr=subprocess.PIPE, text=True, **how)
+        return done.returncode, done.stderr.splitlines()
+
+    def test_a_script_clears_up_and_ends_by_sigpipe(self) -> None:
+        for line in ("tally.tried(['wrong'])", "tally.runs(told, None)", "pass", "give_up('a', 'b')"):
+            self.assertEqual(self.came(line), (-signal.SIGPIPE, ["cleared up"]), line)
+        self.assertEqual(self.came("print('a' * 100_000)", "1"), (-signal.SIGPIPE, ["cleared up"]))
+
+    def test_output_that_is_read_and_other_pipes_are_as_ever(self) -> None:
+        self.assertEqual(self.came("pass", is_read=True), (0, ["cleared up"]))
+        self.assertEqual(self.came("tally.tried(['wrong'])", is_read=True), (1, ["cleared up"]))
+        status, lines = self.came("raise BrokenPipeError", is_read=True)
+        self.assertEqual((status, lines[0], lines[-1]), (1, "cleared up", "BrokenPipeError"))
+
+    def test_each_script_ends_so(self) -> None:
+        scripts = [path for path in HERE.iterdir() if path.is_file() and not path.suffix]
+        texts = {path.name: path.read_text() for path in scripts}
+        python = {name: text for name, text in texts.items() if text.startswith("#!/usr/bin/env python3")}
+        self.assertIn("docs", python)
+        self.assertEqual([name for name, text in python.items() if "sys.exit(status_of(main))" not in text], [])
 
 
 if __name__ == "__main__":

@@ -6,6 +6,7 @@ from __future__ import annotations
 
 import pathlib
 import re
+import signal
 import sys
 import traceback
 from collections.abc import Callable, Iterable
@@ -86,3 +87,17 @@ def takes_program(script: str) -> None:
     """Ends the script with one line and a failure where the program isn't built."""
     if not is_built():
         give_up(script, f"{PROGRAM} is not there: make builds it")
+
+
+def status_of(main: Callable[[], int]) -> int:
+    """The status of a script. Where nobody reads on, as behind `| head`, it clears up as after any exception, and ends
+    by SIGPIPE, without a word."""
+    try:
+        try:
+            return main()
+        finally:
+            sys.stdout.flush()
+    except BrokenPipeError:
+        signal.signal(signal.SIGPIPE, signal.SIG_DFL)
+        print(flush=True)
+        raise  # it was another pipe

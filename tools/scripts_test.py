@@ -3,7 +3,10 @@ from __future__ import annotations
 
 import contextlib
 import io
+import os
 import pathlib
+import signal
+import subprocess
 import sys
 import tempfile
 import unittest
@@ -236,6 +239,43 @@ class Graph(unittest.TestCase):
         self.assertEqual(graph.crossings(rows, steps), 1)
         self.assertEqual(graph.crossings(graph.in_order(rows, steps), steps), 0)
         self.assertEqual(graph.apart([0, 0, 5], [2, 2]), [-1, 1, 5])
+
+
+class Closed(io.StringIO):
+    """An output that nobody reads."""
+
+    def write(self, _: str) -> int:
+        raise BrokenPipeError
+
+    def reconfigure(self, **_: str) -> None:
+        pass
+
+
+class OutputNobodyReads(unittest.TestCase):
+    def test_scripts_with_long_output_end_by_sigpipe(self) -> None:
+        for called in ("edits --list", "edits --gate", "claims", "costs", "definitions", "packages", "version"):
+            name, *options = called.split()
+            reads, writes = os.pipe()
+            os.close(reads)
+            words = [TOP / "tools" / name, *options]
+            with open(writes, "w") as writer:
+                done = subprocess.run(words, stdout=writer, stderr=subprocess.PIPE, text=True)
+            self.assertEqual((done.returncode, done.stderr), (-signal.SIGPIPE, ""), called)
+
+    def test_edits_ends_the_command_whose_lines_it_prints(self) -> None:
+        edits = script("tools/edits")
+        with contextlib.redirect_stdout(Closed()), self.assertRaises(BrokenPipeError):
+            with subprocess.Popen(["yes"], stdout=subprocess.PIPE, text=True) as started:
+                list(edits.printed(started))
+        self.assertEqual(started.returncode, -signal.SIGTERM)
+
+    def test_quick_ends_what_it_called(self) -> None:
+        quick = script("tools/quick")
+        parts = {"text": lambda: quick.Came(True, "")}
+        with contextlib.redirect_stdout(Closed()), mock.patch("sys.argv", ["quick", "text"]), \
+                mock.patch.multiple(quick, PARTS=parts, ended=mock.DEFAULT) as ends:
+            quick.main()
+        ends["ended"].assert_called_once_with(signal.SIGPIPE, None)
 
 
 if __name__ == "__main__":

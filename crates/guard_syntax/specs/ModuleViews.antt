@@ -1,5 +1,6 @@
 -- Which trees of the definitions the code's trees are: modules.
 use Rattle.std.specs.Prelude.{List, Vec, map, Option, Some, None}
+use Rattle.std.specs.Global.{Box}
 use Rattle.guard_syntax.specs.Trees.{WrittenValue, WrittenIdentifierPart, bare_name, arc_part, WrittenSymbol, WrittenExports, all_exported, exported, WrittenImport, WrittenAssignment, WrittenModule}
 use Rattle.guard_syntax.specs.Views.{arc_view, value_view}
 use Rattle.guard_syntax.specs.TypeViews.{type_view}
@@ -44,9 +45,9 @@ abbrev pub imports_view : {Z : Type 0} → Option (Vec ImportTree Z) → Option 
 imports_view None = None
 imports_view (Some all) = Some (map import_view all.items)
 
-abbrev pub perhaps_value_view : Option ValueTree → Option WrittenValue
+abbrev pub perhaps_value_view : Option (Box ValueTree) → Option WrittenValue
 perhaps_value_view None = None
-perhaps_value_view (Some v) = Some (value_view v)
+perhaps_value_view (Some v) = Some (value_view v.value)
 
 abbrev pub assignment_view : Assignment → WrittenAssignment
 assignment_view a =

@@ -38,7 +38,7 @@ of_constraint_view (Some c) = Some (record { site = c.site; size = c.size; const
 abbrev pub presence_view : PresenceTree → WrittenPresence
 presence_view presence.Mandatory = mandatory
 presence_view presence.Optional = optional
-presence_view (presence.Default v) = default (value_view v)
+presence_view (presence.Default v) = default (value_view v.value)
 
 -- one level of each, with the types inside already seen
 abbrev pub base_step : BaseTree-F WrittenBase WrittenComponentForm WrittenAlternative WrittenComponent WrittenType

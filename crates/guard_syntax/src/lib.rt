@@ -13,7 +13,7 @@
 //! | Which token is the site of a node? | `specs/Sites.antt` |
 //! | How is a module read, or a value alone? | `module.rt`, `imports.rt`, `module_identifiers.rt`; `specs/inside/ReadModule.antt` |
 //! | How is a type read? | `types.rt`, `tags.rt`, `named_numbers.rt`; `specs/inside/ReadTypes.antt` |
-//! | How are constraints and sets read? | `sets.rt`, `join_marks.rt`, `ranges.rt`; `specs/inside/ReadSets.antt` |
+//! | How are constraints and sets read? | `sets.rt`, `joined_sets.rt`, `join_marks.rt`, `ranges.rt`; `specs/inside/ReadSets.antt` |
 //! | How is a value read? | `values.rt`, `numbers.rt`; `specs/inside/ReadValues.antt` |
 //! | How is one token read? | `cursor.rt`; `specs/inside/ReadTokens.antt` |
 //! | Which integer is written? | `number_values.rt`; `specs/Numbers.antt` |
@@ -28,6 +28,7 @@ mod fault;
 mod fault_of_failure;
 mod imports;
 mod join_marks;
+mod joined_sets;
 pub mod laws;
 mod module;
 mod module_identifiers;
@@ -51,6 +52,6 @@ pub use tree::{
     ComponentConsTree, ConsTree, DifferenceTree, ElementForm, ElementTree, EndForm, EndTree,
     EntryTree, ExportsTree, ImportTree, IntersectionTree, ItemTree, JoinMark, JoinedDifference,
     JoinedIntersection, Module, NameTree, NamedTree, NumberTree, OfConsTree, PartTree, PlainType,
-    PresenceTree, PresenceWord, RangeTree, SetForm, SetTree, StringKind, SymbolKind, SymbolTree,
-    TagClass, TagDefault, TagMode, TagTree, TypeTree, ValueForm, ValueTree,
+    PresenceTree, PresenceWord, RangeTree, SetTree, StringKind, SymbolKind, SymbolTree, TagClass,
+    TagDefault, TagMode, TagTree, TypeTree, ValueForm, ValueTree,
 };

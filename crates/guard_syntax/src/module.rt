@@ -18,6 +18,7 @@ use crate::types::type_tree;
 use crate::values::value;
 use guard_lexer::{Mark, Reserved, TokenKind};
 use std::alloc::Global;
+use std::boxed::Box;
 
 /// How many other types, values and sets one of them may be inside.
 const MOST_OTHERS: u8 = 128;
@@ -110,6 +111,7 @@ fn assignments<'a, 't>(alloc: Global, at: Cursor<'a, 't>) -> Read<'a, 't, Vec<As
     let mut rest = at;
     for _ in 0..at.len() {
         if rest.begins_with(TokenKind::Reserved(Reserved::End)) {
+            all.shrink_to_fit();
             return Ok((all, rest));
         }
         let (one, next) = assignment(alloc, rest)?;
@@ -163,6 +165,7 @@ fn value_assignment<'a, 't>(alloc: Global, at: Cursor<'a, 't>) -> Read<'a, 't, A
     let (ty, rest) = type_tree(alloc, levels(), rest)?;
     let rest = rest.after(TokenKind::Mark(Mark::Assignment))?;
     let (value, rest) = value(alloc, levels(), rest)?;
+    let value = Box::new(alloc, value)?;
     Ok((
         Assignment {
             site: at.site(),

@@ -48,6 +48,7 @@ fn some_named<'a, 't>(
         let (one, next) = named(signed, rest)?;
         all.push(one)?;
         if !next.begins_with(TokenKind::Mark(Mark::Comma)) {
+            all.shrink_to_fit();
             return Ok((all, next));
         }
         rest = next.behind();
@@ -99,6 +100,7 @@ fn some_items<'a, 't>(alloc: Global, at: Cursor<'a, 't>) -> Read<'a, 't, Vec<Ite
         let (one, next) = item(rest)?;
         all.push(one)?;
         if !next.begins_with(TokenKind::Mark(Mark::Comma)) {
+            all.shrink_to_fit();
             return Ok((all, next));
         }
         rest = next.behind();

@@ -5,19 +5,20 @@ ghost use Rattle.guard_syntax.specs.inside.ReadTokens as tokens_reading;
 ghost use Rattle.guard_syntax.specs.inside.Cursors.{ahead, Reads, each_view, boxed_view};
 ghost use Rattle.guard_syntax.specs.inside.ReadValues.{read_value};
 ghost use Rattle.guard_syntax.specs.inside.ReadSets as reading;
-ghost use Rattle.guard_syntax.specs.SetViews.{site_of_element, site_of_difference, element_form_view, element_view};
-ghost use Rattle.guard_syntax.specs.SetViews.{perhaps_element_view, difference_view, joined_difference_view};
-ghost use Rattle.guard_syntax.specs.SetViews.{intersection_view, joined_intersection_view, set_form_view, set_view};
-ghost use Rattle.guard_syntax.specs.SetViews.{constraint_view, perhaps_constraint_view, part_view};
+ghost use Rattle.guard_syntax.specs.SetViews.{site_of_element, site_of_difference, site_of_intersection};
+ghost use Rattle.guard_syntax.specs.SetViews.{element_form_view, element_view, perhaps_element_view, difference_view};
+ghost use Rattle.guard_syntax.specs.SetViews.{joined_difference_view, intersection_view, joined_intersection_view};
+ghost use Rattle.guard_syntax.specs.SetViews.{set_view, constraint_view, perhaps_constraint_view, part_view};
 
 use crate::cursor::{Cursor, Read};
 use crate::join_marks::{
     begins_intersection_mark, begins_union_mark, intersection_mark, union_mark,
 };
+use crate::joined_sets::{joined_to_difference, joined_to_intersection};
 use crate::ranges::{begins_range, range};
 use crate::tree::{
     ComponentConsTree, ConsTree, DifferenceTree, ElementForm, ElementTree, IntersectionTree,
-    JoinedDifference, JoinedIntersection, NameTree, PresenceWord, SetForm, SetTree,
+    JoinedDifference, JoinedIntersection, NameTree, PresenceWord, SetTree,
 };
 use crate::values::{begins_value, value};
 use guard_lexer::{Mark, Reserved, TokenKind};
@@ -72,7 +73,6 @@ fn set<'a, 't>(alloc: Global, levels: u8, at: Cursor<'a, 't>) -> Read<'a, 't, Bo
 }
 
 #[cycle(sets)]
-#[tactic(auto, unfolding(crate::specs::inside::ReadSets::read_inner_set))]
 fn inner_set<'a, 't>(
     alloc: Global,
     levels: u8,
@@ -81,26 +81,26 @@ fn inner_set<'a, 't>(
     ensures { Reads (boxed_view set_view) result
         (reading.read_inner_set (read_value levels) (reading.read_set levels) (ahead at.entry)) }
 {
-    let (form, rest) = set_form(alloc, levels, at)?;
-    let site = at.site();
-    Ok((Box::new(alloc, SetTree { site, form })?, rest))
+    let (tree, rest) = set_tree(alloc, levels, at)?;
+    Ok((Box::new(alloc, tree)?, rest))
 }
 
 #[cycle(sets)]
-#[tactic(auto, unfolding(crate::specs::inside::ReadSets::read_set_form, crate::specs::inside::ReadSets::read_all_except, crate::specs::inside::ReadSets::read_union))]
-fn set_form<'a, 't>(alloc: Global, levels: u8, at: Cursor<'a, 't>) -> Read<'a, 't, SetForm<'a>>
-    ensures { Reads set_form_view result
-        (reading.read_set_form (read_value levels) (reading.read_set levels) (ahead at.entry)) }
+#[tactic(auto, unfolding(crate::specs::inside::ReadSets::read_inner_set, crate::specs::inside::ReadSets::read_set_form, crate::specs::inside::ReadSets::read_all_except, crate::specs::inside::ReadSets::read_union))]
+fn set_tree<'a, 't>(alloc: Global, levels: u8, at: Cursor<'a, 't>) -> Read<'a, 't, SetTree<'a>>
+    ensures { Reads set_view result
+        (reading.read_inner_set (read_value levels) (reading.read_set levels) (ahead at.entry)) }
 {
     if at.begins_with(TokenKind::Reserved(Reserved::All)) {
         let rest = at.after(TokenKind::Reserved(Reserved::All))?;
         let rest = rest.after(TokenKind::Reserved(Reserved::Except))?;
         let (element, rest) = element(alloc, levels, rest)?;
-        return Ok((SetForm::AllExcept(element), rest));
+        let element = Box::new(alloc, element)?;
+        return Ok((SetTree::AllExcept(at.site(), element), rest));
     }
     let (first, rest) = intersection(alloc, levels, at)?;
     let (others, rest) = joined_intersections(alloc, levels, rest)?;
-    Ok((SetForm::Union(Box::new(alloc, first)?, others), rest))
+    Ok((joined_to_intersection(alloc, first, others)?, rest))
 }
 
 /// The further intersections of a union. Each takes a token, so there are no more than tokens.
@@ -115,10 +115,11 @@ fn joined_intersections<'a, 't>(
         (reading.read_joined_intersection (read_value levels) (reading.read_set levels)) (length (ahead at.entry))
         (ahead at.entry)) }
 {
-    let mut all = Vec::new(alloc);
+    let mut all = Vec::with_capacity(alloc, usize::from(begins_union_mark(at)))?;
     let mut rest = at;
     for _ in 0..at.len() {
         if !begins_union_mark(rest) {
+            all.shrink_to_fit();
             return Ok((all, rest));
         }
         let (one, next) = joined_intersection(alloc, levels, rest)?;
@@ -150,12 +151,14 @@ fn intersection<'a, 't>(
     levels: u8,
     at: Cursor<'a, 't>,
 ) -> Read<'a, 't, IntersectionTree<'a>>
-    ensures { Reads intersection_view result
+    ensures tree { Reads intersection_view result
         (reading.read_intersection (read_value levels) (reading.read_set levels) (ahead at.entry)) }
+    ensures site { IfOk result (λ i. site_of_intersection (intersection_view i.0)
+        ≡ tokens_reading.site_at (ahead at.entry)) }
 {
     let (first, rest) = difference(alloc, levels, at)?;
     let (others, rest) = joined_differences(alloc, levels, rest)?;
-    Ok((IntersectionTree { first, others }, rest))
+    Ok((joined_to_difference(alloc, first, others)?, rest))
 }
 
 /// The further differences of an intersection. Each takes a token, so there are no more than tokens.
@@ -170,10 +173,11 @@ fn joined_differences<'a, 't>(
         (reading.read_joined_difference (read_value levels) (reading.read_set levels)) (length (ahead at.entry))
         (ahead at.entry)) }
 {
-    let mut all = Vec::new(alloc);
+    let mut all = Vec::with_capacity(alloc, usize::from(begins_intersection_mark(at)))?;
     let mut rest = at;
     for _ in 0..at.len() {
         if !begins_intersection_mark(rest) {
+            all.shrink_to_fit();
             return Ok((all, rest));
         }
         let (one, next) = joined_difference(alloc, levels, rest)?;
@@ -260,7 +264,7 @@ fn element_form<'a, 't>(
     } else if at.begins_with(TokenKind::Reserved(Reserved::Includes))
         || at.begins_with(TokenKind::UpperName)
     {
-        contained(at)
+        contained(alloc, at)
     } else if at.begins_with(TokenKind::Reserved(Reserved::Size)) {
         let (inside, rest) = constraint(alloc, levels, at.behind())?;
         Ok((ElementForm::Size(Box::new(alloc, inside)?), rest))
@@ -287,22 +291,20 @@ fn range_or_value<'a, 't>(
         Ok((ElementForm::Range(Box::new(alloc, range)?), rest))
     } else {
         let (value, rest) = value(alloc, levels, at)?;
-        Ok((ElementForm::Value(value), rest))
+        Ok((ElementForm::Value(Box::new(alloc, value)?), rest))
     }
 }
 
 #[tactic(auto, unfolding(crate::specs::inside::ReadSets::read_contained))]
-fn contained<'a, 't>(at: Cursor<'a, 't>) -> Read<'a, 't, ElementForm<'a>>
+fn contained<'a, 't>(alloc: Global, at: Cursor<'a, 't>) -> Read<'a, 't, ElementForm<'a>>
     ensures { Reads element_form_view result (reading.read_contained (ahead at.entry)) }
 {
     let includes = at.begins_with(TokenKind::Reserved(Reserved::Includes));
     let at_name = at.behind_if(includes);
     let (name, rest) = at_name.spelling(TokenKind::UpperName)?;
     let site = at_name.site();
-    Ok((
-        ElementForm::Contained(includes, NameTree { site, name }),
-        rest,
-    ))
+    let name = Box::new(alloc, NameTree { site, name })?;
+    Ok((ElementForm::Contained(includes, name), rest))
 }
 
 #[cycle(sets)]
@@ -353,6 +355,7 @@ fn with_components<'a, 't>(
     let (partial, rest) = partial(rest)?;
     let (parts, rest) = parts(alloc, levels, rest)?;
     let rest = rest.after(TokenKind::Mark(Mark::RightBrace))?;
+    let parts = Box::new(alloc, parts)?;
     Ok((ElementForm::WithComponents(partial, parts), rest))
 }
 
@@ -379,12 +382,13 @@ fn parts<'a, 't>(
     ensures { Reads (each_view part_view) result (tokens_reading.read_parted
         (reading.read_part (reading.read_set levels)) (length (ahead at.entry)) (ahead at.entry)) }
 {
-    let mut all = Vec::new(alloc);
+    let mut all = Vec::with_capacity(alloc, 1)?;
     let mut rest = at;
     for _ in 0..at.len() {
         let (one, next) = part(alloc, levels, rest)?;
         all.push(one)?;
         if !next.begins_with(TokenKind::Mark(Mark::Comma)) {
+            all.shrink_to_fit();
             return Ok((all, next));
         }
         rest = next.behind();

@@ -24,7 +24,7 @@ pub fn tags<'a, 't>(alloc: Global, at: Cursor<'a, 't>) -> Read<'a, 't, Vec<TagTr
     ensures { Reads (each_view tag_view) result
         (tokens_reading.read_each reading.begins_tag reading.read_tag (length (ahead at.entry)) (ahead at.entry)) }
 {
-    let mut all = Vec::new(alloc);
+    let mut all = Vec::with_capacity(alloc, usize::from(begins_tag(at)))?;
     let mut rest = at;
     for _ in 0..at.len() {
         if !begins_tag(rest) {

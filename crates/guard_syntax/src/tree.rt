@@ -1,5 +1,10 @@
 //! Syntax trees. Their names and numbers are parts of the text. Where a form may be spelled in two ways a tree says
-//! which was taken, and each of its nodes has the site of its first token.
+//! which was taken, and each of its nodes has the site of its first token, or begins with a node that has it.
+//!
+//! A text may be nothing but sets in parentheses or braces, so what such a node takes, times the octets of 64 texts, is
+//! what a schema takes: what is large and stands in few nodes is boxed. An enum has a tag of its own, and its first
+//! fields lie beside it. Lists begin with room for one where one is written, since a first push would make room for
+//! four, and at their end they give back what they don't need.
 use guard_model::Site;
 
 /// A module (X.680 13.1).
@@ -97,7 +102,7 @@ pub struct Assignment<'a> {
     /// The type, or the type of the value.
     pub ty: Box<TypeTree<'a>>,
     /// The value of a value assignment. A type assignment has none.
-    pub value: Option<ValueTree<'a>>,
+    pub value: Option<Box<ValueTree<'a>>>,
 }
 
 /// A type (X.680 17.1).
@@ -232,7 +237,7 @@ pub enum PresenceTree<'a> {
     /// Nothing.
     Mandatory,
     Optional,
-    Default(ValueTree<'a>),
+    Default(Box<ValueTree<'a>>),
 }
 
 /// An alternative of a CHOICE (X.680 29.1).
@@ -252,21 +257,14 @@ pub struct ConsTree<'a> {
     pub set: Box<SetTree<'a>>,
 }
 
-/// A set of values (X.680 50.1), with the site of its first token. Where that is a parenthesis, the site is that of the
-/// parenthesis.
+/// A set of values (X.680 50.1). It begins with ALL EXCEPT, or where its first element does.
 #[derive(Drop)]
 #[cycle(sets)]
-pub struct SetTree<'a> {
-    pub site: Site,
-    pub form: SetForm<'a>,
-}
-
-/// What a set of values is made of.
-#[derive(Drop)]
-#[cycle(sets)]
-pub enum SetForm<'a> {
-    /// ALL EXCEPT this element.
-    AllExcept(ElementTree<'a>),
+pub enum SetTree<'a> {
+    /// ALL EXCEPT this element, with the site of the first word.
+    AllExcept(Site, Box<ElementTree<'a>>),
+    /// An element alone, as most sets are: a union of one intersection of one difference without EXCEPT.
+    Alone(ElementTree<'a>),
     /// A union of intersections: the first one and those joined to it, none where the set is that intersection alone.
     Union(Box<IntersectionTree<'a>>, Vec<JoinedIntersection<'a>>),
 }
@@ -279,13 +277,14 @@ pub struct JoinedIntersection<'a> {
     pub part: IntersectionTree<'a>,
 }
 
-/// An intersection of differences (X.680 50.1): the first one and those joined to it, none where the intersection is
-/// that difference alone. An intersection begins where its first difference does.
+/// An intersection of differences (X.680 50.1). It begins where its first element does.
 #[derive(Drop)]
 #[cycle(sets)]
-pub struct IntersectionTree<'a> {
-    pub first: DifferenceTree<'a>,
-    pub others: Vec<JoinedDifference<'a>>,
+pub enum IntersectionTree<'a> {
+    /// An element alone: one difference without EXCEPT.
+    Single(ElementTree<'a>),
+    /// The first difference and those joined to it, none where the intersection is that difference alone.
+    Differences(Box<DifferenceTree<'a>>, Vec<JoinedDifference<'a>>),
 }
 
 /// A difference in an intersection with the mark before it.
@@ -325,12 +324,12 @@ pub struct ElementTree<'a> {
 #[derive(Drop)]
 #[cycle(sets)]
 pub enum ElementForm<'a> {
-    /// A set in parentheses. The inner set's site is that of its own first token.
+    /// A set in parentheses. The inner set begins after the parenthesis.
     Parentheses(Box<SetTree<'a>>),
     /// A single value (X.680 51.2).
-    Value(ValueTree<'a>),
+    Value(Box<ValueTree<'a>>),
     /// A contained subtype: whether INCLUDES is written, and the name of the type (X.680 51.3).
-    Contained(bool, NameTree<'a>),
+    Contained(bool, Box<NameTree<'a>>),
     /// A range of values (X.680 51.4).
     Range(Box<RangeTree<'a>>),
     /// SIZE with the constraint on the size (X.680 51.5).
@@ -340,7 +339,7 @@ pub enum ElementForm<'a> {
     /// WITH COMPONENT with the constraint on each element (X.680 51.8.1).
     WithComponent(Box<ConsTree<'a>>),
     /// WITH COMPONENTS: whether `...` is written first, and the parts in written order, at least one (X.680 51.8.1).
-    WithComponents(bool, Vec<ComponentConsTree<'a>>),
+    WithComponents(bool, Box<Vec<ComponentConsTree<'a>>>),
 }
 
 /// What WITH COMPONENTS says of one component or alternative (X.680 51.8.5).

@@ -175,10 +175,11 @@ fn each_constraint<'a, 't>(
     ensures { Reads (each_view constraint_view) result (tokens_reading.read_each reading.begins_constraint
         (read_constraint (read_set levels)) (length (ahead at.entry)) (ahead at.entry)) }
 {
-    let mut all = Vec::new(alloc);
+    let mut all = Vec::with_capacity(alloc, usize::from(begins_constraint(at)))?;
     let mut rest = at;
     for _ in 0..at.len() {
         if !begins_constraint(rest) {
+            all.shrink_to_fit();
             return Ok((all, rest));
         }
         let (one, next) = constraint(alloc, levels, rest)?;
@@ -358,12 +359,13 @@ fn some_components<'a, 't>(
     ensures { Reads (each_view component_view) result (tokens_reading.read_parted (reading.read_component
         (read_value levels) (reading.read_type levels)) (length (ahead at.entry)) (ahead at.entry)) }
 {
-    let mut all = Vec::new(alloc);
+    let mut all = Vec::with_capacity(alloc, 1)?;
     let mut rest = at;
     for _ in 0..at.len() {
         let (one, next) = component(alloc, levels, rest)?;
         all.push(one)?;
         if !next.begins_with(TokenKind::Mark(Mark::Comma)) {
+            all.shrink_to_fit();
             return Ok((all, next));
         }
         rest = next.behind();
@@ -413,7 +415,7 @@ fn presence<'a, 't>(alloc: Global, levels: u8, at: Cursor<'a, 't>) -> Read<'a, '
         Ok((PresenceTree::Optional, at.behind()))
     } else if at.begins_with(TokenKind::Reserved(Reserved::Default)) {
         let (value, rest) = value(alloc, levels, at.behind())?;
-        Ok((PresenceTree::Default(value), rest))
+        Ok((PresenceTree::Default(Box::new(alloc, value)?), rest))
     } else {
         Ok((PresenceTree::Mandatory, at))
     }
@@ -442,12 +444,13 @@ fn alternatives<'a, 't>(
     ensures { Reads (each_view alternative_view) result (tokens_reading.read_parted
         (reading.read_alternative (reading.read_type levels)) (length (ahead at.entry)) (ahead at.entry)) }
 {
-    let mut all = Vec::new(alloc);
+    let mut all = Vec::with_capacity(alloc, 1)?;
     let mut rest = at;
     for _ in 0..at.len() {
         let (one, next) = alternative(alloc, levels, rest)?;
         all.push(one)?;
         if !next.begins_with(TokenKind::Mark(Mark::Comma)) {
+            all.shrink_to_fit();
             return Ok((all, next));
         }
         rest = next.behind();

@@ -187,13 +187,13 @@ fn some_entries<'a, 't>(
     ensures { Reads (each_view entry_view) result (tokens_reading.read_parted
         (reading.read_entry (reading.read_value levels)) (length (ahead at.entry)) (ahead at.entry)) }
 {
-    // Most lists in braces have one entry, and a first push would make room for four.
     let mut all = Vec::with_capacity(alloc, 1)?;
     let mut rest = at;
     for _ in 0..at.len() {
         let (one, next) = entry(alloc, levels, rest)?;
         all.push(one)?;
         if !next.begins_with(TokenKind::Mark(Mark::Comma)) {
+            all.shrink_to_fit();
             return Ok((all, next));
         }
         rest = next.behind();
@@ -266,6 +266,7 @@ fn all_arcs<'a, 't>(alloc: Global, at: Cursor<'a, 't>) -> Read<'a, 't, Vec<ArcTr
     let mut rest = at;
     for _ in 0..at.len() {
         if rest.begins_with(TokenKind::Mark(Mark::RightBrace)) {
+            all.shrink_to_fit();
             return Ok((all, rest));
         }
         let (one, next) = arc(rest)?;

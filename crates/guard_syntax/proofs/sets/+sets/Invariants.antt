@@ -57,8 +57,8 @@ decreases-joined_intersection l = l.levels * 20 + 14
 abbrev pub decreases-joined_intersections : goal.decreases-joined_intersections
 decreases-joined_intersections l = l.levels * 20 + 15
 
-abbrev pub decreases-set_form : goal.decreases-set_form
-decreases-set_form l = l.levels * 20 + 18
+abbrev pub decreases-set_tree : goal.decreases-set_tree
+decreases-set_tree l = l.levels * 20 + 18
 
 abbrev pub decreases-inner_set : goal.decreases-inner_set
 decreases-inner_set l = l.levels * 20 + 19

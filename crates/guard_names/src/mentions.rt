@@ -17,8 +17,8 @@ use guard_model::Site;
 use guard_syntax::{
     AlternativeTree, Assignment, BaseTree, CompForm, CompTree, ComponentConsTree, ConsTree,
     DifferenceTree, ElementForm, ElementTree, EndForm, EndTree, EntryTree, IntersectionTree,
-    JoinedDifference, JoinedIntersection, OfConsTree, PresenceTree, RangeTree, SetForm, SetTree,
-    SymbolKind, TypeTree, ValueForm, ValueTree,
+    JoinedDifference, JoinedIntersection, OfConsTree, PresenceTree, RangeTree, SetTree, SymbolKind,
+    TypeTree, ValueForm, ValueTree,
 };
 use std::alloc::{AllocError, Global};
 
@@ -162,16 +162,18 @@ fn add_constraint<'a>(
 }
 
 #[cycle(sets)]
+#[tactic(auto, using(crate::proofs::Mentioned::Fronts::in_set_alone))]
 fn add_set<'a>(set: &SetTree<'a>, into: &mut Vec<Mention<'a>>) -> Result<(), AllocError>
     ensures { OnOk result (map mention_view into.new.items ≡ map mention_view into.old.items
         ++ mentions.in_set (set_view set.now)) }
 {
-    match &set.form {
-        SetForm::AllExcept(element) => add_element(element, into),
-        SetForm::Union(first, others) => {
+    match set {
+        SetTree::Alone(element) => add_element(element, into),
+        SetTree::Union(first, others) => {
             add_intersection(first, into)?;
             add_united(others, into)
         }
+        SetTree::AllExcept(_, element) => add_element(element, into),
     }
 }
 
@@ -190,6 +192,7 @@ fn add_united<'a>(
 }
 
 #[cycle(sets)]
+#[tactic(auto, using(crate::proofs::Mentioned::Fronts::in_intersection_alone))]
 fn add_intersection<'a>(
     intersection: &IntersectionTree<'a>,
     into: &mut Vec<Mention<'a>>,
@@ -197,8 +200,13 @@ fn add_intersection<'a>(
     ensures { OnOk result (map mention_view into.new.items ≡ map mention_view into.old.items
         ++ mentions.in_intersection (intersection_view intersection.now)) }
 {
-    add_difference(&intersection.first, into)?;
-    add_met(&intersection.others, into)
+    match intersection {
+        IntersectionTree::Single(element) => add_element(element, into),
+        IntersectionTree::Differences(first, others) => {
+            add_difference(first, into)?;
+            add_met(others, into)
+        }
+    }
 }
 
 #[cycle(sets)]

@@ -1,4 +1,5 @@
--- What is mentioned in a list of parts or of components: what is mentioned in the first one, and in the others.
+-- What is mentioned in a list of parts or of components: what is mentioned in the first one, and in the others. And in an
+-- element alone.
 use Rattle.std.proofs.Common.{◌≡◌, ℕ, List, [], ◌∷◌, ◌++◌, map, Option, Some, None, refl, sym, ◌∙◌, ap, rules}
 use Rattle.std.proofs.lemmas.List.{append-nil}
 use Rattle.guard_model.specs.declared.site.Site.{Site}
@@ -6,9 +7,9 @@ use Rattle.guard_syntax.specs.declared.tree.PresenceWord.{PresenceWord}
 use Rattle.guard_syntax.specs.declared.tree.ComponentConsTree.{ComponentConsTree}
 use Rattle.guard_syntax.specs.declared.tree.ElementForm.TheFolds.{fold_out-ComponentConsTree}
 use Rattle.guard_syntax.specs.declared.tree.ElementForm.TheViews.{out-ComponentConsTree}
-use Rattle.guard_syntax.specs.SetViews.{part_view, perhaps_constraint_view}
-use Rattle.guard_syntax.specs.Trees.{WrittenConstraint, WrittenParts, part_before, parts_of, WrittenComponentForm, named, components_of_type, WrittenComponents, no_components, WrittenComponent, component_before, components_of}
-use Rattle.guard_names.specs.Mentions.{in_parts, in_perhaps_constraint, in_components, in_component}
+use Rattle.guard_syntax.specs.SetViews.{intersection_alone, set_alone, part_view, perhaps_constraint_view}
+use Rattle.guard_syntax.specs.Trees.{WrittenElement, WrittenConstraint, WrittenParts, part_before, parts_of, WrittenComponentForm, named, components_of_type, WrittenComponents, no_components, WrittenComponent, component_before, components_of}
+use Rattle.guard_names.specs.Mentions.{in_set, in_intersection, in_element, in_parts, in_perhaps_constraint, in_components, in_component}
 
 pub in_parts_before : (site : Site) (name : List ℕ) (c : Option WrittenConstraint) (presence : Option PresenceWord) (ps : WrittenParts) → in_parts (part_before site name c presence ps) ≡ in_perhaps_constraint c ++ in_parts ps
 in_parts_before site name None presence ps = refl
@@ -33,3 +34,10 @@ pub in_components_first : (c : WrittenComponent) (cs : List WrittenComponent) �
 in_components_first c cs =
     in_components_before c.site c.form (components_of cs)
     ∙ ap (λ xs. xs ++ in_components (components_of cs)) (sym (in_components_before c.site c.form no_components ∙ append-nil (in_component c.form)))
+
+-- an element alone is an intersection, and a set
+pub in_intersection_alone : (e : WrittenElement) → in_intersection (intersection_alone e) ≡ in_element e
+in_intersection_alone e = append-nil (in_element e)
+
+pub in_set_alone : (e : WrittenElement) → in_set (set_alone e) ≡ in_element e
+in_set_alone e = append-nil (in_intersection (intersection_alone e)) ∙ in_intersection_alone e

@@ -1,11 +1,32 @@
-use Rattle.std.proofs.Common.{◌+◌, map, drop, refl}
+use Rattle.std.proofs.Common.{◌≡◌, ◌+◌, ◌++◌, rules, map, drop, refl, sym, ap, ◌∙◌}
 use Rattle.guard_syntax.specs.Trees.{united_of, met_of, parts_of}
-use Rattle.guard_syntax.specs.SetViews.{joined_intersection_view, joined_difference_view, part_view}
+use Rattle.guard_syntax.specs.SetViews.{set_of, intersection_of, set_view, intersection_view, difference_view, joined_intersection_view, joined_difference_view, part_view}
 use Rattle.guard_syntax.specs.declared.tree.ElementForm.TheFolds.{fold_out-JoinedIntersection, fold_out-JoinedDifference}
+use Rattle.guard_syntax.specs.declared.tree.ElementForm.{the_lemmas as tree_lemmas}
 use Rattle.guard_names.specs.Mentions as mentions
 use Rattle.guard_names.proofs.Mentioned.Fronts.{in_parts_first}
-use Rattle.guard_names.proofs.Mentioned.Gathering.{one_more, all_gathered}
+use Rattle.guard_names.proofs.Mentioned.Gathering.{one_more, all_gathered, one_after_other}
 use Rattle.guard_names.proofs.mentions.+sets.Goals as goal
+
+pub add_set-add_united-requires : goal.add_set-add_united-requires
+add_set-add_united-requires t c = rw c.deref-in-Union.ensures.value (search (rules, tree_lemmas))
+
+pub add_set-returns-in_ok-add_intersection-in-Union : goal.add_set-returns-in_ok-add_intersection-in-Union
+add_set-returns-in_ok-add_intersection-in-Union t c =
+    let first = intersection_view c.in-Union.first.value in
+    let others = map joined_intersection_view c.in-Union.others.items in
+    let e : set_view c.args.set.now ≡ set_of first others = search (rules, tree_lemmas) in
+    rw e (one_after_other _ _ _ _ _ _ (rw c.deref.ensures at c.in_ok-add_intersection-in-Union.ensures) (rw c.deref-in-Union.ensures.value at c.add_united.ensures))
+
+pub add_intersection-add_met-requires : goal.add_intersection-add_met-requires
+add_intersection-add_met-requires t c = rw c.deref-in-Differences.ensures.value (search (rules, tree_lemmas))
+
+pub add_intersection-returns-in_ok-add_difference-in-Differences : goal.add_intersection-returns-in_ok-add_difference-in-Differences
+add_intersection-returns-in_ok-add_difference-in-Differences t c =
+    let first = difference_view c.in-Differences.first.value in
+    let others = map joined_difference_view c.in-Differences.others.items in
+    let e : intersection_view c.args.intersection.now ≡ intersection_of first others = search (rules, tree_lemmas) in
+    rw e (one_after_other _ _ _ _ _ _ (rw c.deref.ensures at c.in_ok-add_difference-in-Differences.ensures) (rw c.deref-in-Differences.ensures.value at c.add_met.ensures))
 
 pub add_united-loop-joined-init : goal.add_united-loop-joined-init
 add_united-loop-joined-init t c = refl

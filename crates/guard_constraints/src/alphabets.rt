@@ -15,8 +15,7 @@ use crate::fault::ConsFault;
 use guard_model::{CharKind, Cons, Kind, Rule, Site, Ty};
 use guard_syntax::{
     ConsTree, DifferenceTree, ElementForm, ElementTree, EndForm, EndTree, IntersectionTree,
-    JoinedDifference, JoinedIntersection, RangeTree, SetForm, SetTree, StringKind, ValueForm,
-    ValueTree,
+    JoinedDifference, JoinedIntersection, RangeTree, SetTree, StringKind, ValueForm, ValueTree,
 };
 use guard_values::{ValueFault, quoted};
 use std::alloc::{AllocError, Global};
@@ -68,7 +67,7 @@ pub fn alphabet(alloc: Global, tree: &ConsTree, site: Site, ty: &Ty) -> Result<C
 // ---- the form: what is written there, after the items before it
 
 #[cycle(alphabet_forms)]
-#[tactic(auto, unfolding(crate::specs::PermittedAlphabets::items_of))]
+#[tactic(auto, using(crate::proofs::CodeSteps::AlphabetForms::items_of_set_alone), unfolding(crate::specs::PermittedAlphabets::items_of))]
 fn in_set(
     alloc: Global,
     set: &SetTree,
@@ -78,9 +77,10 @@ fn in_set(
     ensures { Gives (λ v. map item_view v.items) named result
         (gathered site (map item_view items.items) (alphabets.items_of (sets.set_view set.now))) }
 {
-    match &set.form {
-        SetForm::AllExcept(_) => Err(ConsFault::AlphabetForm(site)),
-        SetForm::Union(first, others) => {
+    match set {
+        SetTree::AllExcept(_, _) => Err(ConsFault::AlphabetForm(site)),
+        SetTree::Alone(element) => in_element(alloc, element, site, items),
+        SetTree::Union(first, others) => {
             let items = in_intersection(alloc, first, site, items)?;
             in_united(alloc, others, site, items)
         }
@@ -116,11 +116,16 @@ fn in_intersection(
     ensures { Gives (λ v. map item_view v.items) named result (gathered site (map item_view items.items)
         (alphabets.items_of_intersection (sets.intersection_view tree.now))) }
 {
-    let others: &[JoinedDifference] = &tree.others;
-    if !others.is_empty() {
-        return Err(ConsFault::AlphabetForm(site));
+    match tree {
+        IntersectionTree::Single(element) => in_element(alloc, element, site, items),
+        IntersectionTree::Differences(first, others) => {
+            let others: &[JoinedDifference] = others;
+            if !others.is_empty() {
+                return Err(ConsFault::AlphabetForm(site));
+            }
+            in_difference(alloc, first, site, items)
+        }
     }
-    in_difference(alloc, &tree.first, site, items)
 }
 
 #[cycle(alphabet_forms)]

@@ -31,7 +31,7 @@ use guard_model::{Cons, Part, Rule, Site, Ty};
 use guard_names::{Id, Names};
 use guard_syntax::{
     ComponentConsTree, ConsTree, DifferenceTree, ElementForm, ElementTree, IntersectionTree,
-    JoinedDifference, JoinedIntersection, SetForm, SetTree, ValueTree,
+    JoinedDifference, JoinedIntersection, SetTree, ValueTree,
 };
 use guard_values::{Known, Scope};
 use std::alloc::{AllocError, Global};
@@ -88,7 +88,7 @@ fn on_type(alloc: Global, scope: Scope, tree: &ConsTree, ty: &Ty) -> Result<Cons
 }
 
 #[cycle(sets)]
-#[tactic(auto, unfolding(crate::specs::inside::Reading::read))]
+#[tactic(auto, using(crate::proofs::CodeSteps::JoinedConstraints::set_alone), unfolding(crate::specs::inside::Reading::read))]
 fn set(
     alloc: Global,
     scope: Scope,
@@ -103,15 +103,16 @@ fn set(
         (reading.read_set (visible_in scope.entry) (type_view ty.now) (views.set_view tree.now)) }
     ensures agreed { AreAgreed scope.entry.known.now (type_view ty.now) agreed.new }
 {
-    match &tree.form {
-        SetForm::AllExcept(other) => {
-            let other = element(alloc, scope, other, ty, agreed)?;
-            Ok(all_except(alloc, tree.site, other)?)
-        }
-        SetForm::Union(first, others) => {
+    match tree {
+        SetTree::Alone(only) => element(alloc, scope, only, ty, agreed),
+        SetTree::Union(first, others) => {
             let first = intersection(alloc, scope, first, ty, agreed)?;
             let others = united(alloc, scope, others, ty, agreed)?;
-            Ok(joined(alloc, Join::Union, tree.site, first, others)?)
+            Ok(joined(alloc, Join::Union, tree.site(), first, others)?)
+        }
+        SetTree::AllExcept(site, other) => {
+            let other = element(alloc, scope, other, ty, agreed)?;
+            Ok(all_except(alloc, *site, other)?)
         }
     }
 }
@@ -204,7 +205,7 @@ fn united(
 }
 
 #[cycle(sets)]
-#[tactic(auto, unfolding(crate::specs::inside::Reading::read))]
+#[tactic(auto, using(crate::proofs::CodeSteps::JoinedConstraints::intersection_alone), unfolding(crate::specs::inside::Reading::read))]
 fn intersection(
     alloc: Global,
     scope: Scope,
@@ -219,10 +220,14 @@ fn intersection(
         (reading.read_intersection (visible_in scope.entry) (type_view ty.now) (views.intersection_view tree.now)) }
     ensures agreed { AreAgreed scope.entry.known.now (type_view ty.now) agreed.new }
 {
-    let site = tree.first.element.site;
-    let first = difference(alloc, scope, &tree.first, ty, agreed)?;
-    let others = met(alloc, scope, &tree.others, ty, agreed)?;
-    Ok(joined(alloc, Join::Intersection, site, first, others)?)
+    match tree {
+        IntersectionTree::Single(only) => element(alloc, scope, only, ty, agreed),
+        IntersectionTree::Differences(first, others) => {
+            let first = difference(alloc, scope, first, ty, agreed)?;
+            let others = met(alloc, scope, others, ty, agreed)?;
+            Ok(joined(alloc, Join::Intersection, tree.site(), first, others)?)
+        }
+    }
 }
 
 /// The differences that are joined to the first one of an intersection.

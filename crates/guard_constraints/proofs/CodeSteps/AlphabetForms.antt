@@ -10,12 +10,12 @@ use Rattle.guard_model.specs.Answer.{Refuses}
 use Rattle.guard_values.specs.Strings.{quoted}
 use Rattle.guard_constraints.specs.declared.fault.ConsFault.{ConsFault}
 use Rattle.guard_syntax.specs.Trees as written
-use Rattle.guard_syntax.specs.Trees.{WrittenUnited, WrittenIntersection, WrittenDifference, united_of, met_of}
-use Rattle.guard_syntax.specs.SetViews.{joined_intersection_view, joined_difference_view}
+use Rattle.guard_syntax.specs.Trees.{WrittenUnited, WrittenIntersection, WrittenDifference, WrittenElement, united_of, met_of}
+use Rattle.guard_syntax.specs.SetViews.{joined_intersection_view, joined_difference_view, set_alone}
 use Rattle.guard_syntax.specs.declared.tree.JoinedIntersection.{JoinedIntersection}
 use Rattle.guard_syntax.specs.declared.tree.JoinedDifference.{JoinedDifference}
 use Rattle.guard_constraints.specs.declared.fault.ConsFault.TheVariants.{AlphabetForm}
-use Rattle.guard_constraints.specs.PermittedAlphabets.{AlphabetItem, character, one_alone, items_of, items_of_form, items_of_united, items_of_intersection, items_of_difference, joined_items, quoted_codes}
+use Rattle.guard_constraints.specs.PermittedAlphabets.{AlphabetItem, character, one_alone, items_of, items_of_form, items_of_united, items_of_intersection, items_of_difference, items_of_element, joined_items, quoted_codes}
 use Rattle.guard_constraints.proofs.CodeSteps.KeptTrees.{next_united, none_united_left}
 use Rattle.guard_constraints.specs.inside.Reading.{Read, found, gathered}
 use Rattle.guard_model.proofs.Results.{same_Ok}
@@ -48,6 +48,15 @@ module _ (site : Site) (before : List AlphabetItem) (first : WrittenIntersection
   pub union_refused : (f : Option ConsFault) → Refuses f (gathered site before (items_of_intersection first)) → Refuses f (gathered site before (items_of_form (written.union first others)))
   unfolding items_of
   union_refused f h = gathered_refused site before (items_of_intersection first) (items_of_united others) f h
+
+-- an element alone is a set
+nothing_more : (there : Option (List AlphabetItem)) → joined_items there (Some []) ≡ there
+nothing_more None = refl
+nothing_more (Some items) = ap (λ (all : List AlphabetItem). Some all) (append-nil items)
+
+pub items_of_set_alone : (e : WrittenElement) → items_of (set_alone e) ≡ items_of_element e
+unfolding items_of
+items_of_set_alone e = nothing_more (items_of_element e)
 
 -- ---- in a loop over what is joined to a union
 

@@ -12,7 +12,7 @@ use Rattle.guard_model.specs.inside.Each.{each}
 use Rattle.guard_model.specs.TypeView.{OnePart, constraint_view, constraints_of, parts_of}
 use Rattle.guard_model.proofs.Results.{refuses_bind}
 use Rattle.guard_syntax.specs.Trees as written
-use Rattle.guard_syntax.specs.Trees.{WrittenPart, WrittenParts, WrittenConstraint, WrittenIntersection, WrittenDifference, WrittenJoinedIntersection, WrittenJoinedDifference, united_of, met_of}
+use Rattle.guard_syntax.specs.Trees.{WrittenPart, WrittenParts, WrittenConstraint, WrittenElement, WrittenIntersection, WrittenDifference, WrittenJoinedIntersection, WrittenJoinedDifference, united_of, met_of}
 use Rattle.guard_values.specs.Places.{Located}
 use Rattle.guard_constraints.specs.declared.fault.ConsFault.{ConsFault}
 use Rattle.guard_constraints.specs.declared.fault.ConsFault.TheVariants.{UnknownComponent}
@@ -23,9 +23,10 @@ use Rattle.guard_constraints.specs.Denotes.{joined}
 use Rattle.guard_constraints.specs.ListedParts.{PartHead, heads, head_of, named_in, word_of}
 use Rattle.guard_constraints.specs.Views.{head_view}
 use Rattle.guard_model.specs.Kinds.{kind_of}
+use Rattle.guard_syntax.specs.SetViews as views
 use Rattle.guard_syntax.specs.SetViews.{part_view}
 use Rattle.guard_syntax.specs.declared.tree.ComponentConsTree.{ComponentConsTree}
-use Rattle.guard_constraints.specs.inside.Reading.{Read, found, checked, joined_by, read_joined, joined_intersections, joined_differences, read, read_set_form, read_united, read_met, read_intersection, read_difference, read_element_form, read_parts, one_part, read_part, read_within}
+use Rattle.guard_constraints.specs.inside.Reading.{Read, found, checked, joined_by, read_joined, joined_intersections, joined_differences, read, read_set, read_set_form, read_united, read_met, read_intersection, read_difference, read_element, read_element_form, read_parts, one_part, read_part, read_within}
 
 -- ---- the list of what is read, and what the definitions make of it
 
@@ -128,6 +129,21 @@ pub intersection_steps : (names : Visible) (t : AbstractType) (site : Site) (fir
 unfolding read
 intersection_steps names t site first js c given =
     rw (given, met_each names t js) (regrouped join.Intersection site c (joined_differences names t js))
+
+-- ---- an element alone, as an intersection and as a set
+
+module _ (names : Visible) (t : AbstractType) (e : WrittenElement) where
+  same : (j : Join) (r : Read Constraint) → (r >>= λ c. Ok (joined (joined_by j) (views.site_of_element e) c type.no_constraints)) ≡ r
+  same j (Ok c) = refl
+  same j (Err f) = refl
+
+  pub intersection_alone : read_intersection names t (views.intersection_alone e) ≡ read_element names t e
+  unfolding read
+  intersection_alone = same join.Intersection (read_element names t e)
+
+  pub set_alone : read_set names t (views.set_alone e) ≡ read_element names t e
+  unfolding read
+  set_alone = same join.Union (read_intersection names t (views.intersection_alone e)) ∙ intersection_alone
 
 -- ---- WITH COMPONENTS
 

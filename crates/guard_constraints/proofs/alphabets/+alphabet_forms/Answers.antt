@@ -1,26 +1,15 @@
 use Rattle.std.proofs.Common.{◌≡◌, refl, rules, map, sym, ◌∙◌}
 use Rattle.std.proofs.lemmas.Result.{err_from_is_err_and}
 use Rattle.guard_syntax.specs.Trees as written
-use Rattle.guard_syntax.specs.Trees.{united_of}
+use Rattle.guard_syntax.specs.Trees.{united_of, met_of}
 use Rattle.guard_syntax.specs.declared.tree.ElementForm.{the_lemmas as tree_lemmas}
-use Rattle.guard_syntax.specs.SetViews.{site_of_difference, set_view, intersection_view, difference_view, joined_intersection_view}
-use Rattle.guard_syntax.specs.declared.tree.ElementForm.TheViews.{out-IntersectionTree}
+use Rattle.guard_syntax.specs.SetViews.{site_of_difference, set_view, intersection_view, difference_view, joined_difference_view, joined_intersection_view}
 use Rattle.guard_constraints.specs.PermittedAlphabets.{items_of, items_of_form, items_of_united}
 use Rattle.guard_constraints.specs.inside.Reading.{gathered}
 use Rattle.guard_constraints.specs.Views.{named, item_view}
-use Rattle.guard_constraints.proofs.CodeSteps.KeptTrees.{intersection_view_is, joined_intersection_is}
+use Rattle.guard_constraints.proofs.CodeSteps.KeptTrees.{joined_intersection_is}
 use Rattle.guard_constraints.proofs.CodeSteps.AlphabetForms.{union_then, united_goes_on, united_stops, united_ends, alone_taken, joined_refused}
 use Rattle.guard_constraints.proofs.alphabets.+alphabet_forms.Goals as goal
-
-pub in_intersection-returns-then-not-is_empty : goal.in_intersection-returns-then-not-is_empty
-in_intersection-returns-then-not-is_empty t c =
-    let i = out-IntersectionTree c.args.tree.now in
-    rw (intersection_view_is c.args.tree.now, joined_refused (site_of_difference (difference_view i.first)) (difference_view i.first) i.others.items (rw c.deref-others.ensures.value at (sym c.is_empty.ensures ∙ c.if-not-is_empty.true))) refl
-
-pub in_intersection-returns : goal.in_intersection-returns
-in_intersection-returns t c =
-    let i = out-IntersectionTree c.args.tree.now in
-    rw (intersection_view_is c.args.tree.now, alone_taken (site_of_difference (difference_view i.first)) (difference_view i.first) i.others.items (rw c.deref-others.ensures.value at (sym c.is_empty.ensures ∙ c.if-not-is_empty.false))) c.in_difference.ensures
 
 pub in_set-returns-in_ok-items-in-Union : goal.in_set-returns-in_ok-items-in-Union
 unfolding items_of

@@ -6,15 +6,14 @@ use Rattle.guard_model.proofs.Loops.{stops_at, ends_there}
 use Rattle.guard_model.specs.Kinds.{kind_of}
 use Rattle.guard_syntax.specs.Trees.{WrittenJoinedIntersection, WrittenJoinedDifference}
 use Rattle.guard_syntax.specs.SetViews as views
-use Rattle.guard_syntax.specs.declared.tree.ElementForm.TheViews.{out-DifferenceTree, out-ElementTree, out-IntersectionTree, out-SetTree}
 use Rattle.guard_syntax.specs.declared.tree.ElementForm.{the_lemmas as tree_lemmas}
 use Rattle.guard_syntax.specs.Trees as written
-use Rattle.guard_syntax.specs.Trees.{united_of}
+use Rattle.guard_syntax.specs.Trees.{united_of, met_of}
 use Rattle.guard_constraints.specs.inside.Reading.{read, joined_intersections, joined_differences, read_set, read_set_form, read_intersection, read_difference, read_part}
 use Rattle.guard_constraints.specs.declared.written.Join.TheVariants as join
 use Rattle.guard_constraints.specs.Views.{named, visible_in}
 use Rattle.guard_constraints.proofs.CodeSteps.PushedReadings.{pushes}
-use Rattle.guard_constraints.proofs.CodeSteps.KeptTrees.{intersection_view_is, difference_site_is, joined_intersection_is, joined_difference_is}
+use Rattle.guard_constraints.proofs.CodeSteps.KeptTrees.{joined_intersection_is, joined_difference_is}
 use Rattle.guard_constraints.proofs.CodeSteps.JoinedConstraints.{union_steps, intersection_steps, joined_refused, joined_made, parts_checked, parts_refused, parts_made}
 use Rattle.guard_constraints.proofs.written.+sets.Goals as goal
 
@@ -25,8 +24,8 @@ unfolding read
 set-returns-in_err-others-in-Union-clause-given t c =
     let names = visible_in c.args.scope in
     let ty = type_view c.args.ty.now in
-    let site = (out-SetTree c.args.tree.now).site in
     let first = views.intersection_view c.in-Union.first.value in
+    let site = views.site_of_intersection first in
     let others = map views.joined_intersection_view c.in-Union.others.items in
     let one = constraint_view c.in_ok-first-in-Union.first in
     let e : read_set names ty (views.set_view c.args.tree.now) ≡ read_set_form names ty site (written.union first (united_of others)) = search (rules, tree_lemmas) in
@@ -40,14 +39,16 @@ unfolding read
 set-returns-in_ok-joined-in-Union-clause-given t c =
     let names = visible_in c.args.scope in
     let ty = type_view c.args.ty.now in
-    let site = (out-SetTree c.args.tree.now).site in
     let first = views.intersection_view c.in-Union.first.value in
+    let site = views.site_of_intersection first in
     let others = map views.joined_intersection_view c.in-Union.others.items in
     let one = constraint_view c.in_ok-first-in-Union.first in
     let e : read_set names ty (views.set_view c.args.tree.now) ≡ read_set_form names ty site (written.union first (united_of others)) = search (rules, tree_lemmas) in
     let steps = union_steps names ty site first others one (rw c.deref.ensures at c.in_ok-first-in-Union.ensures.given) in
+    let w : views.set_view c.args.tree.now ≡ written.set_node site (written.union first (united_of others)) = search (rules, tree_lemmas) in
+    let s : c.site.result ≡ site = rw (c.site.ensures, w) refl in
     rw (e, steps) (joined_made join.Union site one (joined_intersections names ty others) (map constraint_view c.in_ok-others-in-Union.others.items)
-    (rw c.deref-in-Union.ensures.value at c.in_ok-others-in-Union.ensures.given) ∙ ap Ok (sym c.in_ok-joined-in-Union.ensures))
+    (rw c.deref-in-Union.ensures.value at c.in_ok-others-in-Union.ensures.given) ∙ ap Ok (sym (rw s at c.in_ok-joined-in-Union.ensures)))
 
 pub united-loop-other-preserved : goal.united-loop-other-preserved
 united-loop-other-preserved t c =
@@ -78,32 +79,33 @@ united-returns-clause-given t c =
 
 -- ---- intersections
 
-pub intersection-returns-in_err-others-clause-given : goal.intersection-returns-in_err-others-clause-given
-intersection-returns-in_err-others-clause-given t c =
+pub intersection-returns-in_err-others-in-Differences-clause-given : goal.intersection-returns-in_err-others-in-Differences-clause-given
+intersection-returns-in_err-others-in-Differences-clause-given t c =
     let names = visible_in c.args.scope in
     let ty = type_view c.args.ty.now in
-    let i = out-IntersectionTree c.args.tree.now in
-    let site = (out-ElementTree (out-DifferenceTree i.first).element).site in
-    let others = map views.joined_difference_view i.others.items in
-    let one = constraint_view c.in_ok-first.first in
-    let steps = intersection_steps names ty site (views.difference_view i.first) others one c.in_ok-first.ensures.given in
-    let p = err_from_is_err_and c.from_residual-in_err-others.result c.from_residual-in_err-others.ensures.1 in
-    rw (p.1, p.2, intersection_view_is c.args.tree.now, difference_site_is i.first, steps)
-    (joined_refused join.Intersection site one (named c.in_err-others.field-0.0) (joined_differences names ty others)
-    (rw c.deref.ensures.value at c.in_err-others.ensures.given))
+    let first = views.difference_view c.in-Differences.first.value in
+    let site = views.site_of_difference first in
+    let others = map views.joined_difference_view c.in-Differences.others.items in
+    let one = constraint_view c.in_ok-first-in-Differences.first in
+    let e : views.intersection_view c.args.tree.now ≡ written.intersection site first (met_of others) = search (rules, tree_lemmas) in
+    let steps = intersection_steps names ty site first others one (rw c.deref.ensures at c.in_ok-first-in-Differences.ensures.given) in
+    let p = err_from_is_err_and c.from_residual-in_err-others-in-Differences.result c.from_residual-in_err-others-in-Differences.ensures.1 in
+    rw (p.1, p.2, e, steps) (joined_refused join.Intersection site one (named c.in_err-others-in-Differences.field-0.0) (joined_differences names ty others)
+    (rw c.deref-in-Differences.ensures.value at c.in_err-others-in-Differences.ensures.given))
 
-pub intersection-returns-clause-given : goal.intersection-returns-clause-given
-intersection-returns-clause-given t c =
+pub intersection-returns-in_ok-joined-in-Differences-clause-given : goal.intersection-returns-in_ok-joined-in-Differences-clause-given
+intersection-returns-in_ok-joined-in-Differences-clause-given t c =
     let names = visible_in c.args.scope in
     let ty = type_view c.args.ty.now in
-    let i = out-IntersectionTree c.args.tree.now in
-    let site = (out-ElementTree (out-DifferenceTree i.first).element).site in
-    let others = map views.joined_difference_view i.others.items in
-    let one = constraint_view c.in_ok-first.first in
-    let steps = intersection_steps names ty site (views.difference_view i.first) others one c.in_ok-first.ensures.given in
-    rw (intersection_view_is c.args.tree.now, difference_site_is i.first, steps)
-    (joined_made join.Intersection site one (joined_differences names ty others) (map constraint_view c.in_ok-others.others.items)
-    (rw c.deref.ensures.value at c.in_ok-others.ensures.given) ∙ ap Ok (sym c.in_ok-joined.ensures))
+    let first = views.difference_view c.in-Differences.first.value in
+    let site = views.site_of_difference first in
+    let others = map views.joined_difference_view c.in-Differences.others.items in
+    let one = constraint_view c.in_ok-first-in-Differences.first in
+    let e : views.intersection_view c.args.tree.now ≡ written.intersection site first (met_of others) = search (rules, tree_lemmas) in
+    let steps = intersection_steps names ty site first others one (rw c.deref.ensures at c.in_ok-first-in-Differences.ensures.given) in
+    let s : c.site.result ≡ site = rw (c.site.ensures, e) refl in
+    rw (e, steps) (joined_made join.Intersection site one (joined_differences names ty others) (map constraint_view c.in_ok-others-in-Differences.others.items)
+    (rw c.deref-in-Differences.ensures.value at c.in_ok-others-in-Differences.ensures.given) ∙ ap Ok (sym (rw s at c.in_ok-joined-in-Differences.ensures)))
 
 pub met-loop-other-preserved : goal.met-loop-other-preserved
 met-loop-other-preserved t c =

@@ -190,7 +190,7 @@ fn assigned(
     alloc: Global,
     scope: Scope,
     ty: &Ty,
-    value: &Option<ValueTree>,
+    value: &Option<Box<ValueTree>>,
 ) -> Result<Option<Arc<Value>>, SchemaFault>
     requires sound { IsTrue (is_sound (type_view ty.now)) }
     requires known { AreBuilt scope.known.now }

@@ -2,7 +2,9 @@
 //! fault.
 use conformance_rows::{Around, Layer, text_of};
 use guard_lexer::{Token, tokens};
-use guard_syntax::{ElementForm, Module, SetForm, parse, parse_value};
+use guard_syntax::{
+    ElementForm, ElementTree, IntersectionTree, Module, SetTree, parse, parse_value,
+};
 use std::alloc::{AllocError, Global};
 
 /// What is shown of a text.
@@ -58,16 +60,28 @@ fn sites(alloc: Global, module: &Module) -> Result<String, AllocError> {
     let Some(cons) = module.assignments.first().and_then(|it| it.ty.cons.first()) else {
         return String::from_str(alloc, "no constraint");
     };
-    let set = cons.set.site;
-    let SetForm::Union(first, _) = &cons.set.form else {
+    let set = cons.set.site();
+    let Some(element) = first_element(&cons.set) else {
         return String::from_str(alloc, "no union");
     };
-    let intersection = first.first.element.site;
-    let ElementForm::Parentheses(inner) = &first.first.element.form else {
+    let intersection = element.site;
+    let ElementForm::Parentheses(inner) = &element.form else {
         return format!(in alloc; "set {set}; intersection {intersection}");
     };
-    let inner = inner.site;
+    let inner = inner.site();
     format!(in alloc; "set {set}; intersection {intersection}; in parentheses {inner}")
+}
+
+/// The first element of a union.
+fn first_element<'m, 'a>(set: &'m SetTree<'a>) -> Option<&'m ElementTree<'a>> {
+    match set {
+        SetTree::AllExcept(_, _) => None,
+        SetTree::Alone(element) => Some(element),
+        SetTree::Union(first, _) => match first.as_ref() {
+            IntersectionTree::Single(element) => Some(element),
+            IntersectionTree::Differences(first, _) => Some(&first.element),
+        },
+    }
 }
 
 impl Layer for Parser {

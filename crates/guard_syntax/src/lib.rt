@@ -14,7 +14,7 @@
 //! | How is a module read, or a value alone? | `module.rt`, `imports.rt`, `module_identifiers.rt`; `specs/inside/ReadModule.antt` |
 //! | How is a type read? | `types.rt`, `tags.rt`, `named_numbers.rt`; `specs/inside/ReadTypes.antt` |
 //! | How are constraints and sets read? | `sets.rt`, `joined_sets.rt`, `join_marks.rt`, `ranges.rt`; `specs/inside/ReadSets.antt` |
-//! | How is a value read? | `values.rt`, `numbers.rt`; `specs/inside/ReadValues.antt` |
+//! | How is a value read? | `values.rt`, `entries.rt`, `numbers.rt`; `specs/inside/ReadValues.antt` |
 //! | How is one token read? | `cursor.rt`; `specs/inside/ReadTokens.antt` |
 //! | Which integer is written? | `number_values.rt`; `specs/Numbers.antt` |
 //! | How deep may a tree be nested? | `MOST_OTHERS` in `module.rt`, `most_levels` in `specs/Grammar.antt` |
@@ -24,6 +24,7 @@
 #![tactic(auto)]
 
 mod cursor;
+mod entries;
 mod fault;
 mod fault_of_failure;
 mod imports;

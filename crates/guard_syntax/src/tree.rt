@@ -405,7 +405,9 @@ pub enum ValueForm<'a> {
     /// TRUE or FALSE.
     Boolean(bool),
     Null,
-    Integer(NumberTree<'a>),
+    /// A [`NumberTree`], whose fields take less room one by one: whether a minus sign is written before the digits, the
+    /// site and the digits.
+    Integer(bool, Site, &'a [u8]),
     /// A string with its quotes, as it is written.
     Text(StringKind, &'a [u8]),
     /// The name of a value, an item or a named number.
@@ -429,13 +431,14 @@ pub enum StringKind {
     Hexadecimal,
 }
 
-/// An entry in braces: a value, perhaps with a name before it.
+/// An entry in braces: a value, perhaps with a name before it. It begins with the name, or where the value does.
 #[derive(Drop)]
 #[cycle(values)]
-pub struct EntryTree<'a> {
-    pub site: Site,
-    pub name: Option<&'a [u8]>,
-    pub value: ValueTree<'a>,
+pub enum EntryTree<'a> {
+    /// A value alone, as entries of lists are.
+    Alone(ValueTree<'a>),
+    /// A name and the value after it.
+    Named(NameTree<'a>, Box<ValueTree<'a>>),
 }
 
 /// An integer as it is written (X.680 19.9).

@@ -1,12 +1,14 @@
 //! Values.
-ghost use Rattle.std.specs.Prelude.{◌≡◌, map, length};
+ghost use Rattle.std.specs.Prelude.{◌≡◌, map, length, None, IfOk};
 ghost use Rattle.guard_model.specs.Answer.{Gives};
 ghost use Rattle.guard_syntax.specs.inside.ReadTokens as tokens_reading;
 ghost use Rattle.guard_syntax.specs.inside.Cursors.{ahead, Reads, each_view, boxed_view};
 ghost use Rattle.guard_syntax.specs.inside.ReadValues as reading;
-ghost use Rattle.guard_syntax.specs.Views.{name_view, arc_view, value_view, value_form_view, entry_view};
+ghost use Rattle.guard_syntax.specs.Views.{name_view, arc_view, site_of_value, value_view, value_form_view};
+ghost use Rattle.guard_syntax.specs.Views.{entry_view};
 
 use crate::cursor::{Cursor, Read};
+use crate::entries::entry_of;
 use crate::numbers::{arc, number};
 use crate::tree::{ArcTree, EntryTree, StringKind, ValueForm, ValueTree};
 use guard_lexer::{Mark, Reserved, TokenKind};
@@ -51,7 +53,8 @@ fn string_at(at: Cursor) -> Option<StringKind>
 #[cycle(values)]
 #[tactic(auto, unfolding(crate::specs::inside::ReadValues::read_value))]
 pub fn value<'a, 't>(alloc: Global, levels: u8, at: Cursor<'a, 't>) -> Read<'a, 't, ValueTree<'a>>
-    ensures { Reads value_view result (reading.read_value levels (ahead at.entry)) }
+    ensures tree { Reads value_view result (reading.read_value levels (ahead at.entry)) }
+    ensures site { IfOk result (λ v. site_of_value (value_view v.0) ≡ tokens_reading.site_at (ahead at.entry)) }
 {
     if levels == 0 {
         return Err(at.too_deep(begins_value(at)));
@@ -95,7 +98,8 @@ fn integer<'a, 't>(at: Cursor<'a, 't>) -> Read<'a, 't, ValueForm<'a>>
     ensures { Reads value_form_view result (reading.read_integer_form (ahead at.entry)) }
 {
     let (number, rest) = number(at)?;
-    Ok((ValueForm::Integer(number), rest))
+    let form = ValueForm::Integer(number.minus, number.site, number.digits);
+    Ok((form, rest))
 }
 
 #[tactic(auto, unfolding(crate::specs::inside::ReadValues::read_string))]
@@ -208,20 +212,14 @@ fn entry<'a, 't>(alloc: Global, levels: u8, at: Cursor<'a, 't>) -> Read<'a, 't, 
 {
     let (name, rest) = entry_name(at)?;
     let (value, rest) = value(alloc, levels, rest)?;
-    Ok((
-        EntryTree {
-            site: at.site(),
-            name,
-            value,
-        },
-        rest,
-    ))
+    Ok((entry_of(alloc, at.site(), name, value)?, rest))
 }
 
 /// The name before a value, where there is one.
 #[tactic(auto, unfolding(crate::specs::inside::ReadValues::read_entry_name))]
 fn entry_name<'a, 't>(at: Cursor<'a, 't>) -> Read<'a, 't, Option<&'a [u8]>>
-    ensures { Reads name_view result (reading.read_entry_name (ahead at.entry)) }
+    ensures name { Reads name_view result (reading.read_entry_name (ahead at.entry)) }
+    ensures none { IfOk result (λ n. name_view n.0 ≡ None → ahead n.1 ≡ ahead at.entry) }
 {
     if !at.begins_with(TokenKind::LowerName) {
         return Ok((None, at));

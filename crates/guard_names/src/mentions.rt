@@ -316,7 +316,7 @@ fn add_value<'a>(value: &ValueTree<'a>, into: &mut Vec<Mention<'a>>) -> Result<(
     match &value.form {
         ValueForm::Boolean(_) => Ok(()),
         ValueForm::Null => Ok(()),
-        ValueForm::Integer(_) => Ok(()),
+        ValueForm::Integer(_, _, _) => Ok(()),
         ValueForm::Text(_, _) => Ok(()),
         ValueForm::Reference(name) => add_name(value.site, SymbolKind::Value, *name, into),
         ValueForm::Chosen(_, chosen) => add_value(chosen, into),
@@ -331,9 +331,21 @@ fn add_entries<'a>(entries: &[EntryTree<'a>], into: &mut Vec<Mention<'a>>) -> Re
         ++ mentions.in_entries (entries_of (map entry_view entries.now))) }
 {
     for entry in entries {
-        add_value(&entry.value, into)?;
+        add_entry(entry, into)?;
     }
     Ok(())
+}
+
+/// In an entry nothing but its value mentions names.
+#[cycle(values)]
+fn add_entry<'a>(entry: &EntryTree<'a>, into: &mut Vec<Mention<'a>>) -> Result<(), AllocError>
+    ensures { OnOk result (map mention_view into.new.items ≡ map mention_view into.old.items
+        ++ mentions.in_value (entry_view entry.now).value) }
+{
+    match entry {
+        EntryTree::Alone(value) => add_value(value, into),
+        EntryTree::Named(_, value) => add_value(value, into),
+    }
 }
 
 fn add_name<'a>(

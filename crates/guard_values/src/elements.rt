@@ -48,10 +48,10 @@ pub fn room_without(
         (reading.room_without (reading.site_of (trees.entry_view entry.now).value) room length) }
 {
     let Some(length) = length else {
-        return Err(ValueFault::TooLarge(entry.value.site));
+        return Err(ValueFault::TooLarge(entry.value_site()));
     };
     if length > room {
-        return Err(ValueFault::TooLarge(entry.value.site));
+        return Err(ValueFault::TooLarge(entry.value_site()));
     }
     Ok(room - length)
 }
@@ -140,8 +140,11 @@ fn are_too_few_arcs(entries: &[EntryTree]) -> bool
 fn is_arc(entry: &EntryTree) -> bool
     ensures { result ≡ are_too_few_arcs (entries_of (trees.entry_view entry.now ∷ [])) }
 {
-    match &entry.value.form {
-        ValueForm::Integer(number) => entry.name.is_none() && !number.minus,
-        _ => false,
+    match entry {
+        EntryTree::Alone(value) => match &value.form {
+            ValueForm::Integer(minus, _, _) => !*minus,
+            _ => false,
+        },
+        EntryTree::Named(_, _) => false,
     }
 }

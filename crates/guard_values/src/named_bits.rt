@@ -58,20 +58,23 @@ fn place(names: &NamedList, entry: &EntryTree) -> Result<u16, ValueFault>
     ensures { Gives (λ n. n) named result (read_place names.now (entry_view entry.now)) }
 {
     let Some(name) = name_alone(entry) else {
-        return Err(ValueFault::WrongNotation(entry.site));
+        return Err(ValueFault::WrongNotation(entry.site()));
     };
     match named_bit(name, names) {
         Some(place) => Ok(place),
-        None => Err(ValueFault::UnknownName(entry.site)),
+        None => Err(ValueFault::UnknownName(entry.site())),
     }
 }
 
 fn name_alone<'a>(entry: &EntryTree<'a>) -> Option<&'a [u8]>
     ensures { name_view result ≡ named_bits.name_alone (entry_view entry.now).name (entry_view entry.now).value }
 {
-    match &entry.value.form {
-        ValueForm::Reference(name) if entry.name.is_none() => Some(*name),
-        _ => None,
+    match entry {
+        EntryTree::Alone(value) => match &value.form {
+            ValueForm::Reference(name) => Some(*name),
+            _ => None,
+        },
+        EntryTree::Named(_, _) => None,
     }
 }
 

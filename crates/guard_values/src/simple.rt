@@ -4,7 +4,7 @@ ghost use Rattle.guard_model.specs.Answer.{Gives};
 ghost use Rattle.guard_model.specs.TypeView.{kind_view, named_view};
 ghost use Rattle.guard_model.specs.ValueView.{value_view};
 ghost use Rattle.guard_model.specs.Alphabets.{fits_characters};
-ghost use Rattle.guard_syntax.specs.Views.{number_view, arc_view};
+ghost use Rattle.guard_syntax.specs.Views.{arc_view};
 ghost use Rattle.guard_values.specs.NamedBits.{bits_kept};
 ghost use Rattle.guard_values.specs.Simple.{boolean_value, null_value, bits_value, characters_value};
 ghost use Rattle.guard_values.specs.Strings as written;
@@ -44,14 +44,26 @@ pub fn null(kind: &Kind, site: Site) -> Result<Value, ValueFault>
     }
 }
 
-/// A number.
-pub fn integer(kind: &Kind, site: Site, number: &NumberTree) -> Result<Value, ValueFault>
-    ensures { Gives value_view named result (read_integer site (kind_view kind.now) (number_view number.now)) }
+/// A number, which is written at the place with these digits, perhaps after a minus sign.
+pub fn integer(
+    kind: &Kind,
+    site: Site,
+    minus: bool,
+    place: Site,
+    digits: &[u8],
+) -> Result<Value, ValueFault>
+    ensures { Gives value_view named result
+        (read_integer site (kind_view kind.now) (record { site = place; minus = minus; digits = digits.now })) }
 {
+    let number = NumberTree {
+        site: place,
+        minus,
+        digits,
+    };
     match kind {
         Kind::Int(_) => match number.integer() {
             Some(value) => Ok(Value::Int(value)),
-            None => Err(ValueFault::TooLarge(number.site)),
+            None => Err(ValueFault::TooLarge(place)),
         },
         _ => Err(ValueFault::WrongNotation(site)),
     }

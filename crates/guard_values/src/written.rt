@@ -158,7 +158,9 @@ fn form(
     match form {
         ValueForm::Boolean(truth) => measured(sorted, ty, boolean(&ty.kind, site, *truth)),
         ValueForm::Null => measured(sorted, ty, null(&ty.kind, site)),
-        ValueForm::Integer(number) => measured(sorted, ty, integer(&ty.kind, site, number)),
+        ValueForm::Integer(minus, place, digits) => {
+            measured(sorted, ty, integer(&ty.kind, site, *minus, *place, digits))
+        }
         ValueForm::Text(string, spelling) => {
             measured(sorted, ty, text(alloc, &ty.kind, site, *string, spelling))
         }
@@ -313,9 +315,30 @@ fn entry_value(
     ensures counted { sorted ≡ true → IfOk result (λ x. (t : AbstractType)
         × (component_type x.0 (components_of (map component_view comps.now)) ≡ Some t) × IsCounted t x.1) }
 {
-    let (place, ty) = place_of(ordered, comps, next, fields, entry.site, entry.name)?;
-    let counted = read(alloc, scope, sorted, &entry.value, ty)?;
+    let (place, ty) = place_of(ordered, comps, next, fields, entry.site(), entry.name())?;
+    let counted = read_entry(alloc, scope, sorted, entry, ty)?;
     Ok((place, counted))
+}
+
+/// The value in an entry, with or without a name before it.
+#[cycle(values)]
+fn read_entry(
+    alloc: Global,
+    scope: ModuleScope,
+    sorted: bool,
+    entry: &EntryTree,
+    ty: &Ty,
+) -> Result<Counted, ValueFault>
+    requires proper { IsTrue (is_proper (type_view ty.now)) }
+    requires fitting { AreFitting (values_of scope) }
+    ensures given { Gives (λ c. value_view c.value) named result
+        (build (values_of scope.entry) sorted (type_view ty.now) (trees.entry_view entry.now).value) }
+    ensures counted { sorted ≡ true → IfOk result (IsCounted (type_view ty.now)) }
+{
+    match entry {
+        EntryTree::Alone(value) => read(alloc, scope, sorted, value, ty),
+        EntryTree::Named(_, value) => read(alloc, scope, sorted, value, ty),
+    }
 }
 
 /// A SEQUENCE OF.
@@ -440,7 +463,7 @@ fn encoded_element(
         (build (values_of scope.entry) true (type_view ty.now) (trees.entry_view entry.now).value)) }
 {
     let counted = element(alloc, scope, true, entry, ty)?;
-    encoded(alloc, ty, entry.value.site, counted.value)
+    encoded(alloc, ty, entry.value_site(), counted.value)
 }
 
 /// An entry of an OF type has no name.
@@ -460,8 +483,8 @@ fn element(
         (build (values_of scope.entry) sorted (type_view ty.now) (trees.entry_view entry.now).value)) }
     ensures counted { sorted ≡ true → IfOk result (IsCounted (type_view ty.now)) }
 {
-    if entry.name.is_some() {
-        return Err(ValueFault::WrongNotation(entry.site));
+    match entry {
+        EntryTree::Alone(value) => read(alloc, scope, sorted, value, ty),
+        EntryTree::Named(name, _) => Err(ValueFault::WrongNotation(name.site)),
     }
-    read(alloc, scope, sorted, &entry.value, ty)
 }

@@ -1,12 +1,12 @@
 -- Entries, one after another, as loops read them.
-use Rattle.std.proofs.Common.{◌≡◌, ℕ, suc, ◌+◌, ◌<◌, ◌≤◌, Bool, false, List, [], ◌∷◌, ◌++◌, length, drop, get_or, map, add-one, Bor, Option, Some, None, Ok, Err, refl, sym, ap, ◌∙◌, append_assoc}
+use Rattle.std.proofs.Common.{◌≡◌, ℕ, suc, ◌+◌, ◌<◌, ◌≤◌, Bool, false, List, [], ◌∷◌, ◌++◌, length, drop, get_or, map, add-one, Option, Some, None, Ok, Err, refl, sym, ap, ◌∙◌, append_assoc}
 use Rattle.std.proofs.lemmas.List.{at_drop_more, at_drop_all, append-nil}
 use Rattle.std.specs.Global.{Vec}
 use Rattle.guard_model.specs.Answer.{◌>>=◌, Refuses}
 use Rattle.guard_model.specs.declared.site.Site.{Site}
 use Rattle.guard_model.specs.AbstractType.{AbstractType, Components}
 use Rattle.guard_model.specs.AbstractValue.{AbstractValue, Fields}
-use Rattle.std.specs.Prelude.{set, is_some}
+use Rattle.std.specs.Prelude.{set}
 use Rattle.guard_model.specs.TypeView.{type_view, kind_view}
 use Rattle.guard_model.specs.ValueView.{fields_view}
 use Rattle.guard_model.specs.ValueView as guard
@@ -18,32 +18,34 @@ use Rattle.guard_der.specs.Reading.{fill}
 use Rattle.guard_syntax.specs.Trees as written
 use Rattle.guard_syntax.specs.declared.tree.ValueForm as variant
 use Rattle.guard_syntax.specs.declared.tree.ValueForm.{ValueForm}
-use Rattle.guard_syntax.specs.declared.tree.ValueForm.TheOpen.{ValueForm-F}
 use Rattle.guard_syntax.specs.declared.tree.ValueForm.TheVariants.{rolls-List}
+use Rattle.guard_syntax.specs.declared.tree.EntryTree as entry_variant
+use Rattle.guard_syntax.specs.declared.tree.EntryTree.TheOpen.{EntryTree-F, ValueForm-F}
+use Rattle.guard_syntax.specs.declared.tree.EntryTree.TheVariants.{rolls-Alone}
 use Rattle.guard_model.specs.Kinds.{kind_of}
 use Rattle.guard_values.specs.Places.{Located}
 use Rattle.guard_der.proofs.Functions.SetFields.{field_filled}
 use Rattle.guard_syntax.specs.Trees.{WrittenValue, WrittenEntry, WrittenEntries, no_entries, entry, entries_of}
-use Rattle.guard_syntax.specs.Views.{value_form_step, entry_step, value_step, value_view, entry_view, name_view, value_form_view}
+use Rattle.guard_syntax.specs.Views.{site_of_value, value_form_step, entry_step, value_step, value_view, entry_view, value_form_view}
 use Rattle.guard_syntax.specs.Trees.{WrittenValueForm, value_node}
 use Rattle.guard_syntax.specs.declared.tree.EntryTree.{EntryTree}
 use Rattle.guard_syntax.specs.declared.tree.ValueTree.{ValueTree}
-use Rattle.guard_syntax.specs.declared.tree.ValueForm.TheFolds.{fold_out-EntryTree, fold_out-ValueTree, fold-roll-ValueForm}
-use Rattle.guard_syntax.specs.declared.tree.ValueForm.TheViews.{out-EntryTree, out-ValueTree}
+use Rattle.guard_syntax.specs.declared.tree.EntryTree.TheFolds.{fold_out-ValueTree, fold-roll-EntryTree, fold-roll-ValueForm}
+use Rattle.guard_syntax.specs.declared.tree.EntryTree.TheViews.{out-ValueTree}
 use Rattle.guard_values.specs.declared.fault.ValueFault.{ValueFault}
 use Rattle.guard_values.specs.Meanings.{Meaning}
 use Rattle.guard_values.specs.inside.Reading.{Read, element_at, place_at, entry_at, site_of, kept, room_after, build, build_form, build_list, build_elements, build_entries}
 
 -- ---- one level of a tree
 
-pub entry_view_is : (e : EntryTree) → entry_view e ≡ record { site = (out-EntryTree e).site; name = name_view (out-EntryTree e).name; value = value_view (out-EntryTree e).value }
-entry_view_is e = fold_out-EntryTree WrittenValueForm WrittenEntry WrittenValue value_form_step entry_step value_step e
+pub alone_is : (e : EntryTree) (v : ValueTree) → e ≡ entry_variant.Alone v → entry_view e ≡ record { site = site_of_value (value_view v); name = None; value = value_view v }
+alone_is e v is = ap entry_view (is ∙ sym (rolls-Alone v)) ∙ fold-roll-EntryTree WrittenEntry WrittenValueForm WrittenValue entry_step value_form_step value_step (EntryTree-F.Alone v)
 
 pub value_view_is : (v : ValueTree) → value_view v ≡ value_node (out-ValueTree v).site (value_form_view (out-ValueTree v).form)
-value_view_is v = fold_out-ValueTree WrittenValueForm WrittenEntry WrittenValue value_form_step entry_step value_step v
+value_view_is v = fold_out-ValueTree WrittenEntry WrittenValueForm WrittenValue entry_step value_form_step value_step v
 
 pub form_list : (es : Vec EntryTree) → value_form_view (variant.List es) ≡ written.list (entries_of (map entry_view es.items))
-form_list es = ap value_form_view (sym (rolls-List es)) ∙ fold-roll-ValueForm WrittenValueForm WrittenEntry WrittenValue value_form_step entry_step value_step (ValueForm-F.List es)
+form_list es = ap value_form_view (sym (rolls-List es)) ∙ fold-roll-ValueForm WrittenEntry WrittenValueForm WrittenValue entry_step value_form_step value_step (ValueForm-F.List es)
 
 pub list_is : (m : Meaning) (sorted : Bool) (ty : Ty) (site : Site) (form : ValueForm) (es : Vec EntryTree) → form ≡ variant.List es
     → build_form m sorted (type_view ty) site (value_form_view form) ≡ build_list m sorted site (kind_view (out-Ty ty).kind) (entries_of (map entry_view es.items))
@@ -55,25 +57,18 @@ list_is m sorted ty site form es is =
 
 -- ---- an entry by itself
 
-no_name : (name : Option (Bor (List ℕ))) → is_some name ≡ false → name_view name ≡ None
-no_name None e = refl
-no_name (Some n) e = absurd cc
+unlimited : (r : Read AbstractValue) → (r >>= λ v. Ok v) ≡ r
+unlimited (Ok v) = refl
+unlimited (Err f) = refl
 
-plain : (t : AbstractType) (site place : Site) (name : Option (List ℕ)) (value_read : Read AbstractValue) → name ≡ None → element_at false t site name place value_read ≡ value_read
-plain t site place name (Ok v) e = rw e refl
-plain t site place name (Err f) e = rw e refl
+pub alone_element : (m : Meaning) (sorted : Bool) (t : AbstractType) (e : EntryTree) (v : ValueTree) → e ≡ entry_variant.Alone v
+    → element_at false t (entry_view e).site (entry_view e).name (site_of (entry_view e).value) (build m sorted t (entry_view e).value) ≡ build m sorted t (value_view v)
+alone_element m sorted t e v is =
+    ap (λ (w : WrittenEntry). element_at false t w.site w.name (site_of w.value) (build m sorted t w.value)) (alone_is e v is) ∙ unlimited (build m sorted t (value_view v))
 
-pub plain_element : (m : Meaning) (sorted : Bool) (t : AbstractType) (e : EntryTree) → is_some (out-EntryTree e).name ≡ false
-    → element_at false t (entry_view e).site (entry_view e).name (site_of (entry_view e).value) (build m sorted t (entry_view e).value) ≡ build m sorted t (value_view (out-EntryTree e).value)
-plain_element m sorted t e none =
-    ap (λ (w : WrittenEntry). element_at false t w.site w.name (site_of w.value) (build m sorted t w.value)) (entry_view_is e)
-    ∙ plain t (out-EntryTree e).site (site_of (value_view (out-EntryTree e).value)) (name_view (out-EntryTree e).name) (build m sorted t (value_view (out-EntryTree e).value)) (no_name (out-EntryTree e).name none)
-
-pub entry_found : (m : Meaning) (sorted : Bool) (ordered : Bool) (cs : Components) (next : ℕ) (fs : Fields) (e : EntryTree) (l : Located) (v : AbstractValue)
-    → place_at ordered cs next fs (out-EntryTree e).site (name_view (out-EntryTree e).name) ≡ Ok l → build m sorted l.ty (value_view (out-EntryTree e).value) ≡ Ok v
-    → entry_at ordered cs next fs (entry_view e).site (entry_view e).name (λ u. build m sorted u (entry_view e).value) ≡ Ok (l.place, v)
-entry_found m sorted ordered cs next fs e l v h k =
-    ap (λ (w : WrittenEntry). entry_at ordered cs next fs w.site w.name (λ u. build m sorted u w.value)) (entry_view_is e) ∙ (rw (h, k) refl)
+pub entry_found : (m : Meaning) (sorted : Bool) (ordered : Bool) (cs : Components) (next : ℕ) (fs : Fields) (w : WrittenEntry) (l : Located) (v : AbstractValue)
+    → place_at ordered cs next fs w.site w.name ≡ Ok l → build m sorted l.ty w.value ≡ Ok v → entry_at ordered cs next fs w.site w.name (λ u. build m sorted u w.value) ≡ Ok (l.place, v)
+entry_found m sorted ordered cs next fs w l v h k = rw (h, k) refl
 
 -- ---- those from a place on
 

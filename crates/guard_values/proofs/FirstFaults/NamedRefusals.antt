@@ -13,7 +13,7 @@ use Rattle.guard_model.specs.declared.ty.Kind.{Kind, Choice}
 use Rattle.guard_syntax.specs.Trees.{WrittenValue}
 use Rattle.guard_syntax.specs.Views.{value_view}
 use Rattle.guard_syntax.specs.declared.tree.ValueTree.{ValueTree}
-use Rattle.guard_syntax.specs.declared.tree.ValueForm.TheViews.{out-ValueTree}
+use Rattle.guard_syntax.specs.declared.tree.EntryTree.TheViews.{out-ValueTree}
 use Rattle.guard_values.specs.declared.fault.ValueFault.TheVariants.{UnknownName, TooLarge}
 use Rattle.guard_values.specs.Meanings.{Meaning}
 use Rattle.guard_values.specs.Places.{located}

@@ -20,14 +20,14 @@ use Rattle.guard_der.specs.inside.EncodingSteps.{sequence_octets}
 use Rattle.guard_syntax.specs.Trees.{entries_of}
 use Rattle.guard_syntax.specs.Views as trees
 use Rattle.guard_model.specs.declared.ty.Kind.{the_lemmas as type_lemmas}
-use Rattle.guard_syntax.specs.declared.tree.ValueForm.{the_lemmas}
+use Rattle.guard_syntax.specs.declared.tree.EntryTree.{the_lemmas}
 use Rattle.guard_values.specs.Arrangement.{AreEncodings, encoded_value}
 use Rattle.guard_values.specs.inside.Lengths.{HasContents}
 use Rattle.guard_values.specs.inside.Reading.{site_of, kept, room_without, room_after, build, build_form, build_entries, build_elements, build_list}
 use Rattle.guard_values.specs.Views.{named, encoded_view, located_view, values_of}
 use Rattle.guard_values.proofs.SetOf.MadeEncodings.{one_more_encoding}
 use Rattle.guard_values.proofs.Braces.ProperComponents.{kind_proper}
-use Rattle.guard_values.proofs.Braces.EntriesInTurn.{list_is, plain_element, entry_found, elements_from, with_front, room_left, elements_on, elements_refused, elements_long, elements_done, entries_put, entries_refused, entries_done}
+use Rattle.guard_values.proofs.Braces.EntriesInTurn.{list_is, alone_element, entry_found, elements_from, with_front, room_left, elements_on, elements_refused, elements_long, elements_done, entries_put, entries_refused, entries_done}
 use Rattle.guard_values.proofs.Denoted.ReadIsDenoted.{entry_ok}
 use Rattle.guard_values.proofs.Counting.CountedLists.{items_joined, last_counted, room_low, room_told}
 use Rattle.guard_values.proofs.Counting.CountedValues.{counted_as, set_as, set_of_as, chosen_contents, listed_counted, arranged_counted, part_put, place_type}
@@ -146,13 +146,13 @@ fields-returns-clause-counted t c = λ so.
     let same = completed_sent c.args.site cs (fields_view given) (fields_view c.in_ok-fields.fields.items) (has_view c.args.comps.now given c.in_ok-given.ensures.count) c.in_ok-fields.ensures in
     c.in_ok-given.ensures.counted so ∙ sym (ap (λ ps. short_length (sequence_octets ps)) same) ∙ ap (λ (v : AbstractValue). short_length (contents_octets (type.sequence cs) v)) (sym (value_view_fields c.in_ok-fields.fields))
 
-pub entry_value-read-requires : goal.entry_value-read-requires
-entry_value-read-requires t c = (search (rules, the_lemmas), (c.in_ok-place.ensures.proper, c.requires.fitting))
+pub entry_value-read_entry-requires : goal.entry_value-read_entry-requires
+entry_value-read_entry-requires t c = (search (rules, the_lemmas), (c.in_ok-place.ensures.proper, c.requires.fitting))
 
 pub entry_value-returns-clause-given : goal.entry_value-returns-clause-given
 entry_value-returns-clause-given t c =
-    entry_found (values_of c.args.scope) c.args.sorted c.args.ordered (components_of (map component_view c.args.comps.now)) c.args.next (fields_view c.args.fields.now) c.args.entry.now (located_view (c.in_ok-place.place, c.in_ok-place.ty)) (value_view c.in_ok-counted.counted.value)
-    c.in_ok-place.ensures.given c.in_ok-counted.ensures.given
+    entry_found (values_of c.args.scope) c.args.sorted c.args.ordered (components_of (map component_view c.args.comps.now)) c.args.next (fields_view c.args.fields.now) (trees.entry_view c.args.entry.now) (located_view (c.in_ok-place.place, c.in_ok-place.ty)) (value_view c.in_ok-counted.counted.value)
+    (rw (c.site.ensures, c.name.ensures) at c.in_ok-place.ensures.given) c.in_ok-counted.ensures.given
 
 pub entry_value-returns-clause-counted : goal.entry_value-returns-clause-counted
 entry_value-returns-clause-counted t c = λ so.
@@ -205,9 +205,9 @@ entry_fields-returns-clause-given t c =
 
 -- ---- elements
 
-pub element-returns-clause-given : goal.element-returns-clause-given
-element-returns-clause-given t c =
-    subst (λ r. Gives (λ x. value_view x.value) named c.read.result r) (sym (plain_element (values_of c.args.scope) c.args.sorted (type_view c.args.ty.now) c.args.entry.now (sym c.is_some.ensures ∙ c.if-is_some.false))) c.read.ensures.given
+pub element-returns-in-Alone-clause-given : goal.element-returns-in-Alone-clause-given
+element-returns-in-Alone-clause-given t c =
+    subst (λ r. Gives (λ x. value_view x.value) named c.read.result r) (sym (alone_element (values_of c.args.scope) c.args.sorted (type_view c.args.ty.now) c.args.entry.now c.in-Alone.value c.in-Alone.is)) c.read.ensures.given
 
 pub items-returns-clause-counted : goal.items-returns-clause-counted
 items-returns-clause-counted t c = λ so.

@@ -5,7 +5,7 @@ use Rattle.guard_model.specs.AbstractValue.{AbstractValue}
 use Rattle.guard_model.specs.TypeView.{type_view}
 use Rattle.guard_syntax.specs.Trees.{WrittenValue}
 use Rattle.guard_syntax.specs.Views as trees
-use Rattle.guard_syntax.specs.declared.tree.ValueForm.TheViews.{out-ValueTree}
+use Rattle.guard_syntax.specs.declared.tree.EntryTree.TheViews.{out-ValueTree}
 use Rattle.guard_values.specs.declared.fault.ValueFault.TheVariants.{TooLarge}
 use Rattle.guard_values.specs.inside.Reading.{Read, limited, site_of}
 use Rattle.guard_values.specs.Views.{shared_view}

@@ -8,8 +8,8 @@ use Rattle.guard_syntax.specs.Trees.{WrittenValue, WrittenValueForm, WrittenEntr
 use Rattle.guard_syntax.specs.Views as written
 use Rattle.guard_syntax.specs.Views.{value_form_step, entry_step, value_step}
 use Rattle.guard_syntax.specs.declared.tree.ValueTree.{ValueTree}
-use Rattle.guard_syntax.specs.declared.tree.ValueForm.TheFolds.{fold_out-ValueTree}
-use Rattle.guard_syntax.specs.declared.tree.ValueForm.TheViews.{out-ValueTree}
+use Rattle.guard_syntax.specs.declared.tree.EntryTree.TheFolds.{fold_out-ValueTree}
+use Rattle.guard_syntax.specs.declared.tree.EntryTree.TheViews.{out-ValueTree}
 use Rattle.guard_values.specs.declared.fault.ValueFault.{ValueFault}
 use Rattle.guard_values.specs.declared.fault.ValueFault.TheVariants as value_fault
 use Rattle.guard_values.specs.Denotes as values
@@ -102,5 +102,5 @@ module _ (names : Visible) where
 -- ---- where a value is
 
 pub site_there : (tree : ValueTree) → site_of (written.value_view tree) ≡ (out-ValueTree tree).site
-site_there tree = ap site_of (fold_out-ValueTree WrittenValueForm WrittenEntry WrittenValue value_form_step entry_step
+site_there tree = ap site_of (fold_out-ValueTree WrittenEntry WrittenValueForm WrittenValue entry_step value_form_step
     value_step tree)

@@ -1,9 +1,9 @@
 //! The value that octets encode, or their breach.
-ghost use Rattle.std.specs.Prelude.{◌≡◌, ◌&&◌, ℕ, ◌+◌, ◌-◌, ◌<◌, ◌≤◌, ◌^◌, [], length, map, List};
+ghost use Rattle.std.specs.Prelude.{◌≡◌, ◌+◌, ◌<◌, ◌≤◌, ◌^◌, [], length, map};
 ghost use Rattle.std.specs.Prelude.{Some, None, Ok, Err, IfOk, IfErr, IfSome, IsTrue};
 ghost use Rattle.guard_model.specs.Answer.{Gives};
 ghost use Rattle.guard_model.specs.AbstractType.{type_of, no_constraints};
-ghost use Rattle.guard_model.specs.AbstractValue.{AbstractValue, no_fields};
+ghost use Rattle.guard_model.specs.AbstractValue.{AbstractValue};
 ghost use Rattle.guard_model.specs.Slots.{all_absent};
 ghost use Rattle.guard_model.specs.TypeView.{type_view, kind_view, component_view, components_of, presence_view};
 ghost use Rattle.guard_model.specs.ValueView.{value_view, field_view, fields_view, items_view};
@@ -11,10 +11,10 @@ ghost use Rattle.guard_tagcheck.specs.FirstTags.{begins_with};
 ghost use Rattle.guard_tagcheck.specs.Limits.{nesting, nesting_inside, deepest};
 ghost use Rattle.guard_der.specs.Head.{head_of};
 ghost use Rattle.guard_der.specs.Der.{der};
-ghost use Rattle.guard_der.specs.Fits.{fits, descends as descending};
-ghost use Rattle.guard_der.specs.Sound.{is_sound, is_proper, is_proper_kind, are_proper, is_proper_presence};
+ghost use Rattle.guard_der.specs.Fits.{fits};
+ghost use Rattle.guard_der.specs.Sound.{is_sound, is_proper, is_proper_kind, are_proper};
 ghost use Rattle.guard_der.specs.Breach.{AbstractBreach, IsBreach};
-ghost use Rattle.guard_der.specs.Reading.{due_at, alone_at, component_at, end_at, element_at, untagged_at, contents_at};
+ghost use Rattle.guard_der.specs.Reading.{alone_at, component_at, element_at, untagged_at, contents_at};
 ghost use Rattle.guard_der.specs.Reading.{chosen_at, part_at, fields_at, item_alone, item_at, items_at, message_of};
 ghost use Rattle.guard_der.specs.Reading.{sent_at, set_element_at, set_at};
 ghost use Rattle.guard_der.specs.Views.{head_view, breach_of};
@@ -25,12 +25,12 @@ mod set;
 use crate::breach::{Breach, Code, DecodeFault};
 use crate::contents::value_of_simple;
 use crate::decoding::set::{completed, place_of};
-use crate::faults::{Fault, end, fault_at, header_at_front, wrong_form};
+use crate::faults::{Fault, due, end, fault_at, header_at_front, wrong_form};
 use crate::forms::{is_constructed, is_form};
 use crate::head::Head;
-use crate::order::descends;
+use crate::order::is_out_of_order;
 use crate::presence::{is_left_out, not_sent};
-use crate::tags::{begins_in, one_with};
+use crate::tags::one_with;
 use guard_model::{Comp, Kind, Path, Presence, Step, Tag, Ty, Value, absent_fields, set_field};
 use guard_tagcheck::begins_with;
 use std::alloc::Global;
@@ -94,20 +94,6 @@ fn alone(
         return Err(fault_at(path, Code::TrailingOctets, at + size));
     }
     Ok(value)
-}
-
-/// The header at the front, where an element of a kind with these tags is due.
-#[tactic(auto, unfolding(crate::specs::Reading::due_at))]
-fn due(path: &mut Path, tags: &[Tag], kind: &Kind, at: usize, octets: &[u8]) -> Result<Head, Fault>
-    ensures { Gives head_view (fault_of path.new.items) result
-        (due_at (begins_with (type_of tags.now (kind_view kind.now) no_constraints)) at octets.now) }
-{
-    let head = header_at_front(path, at, octets)?;
-    if begins_in(tags, kind, head.tag) {
-        Ok(head)
-    } else {
-        Err(fault_at(path, Code::UnexpectedTag, at))
-    }
 }
 
 /// An element of a kind with these tags, its header read and its tag accepted.
@@ -427,13 +413,6 @@ fn next_item(
         return Err(fault_at(path, Code::SetOfOrder, at));
     }
     Ok((value, size))
-}
-
-/// Whether an element with these octets may not come after one with the octets `before`.
-fn is_out_of_order(ordered: bool, before: &[u8], octets: &[u8]) -> bool
-    ensures { result ≡ (ordered && descending before.now octets.now) }
-{
-    ordered && descends(before, octets)
 }
 
 /// The components of a SET, all of the octets.

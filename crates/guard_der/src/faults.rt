@@ -2,9 +2,12 @@
 //! what each of them hands up is small.
 ghost use Rattle.std.specs.Prelude.{◌≡◌, Some};
 ghost use Rattle.guard_model.specs.Answer.{Gives};
+ghost use Rattle.guard_model.specs.AbstractType.{type_of, no_constraints};
 ghost use Rattle.guard_model.specs.AbstractValue.{no_fields};
+ghost use Rattle.guard_model.specs.TypeView.{kind_view};
+ghost use Rattle.guard_tagcheck.specs.FirstTags.{begins_with};
 ghost use Rattle.guard_der.specs.Head.{head_of};
-ghost use Rattle.guard_der.specs.Reading.{end_at, fault, located};
+ghost use Rattle.guard_der.specs.Reading.{due_at, end_at, fault, located};
 ghost use Rattle.guard_der.specs.Views.{head_view};
 ghost use Rattle.guard_der.specs.inside.Faults.{fault_of};
 ghost use Rattle.guard_der.specs.declared.breach.Code.TheVariants.{WrongForm};
@@ -12,7 +15,8 @@ ghost use Rattle.guard_der.specs.declared.faults.Fault.TheVariants.{OutOfMemory}
 
 use crate::breach::Code;
 use crate::head::{Head, head_at_front};
-use guard_model::{Path, Step};
+use crate::tags::begins_in;
+use guard_model::{Kind, Path, Step, Tag};
 use std::alloc::{AllocError, AllocFailed};
 
 /// Why there is no value, without the path.
@@ -74,6 +78,26 @@ pub fn header_at_front(path: &mut Path, at: usize, octets: &[u8]) -> Result<Head
     match head_at_front(octets) {
         Ok(head) => Ok(head),
         Err(code) => Err(fault_at(path, code, at)),
+    }
+}
+
+/// The header at the front, where an element of a kind with these tags is due.
+#[tactic(auto, unfolding(crate::specs::Reading::due_at))]
+pub fn due(
+    path: &mut Path,
+    tags: &[Tag],
+    kind: &Kind,
+    at: usize,
+    octets: &[u8],
+) -> Result<Head, Fault>
+    ensures { Gives head_view (fault_of path.new.items) result
+        (due_at (begins_with (type_of tags.now (kind_view kind.now) no_constraints)) at octets.now) }
+{
+    let head = header_at_front(path, at, octets)?;
+    if begins_in(tags, kind, head.tag) {
+        Ok(head)
+    } else {
+        Err(fault_at(path, Code::UnexpectedTag, at))
     }
 }
 

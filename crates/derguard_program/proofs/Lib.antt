@@ -2,6 +2,7 @@ pub mod Simple
 pub mod Commands
 pub mod Filled
 pub mod Asked
+pub mod OneRequest
 pub mod Showing
 pub mod Meetings
 pub mod RecordsRead

@@ -1,5 +1,6 @@
 use Rattle.derguard_program.specs.Words.{joined}
-use Rattle.derguard_program.proofs.Asked.{asked, asks_one}
+use Rattle.derguard_program.proofs.Asked.{asked}
+use Rattle.derguard_program.proofs.OneRequest.{asks_one}
 use Rattle.derguard_program.proofs.laws.law_one_request.Goals as goal
 
 pub returns : goal.returns

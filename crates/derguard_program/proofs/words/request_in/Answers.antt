@@ -2,7 +2,7 @@ use Rattle.std.proofs.Common.{◌∙◌, ap, map, string_bytes, refl, sym, subst
 use Rattle.std.proofs.lemmas.Result.{err_from_is_err_and}
 use Rattle.clap.specs.Words.{App, HasKind, Text, fault_of, is_simple, is_simple_and_free, subcommand_of}
 use Rattle.derguard_program.proofs.Simple.{the_app_simple}
-use Rattle.derguard_program.proofs.Asked.{answered, command_found}
+use Rattle.derguard_program.proofs.OneRequest.{answered, command_found}
 use Rattle.derguard_program.proofs.words.request_in.Goals as goal
 
 pub returns-clause-asked : goal.returns-clause-asked

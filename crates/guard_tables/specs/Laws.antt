@@ -17,7 +17,8 @@ use Rattle.guard_tables.specs.Formulas.{never, fails_where}
 use Rattle.guard_tables.specs.Forms.{Formula, eithers, form, nothing_yet}
 use Rattle.guard_tables.specs.OfParts.{each_of, within_of, terms_at, of_demand, of_demands, demands_from, NeedsFew}
 use Rattle.guard_tables.specs.Lay.{lay}
-use Rattle.guard_tables.specs.Marking.{fails_at}
+use Rattle.guard_tables.specs.Plan.{Plan}
+use Rattle.guard_tables.specs.Marking.{type_marked, fails_at}
 use Rattle.guard_tables.specs.Standing.{PlanFor}
 
 -- ---- sets of slots
@@ -93,6 +94,10 @@ FewLaw = (declared : AbstractType) (types : List AbstractType) → has_crowded_n
 abbrev pub LayLaw : Type 0
 LayLaw = (t : AbstractType) → IsTrue (is_sound t) → (demands : List SlotDemand) → AreApt (kind_of t) demands
     → (v : AbstractValue) → IsTrue (fits t v) → (slot : ℕ) → fails_at t (lay t demands) v slot ≡ demands_fail slot v demands
+
+-- What fails at a value is added to what failed before.
+abbrev pub MarkedLaw : Type 0
+MarkedLaw = (t : AbstractType) (p : Plan) (v : AbstractValue) (m : Slots) → type_marked t p v m ≡ added m (type_marked t p v none)
 
 -- ---- what a table's types fail
 

@@ -8,7 +8,6 @@ pub mod Plan
 pub mod Marking
 pub mod Segments
 pub mod Standing
-pub mod MarkingLaws
 -- ---- how what is asked is tested at a node
 pub mod Demands
 pub mod Terms

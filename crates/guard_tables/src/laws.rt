@@ -1,7 +1,7 @@
 //! Laws of the definitions alone. Each is carried by a function that does nothing when it runs.
 ghost use Rattle.guard_tables.specs.Laws.{NoneLaw, OnlyLaw, AddedLaw, BelowLaw, WithoutLaw, SoundLaw, FormLaw};
 ghost use Rattle.guard_tables.specs.Laws.{ConjunctionLaw, SpeakLaw, CountLaw, EachPartLaw, WithinPartLaw, FewLaw};
-ghost use Rattle.guard_tables.specs.Laws.{LayLaw, MemberLaw, TableMembersLaw, TableRoomLaw, StandsLaw};
+ghost use Rattle.guard_tables.specs.Laws.{LayLaw, MarkedLaw, MemberLaw, TableMembersLaw, TableRoomLaw, StandsLaw};
 
 /// Which slots a set has.
 pub fn law_slots()
@@ -33,6 +33,11 @@ pub fn law_few_slots()
 pub fn law_lay()
     ensures demands { LayLaw }
     ensures members { MemberLaw }
+{}
+
+/// What fails at a value is added to what failed before.
+pub fn law_marked()
+    ensures { MarkedLaw }
 {}
 
 /// Once a value has passed the plan of a table's types, the slots that have failed are those of the types of which it

@@ -17,8 +17,8 @@
 //! | What fails for a number? | `conditions_list.rt` (`Conditions::failed_at`) | `Marking.antt` |
 //! | And of many conditions on one number? | `segments.rt` | `Segments.antt` |
 //! | Which numbers fail nothing at a node? | `plain_interval.rt` | `TableNodes.antt` (`IsFree`), `Intervals.antt` |
-//! | What do nodes stand for? | laws `marking_laws.rt` | `Plan.antt`, `Formulas.antt` |
-//! | What fails at a value? | laws `marking_laws.rt` | `Marking.antt`, `MarkingLaws.antt` |
+//! | What do nodes stand for? | `laws.rt` | `Plan.antt`, `Formulas.antt` |
+//! | What fails at a value? | `laws.rt` | `Marking.antt`, `Laws.antt` |
 //! | For which types does a plan stand, for which a table's nodes? | `table.rt` | `Standing.antt`, `StandsFor.antt` |
 //! | Which nodes are there? | `node.rt` | `NodeViews.antt` |
 //! | What keeps them in order? | `node_list.rt` | `TableNodes.antt`, `NodesView.antt` |
@@ -57,7 +57,6 @@ mod kept_types;
 mod kinds_of_nodes;
 pub mod laws;
 mod layout;
-pub mod marking_laws;
 mod new_nodes;
 mod node;
 mod node_list;

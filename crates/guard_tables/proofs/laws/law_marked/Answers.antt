@@ -1,5 +1,5 @@
 use Rattle.guard_tables.proofs.Adding.{adds_type}
-use Rattle.guard_tables.proofs.marking_laws.law_marked.Goals as goal
+use Rattle.guard_tables.proofs.laws.law_marked.Goals as goal
 
 pub returns : goal.returns
 returns c = adds_type

@@ -10,7 +10,7 @@ use Rattle.guard_model.proofs.Components.{left, left_is, none_left}
 use Rattle.guard_der.specs.Reading.{follows}
 use Rattle.guard_tables.specs.declared.new_nodes.Group.{Group}
 use Rattle.guard_tables.specs.declared.new_nodes.Group.TheVariants as group
-use Rattle.guard_tables.specs.declared.assembled.AssembledParts.{AssembledParts}
+use Rattle.guard_tables.specs.declared.new_nodes.Node.{Node}
 use Rattle.guard_tables.specs.declared.node_list.Builder.{Builder}
 use Rattle.guard_tables.specs.Demands.{Term}
 use Rattle.guard_tables.specs.Lay.{lay_parts, lay_alternatives}
@@ -18,7 +18,7 @@ use Rattle.guard_tables.specs.Plan.{no_parts}
 use Rattle.guard_tables.specs.TableNodes.{outer_tag, comes_next, ascend}
 use Rattle.guard_tables.specs.Tables.{tags_of}
 use Rattle.guard_tables.specs.inside.Ascending.{components_ascend}
-use Rattle.guard_tables.specs.inside.Assembled.{LaysParts, parts_in, parts_of_group}
+use Rattle.guard_tables.specs.inside.Assembled.{parts_in, parts_of_group}
 
 -- ---- one component after the other
 
@@ -68,6 +68,6 @@ group_ascends group.Series cs terms = listed_ascend None 0 cs terms
 group_ascends group.Set cs terms = listed_ascend None 0 cs terms
 group_ascends group.Choice cs terms = chosen_ascend None 0 cs terms
 
-pub laid_ascend : (before : Builder) (parts : AssembledParts) (g : Group) (cs : Components) (terms : List Term) → LaysParts before parts (parts_of_group g 0 cs terms)
-    → ascend None (parts_in parts no_parts) ≡ components_ascend None cs
-laid_ascend before parts g cs terms laid = ap (ascend None) laid.stand ∙ group_ascends g cs terms
+pub laid_ascend : (b : Builder) (ns : List Node) (g : Group) (cs : Components) (terms : List Term) → parts_in b ns no_parts ≡ parts_of_group g 0 cs terms
+    → ascend None (parts_in b ns no_parts) ≡ components_ascend None cs
+laid_ascend b ns g cs terms stand = ap (ascend None) stand ∙ group_ascends g cs terms

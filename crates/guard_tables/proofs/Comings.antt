@@ -1,7 +1,8 @@
 -- A node that comes next: what it stands for, and what the others stand for then.
-use Rattle.std.proofs.Common.{◌≡◌, ℕ, suc, ◌+◌, ◌<◌, ◌≤◌, Bool, true, false, List, [], ◌∷◌, ◌++◌, length, take, map, Option, Some, None, refl, sym, ap, subst, ◌∙◌, arith, length-append}
+use Rattle.std.proofs.Common.{◌≡◌, ℕ, suc, ◌+◌, ◌<◌, ◌≤◌, Bool, true, false, List, [], ◌∷◌, ◌++◌, length, take, map, Option, Some, None, Result, Ok, Err, refl, sym, ap, subst, ◌∙◌, arith, length-append}
 use Rattle.std.specs.Prelude.{ℤ, pos, ◌≤ℤ◌, option_map}
 use Rattle.std.specs.Option.{is_none}
+use Rattle.std.specs.Result.{IfOk}
 use Rattle.std.specs.declared.vec.Vec.{Vec}
 use Rattle.std.proofs.Common.{Global}
 use Rattle.std.proofs.lemmas.Int.{ints}
@@ -16,7 +17,7 @@ use Rattle.guard_tables.specs.declared.new_nodes.Group.TheVariants as group
 use Rattle.guard_tables.specs.declared.new_nodes.Elements.{Elements}
 use Rattle.guard_tables.specs.declared.new_nodes.Elements.TheVariants as elements
 use Rattle.guard_tables.specs.declared.identifiers.Identifiers.{Identifiers}
-use Rattle.guard_tables.specs.declared.assembled.Assembled.{Assembled}
+use Rattle.guard_tables.specs.declared.node_list.Assembled.{Assembled}
 use Rattle.guard_tables.specs.declared.node.Hot.{Hot}
 use Rattle.guard_tables.specs.declared.node.Cold.{Cold}
 use Rattle.guard_tables.specs.declared.conditions_list.Conditions.{Conditions}
@@ -50,19 +51,17 @@ pub grown_one : (before after : Builder) (h : Hot) (c : Cold) → after.hots.ite
 unfolding spots_of
 grown_one before after h c e f = rw (e, f) (one_more before.hots.items before.colds.items h c [] before.built.lengths)
 
-pub stacks : (l : Assembled) (after : Builder) (first : ℕ) → after.hots.items ≡ l.builder.hots.items ++ l.node.hot ∷ [] → after.colds.items ≡ l.builder.colds.items ++ l.node.cold ∷ []
-    → first ≡ length l.builder.hots.items → Stacks l after first
-stacks l after first e f at =
+pub stacks : {E : Type 0} (l : Assembled) (r : Result Builder E) → IfOk r (λ b. b.hots.items ≡ l.builder.hots.items ++ l.node.hot ∷ []) → IfOk r (λ b. b.colds.items ≡ l.builder.colds.items ++ l.node.cold ∷ []) → IfOk r (λ b. Stacks l b)
+stacks l (Err e) hots colds = tt
+stacks l (Ok after) e f =
     let ss : List Spot = spots_so_far l.builder in
     let s : Spot = spot_of l.node.hot l.node.cold ss in
     let grown : spots_so_far after ≡ ss ++ s ∷ [] = grown_one l.builder after l.node.hot l.node.cold e f in
-    let size : length after.hots.items ≡ length l.builder.hots.items + 1 = ap (λ (hs : List Hot). length hs) e ∙ length-append l.builder.hots.items (l.node.hot ∷ []) in
-    let here : first ≡ length ss = at ∙ sym (so_many l.builder) in
     record {
       grows = record { more = s ∷ []; grown = grown };
-      count = omega (arith, size, at);
-      stands = ap (λ (all : List Spot). (spot_at all first).plan) grown
-          ∙ ap (λ (k : ℕ). (spot_at (ss ++ s ∷ []) k).plan) here
+      count = ap (λ (hs : List Hot). length hs) e ∙ length-append l.builder.hots.items (l.node.hot ∷ []);
+      stands = ap (λ (all : List Spot). (spot_at all (length l.builder.hots.items)).plan) grown
+          ∙ ap (λ (k : ℕ). (spot_at (ss ++ s ∷ []) k).plan) (sym (so_many l.builder))
           ∙ ap (λ (s : Spot). s.plan) (get_or-append_seam ss s [] blank);
     }
 
@@ -118,20 +117,20 @@ wrapper_plan : (ids : Identifiers) (first : ℕ) (c : Cold) (t : Tag) (spots : L
 unfolding spot_of
 wrapper_plan ids first c t spots p tag e = rw (tag, e) refl
 
-pub asked_comes : (l : Assembled) (after : Builder) (first : ℕ) → Stacks l after first → (c : Cold) → c.default ≡ None → c.present ≡ none
-    → Comes (bare_hot kind.Asked (record { own = l.node.hot.identifier; other = l.node.hot.other }) true first 1) c (spots_so_far after) (length after.hots.items)
+pub asked_comes : (l : Assembled) (after : Builder) → Stacks l after → (c : Cold) → c.default ≡ None → c.present ≡ none
+    → Comes (bare_hot kind.Asked (record { own = l.node.hot.identifier; other = l.node.hot.other }) true (length l.builder.hots.items) 1) c (spots_so_far after) (length after.hots.items)
     (plan (tags_in (plan_in l)) (form_in (plan_in l)) (asked (map condition_view c.conditions.list.items) (body_in (plan_in l))))
-asked_comes l after first s c default present =
-    bare_comes kind.Asked (record { own = l.node.hot.identifier; other = l.node.hot.other }) true first 1 c (spots_so_far after) (length after.hots.items) _
-    (asked_plan (record { own = l.node.hot.identifier; other = l.node.hot.other }) first c (spots_so_far after) (plan_in l) s.stands)
+asked_comes l after s c default present =
+    bare_comes kind.Asked (record { own = l.node.hot.identifier; other = l.node.hot.other }) true (length l.builder.hots.items) 1 c (spots_so_far after) (length after.hots.items) _
+    (asked_plan (record { own = l.node.hot.identifier; other = l.node.hot.other }) (length l.builder.hots.items) c (spots_so_far after) (plan_in l) s.stands)
     (omega (arith, s.count)) (omega arith) (λ e. omega (arith, s.count)) (inner_identifier l).0 (inner_identifier l).1 default present (λ e. absurd cc)
 
-pub formula_comes : (l : Assembled) (after : Builder) (first : ℕ) → Stacks l after first → (c : Cold) → c.default ≡ None → c.present ≡ none → c.conditions.list.items ≡ []
-    → Comes (bare_hot kind.Formula (record { own = l.node.hot.identifier; other = l.node.hot.other }) false first 1) c (spots_so_far after) (length after.hots.items)
+pub formula_comes : (l : Assembled) (after : Builder) → Stacks l after → (c : Cold) → c.default ≡ None → c.present ≡ none → c.conditions.list.items ≡ []
+    → Comes (bare_hot kind.Formula (record { own = l.node.hot.identifier; other = l.node.hot.other }) false (length l.builder.hots.items) 1) c (spots_so_far after) (length after.hots.items)
     (plan (tags_in (plan_in l)) (form_in (plan_in l)) (formula (map implication_view c.implications.items) (body_in (plan_in l))))
-formula_comes l after first s c default present nothing =
-    bare_comes kind.Formula (record { own = l.node.hot.identifier; other = l.node.hot.other }) false first 1 c (spots_so_far after) (length after.hots.items) _
-    (formula_plan (record { own = l.node.hot.identifier; other = l.node.hot.other }) first c (spots_so_far after) (plan_in l) s.stands)
+formula_comes l after s c default present nothing =
+    bare_comes kind.Formula (record { own = l.node.hot.identifier; other = l.node.hot.other }) false (length l.builder.hots.items) 1 c (spots_so_far after) (length after.hots.items) _
+    (formula_plan (record { own = l.node.hot.identifier; other = l.node.hot.other }) (length l.builder.hots.items) c (spots_so_far after) (plan_in l) s.stands)
     (omega (arith, s.count)) (omega arith) (λ e. omega (arith, s.count)) (inner_identifier l).0 (inner_identifier l).1 default present (λ e. nothing)
 
 -- an explicit tag is of the constructed form, whatever is in it
@@ -139,13 +138,13 @@ outer_identifier : (t : Tag) (ts : List Tag) (f : Bool) → 0 < length ts → (i
 outer_identifier t [] f h = absurd (omega (arith, h))
 outer_identifier t (u ∷ us) f h = (refl, refl)
 
-pub wrapper_comes : (l : Assembled) (after : Builder) (first : ℕ) → Stacks l after first → (t : Tag) → 0 < length (tags_in (plan_in l)) → (ids : Identifiers) → ids.own ≡ identifier_of (t ∷ []) true → ids.other ≡ other_of (t ∷ []) true
+pub wrapper_comes : (l : Assembled) (after : Builder) → Stacks l after → (t : Tag) → 0 < length (tags_in (plan_in l)) → (ids : Identifiers) → ids.own ≡ identifier_of (t ∷ []) true → ids.other ≡ other_of (t ∷ []) true
     → (c : Cold) → c.default ≡ None → c.present ≡ none → c.conditions.list.items ≡ [] → c.tag ≡ Some t
-    → Comes (bare_hot kind.Wrapper ids false first 1) c (spots_so_far after) (length after.hots.items) (plan (t ∷ tags_in (plan_in l)) (form_in (plan_in l)) (body_in (plan_in l)))
-wrapper_comes l after first s t some ids own other c default present nothing tag =
+    → Comes (bare_hot kind.Wrapper ids false (length l.builder.hots.items) 1) c (spots_so_far after) (length after.hots.items) (plan (t ∷ tags_in (plan_in l)) (form_in (plan_in l)) (body_in (plan_in l)))
+wrapper_comes l after s t some ids own other c default present nothing tag =
     let same = outer_identifier t (tags_in (plan_in l)) (form_in (plan_in l)) some in
-    bare_comes kind.Wrapper ids false first 1 c (spots_so_far after) (length after.hots.items) (plan (t ∷ tags_in (plan_in l)) (form_in (plan_in l)) (body_in (plan_in l)))
-    (wrapper_plan ids first c t (spots_so_far after) (plan_in l) tag s.stands)
+    bare_comes kind.Wrapper ids false (length l.builder.hots.items) 1 c (spots_so_far after) (length after.hots.items) (plan (t ∷ tags_in (plan_in l)) (form_in (plan_in l)) (body_in (plan_in l)))
+    (wrapper_plan ids (length l.builder.hots.items) c t (spots_so_far after) (plan_in l) tag s.stands)
     (omega (arith, s.count)) (omega arith) (λ e. omega (arith, s.count)) (own ∙ same.0) (other ∙ same.1) default present (λ e. nothing)
 
 -- ---- round elements, parts, and nodes alone
@@ -156,12 +155,12 @@ unfolding spot_of
 elements_plan elements.List ids first c tag spots p t e = rw (t, e) refl
 elements_plan elements.SetOf ids first c tag spots p t e = rw (t, e) refl
 
-pub elements_come : (l : Assembled) (after : Builder) (first : ℕ) → Stacks l after first → (g : Elements) (tag : Option Tag) (ids : Identifiers) → ids.own ≡ identifier_of (own_tags tag) true → ids.other ≡ other_of (own_tags tag) true
+pub elements_come : (l : Assembled) (after : Builder) → Stacks l after → (g : Elements) (tag : Option Tag) (ids : Identifiers) → ids.own ≡ identifier_of (own_tags tag) true → ids.other ≡ other_of (own_tags tag) true
     → (c : Cold) → c.default ≡ None → c.present ≡ none → c.conditions.list.items ≡ [] → c.tag ≡ tag
-    → Comes (bare_hot (kind_of_elements g) ids false first 1) c (spots_so_far after) (length after.hots.items) (plan (own_tags tag) true (body_of_elements g (plan_in l)))
-elements_come l after first s g tag ids own other c default present nothing t =
-    bare_comes (kind_of_elements g) ids false first 1 c (spots_so_far after) (length after.hots.items) (plan (own_tags tag) true (body_of_elements g (plan_in l)))
-    (elements_plan g ids first c tag (spots_so_far after) (plan_in l) t s.stands)
+    → Comes (bare_hot (kind_of_elements g) ids false (length l.builder.hots.items) 1) c (spots_so_far after) (length after.hots.items) (plan (own_tags tag) true (body_of_elements g (plan_in l)))
+elements_come l after s g tag ids own other c default present nothing t =
+    bare_comes (kind_of_elements g) ids false (length l.builder.hots.items) 1 c (spots_so_far after) (length after.hots.items) (plan (own_tags tag) true (body_of_elements g (plan_in l)))
+    (elements_plan g ids (length l.builder.hots.items) c tag (spots_so_far after) (plan_in l) t s.stands)
     (omega (arith, s.count)) (omega arith) (λ e. omega (arith, s.count)) own other default present (λ e. nothing)
 
 group_plan : (g : Group) (ids : Identifiers) (first count : ℕ) (c : Cold) (tag : Option Tag) (spots : List Spot) → c.tag ≡ tag

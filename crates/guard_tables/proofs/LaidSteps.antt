@@ -8,15 +8,14 @@ use Rattle.guard_model.specs.AbstractType.{AbstractType, AbstractKind, AbstractP
 use Rattle.guard_model.specs.Counts.{component_count}
 use Rattle.guard_model.specs.TypeView.{OneComponent, component_view}
 use Rattle.guard_model.specs.declared.ty.Comp.{Comp}
-use Rattle.guard_model.proofs.Components.{left, left_is}
+use Rattle.guard_model.proofs.Components.{left, left_is, none_left}
 use Rattle.guard_model.proofs.TypeViews.{component_view_is, opened}
 use Rattle.guard_der.specs.Sound.{is_proper_presence}
 use Rattle.guard_tables.specs.declared.new_nodes.Node.{Node}
 use Rattle.guard_tables.specs.declared.new_nodes.Group.{Group}
 use Rattle.guard_tables.specs.declared.new_nodes.Group.TheVariants as group
 use Rattle.guard_tables.specs.declared.new_nodes.Elements.{Elements}
-use Rattle.guard_tables.specs.declared.assembled.Assembled.{Assembled}
-use Rattle.guard_tables.specs.declared.assembled.AssembledParts.{AssembledParts}
+use Rattle.guard_tables.specs.declared.node_list.Assembled.{Assembled}
 use Rattle.guard_tables.specs.declared.node.Hot.{Hot}
 use Rattle.guard_tables.specs.declared.node.Cold.{Cold}
 use Rattle.guard_tables.specs.declared.node.Condition.{Condition}
@@ -31,24 +30,11 @@ use Rattle.guard_tables.specs.Plan.{Side, Plan, Body, Parts, plan, no_parts, par
 use Rattle.guard_tables.specs.NodesView.{spots_in, root_of}
 use Rattle.guard_tables.specs.TableNodes.{Spot, spot_of, spots_of, spot_at, own_tags, parts_between, ascend, IsNode}
 use Rattle.guard_tables.specs.inside.Aside.{spots_at, AreNodes, parts_then}
-use Rattle.guard_tables.specs.inside.Assembled.{spots_so_far, Grows, Stacks, Lays, MayBeLaid, PartsMayBeLaid, LaysParts, WithPart, Extends, MayCome, plan_in, parts_in, body_of_group, body_of_elements, parts_of_group, side_of_part, is_exclusive}
+use Rattle.guard_tables.specs.inside.Assembled.{spots_so_far, Grows, Stacks, Lays, LaysPart, MayBeLaid, PartsMayBeLaid, MayCome, plan_in, parts_in, body_of_group, body_of_elements, parts_of_group, side_of_part, is_exclusive}
 use Rattle.guard_tables.specs.inside.DemandsOfParts.{PartAsked, asked_at}
-use Rattle.guard_tables.proofs.Comings.{all_kept, all_stay, grown_on, laid_as, laid_on, nodes_last, parts_last, run, so_many, spots_length}
+use Rattle.guard_tables.proofs.Comings.{all_kept, all_stay, grown_on, laid_as, laid_on, parts_last, run, so_many, spots_length}
 
 -- ---- parts
-
-pub one_aside : (others : List Node) (l : Assembled) (n : Node) (s : Side) (new : AssembledParts) → AreNodes others (spots_so_far l.builder) (length l.builder.hots.items)
-    → ((spots : List Spot) (k : ℕ) → IsNode l.node.hot l.node.cold spots k → IsNode n.hot n.cold spots k)
-    → ((spots : List Spot) → spot_of n.hot n.cold spots ≡ record { side = s; plan = (spot_of l.node.hot l.node.cold spots).plan })
-    → new.builder ≡ l.builder → new.nodes.items ≡ others ++ n ∷ [] → WithPart others l s new
-one_aside others l n s new are node spot same nodes =
-    let ss : List Spot = spots_so_far l.builder in
-    let k : ℕ = length l.builder.hots.items in
-    record {
-      same = same;
-      nodes = rw (same, nodes) (nodes_last others n ss k are (node ss k l.stands));
-      stand = λ ps. rw (same, nodes) (parts_last ss others n ps ∙ ap (λ (sp : Spot). parts_then (spots_at ss others) (part sp.side sp.plan ps)) (spot ss));
-    }
 
 longer : (before after : Builder) → Grows before after → length before.hots.items ≤ length after.hots.items
 longer before after g =
@@ -56,10 +42,10 @@ longer before after g =
     omega (arith, all, so_many before, so_many after)
 
 -- those aside stay, whatever comes
-pub still_aside : (old : AssembledParts) (after : Builder) → MayCome old → Grows old.builder after → AreNodes old.nodes.items (spots_so_far after) (length after.hots.items)
-still_aside old after are g =
-    subst (λ (ss : List Spot). AreNodes old.nodes.items ss (length after.hots.items)) (sym g.grown)
-    (all_kept old.nodes.items (spots_so_far old.builder) g.more (length old.builder.hots.items) (length after.hots.items) (omega (arith, so_many old.builder)) (longer old.builder after g) are)
+pub still_aside : (ns : List Node) (before after : Builder) → MayCome before ns → Grows before after → MayCome after ns
+still_aside ns before after are g =
+    subst (λ (ss : List Spot). AreNodes ns ss (length after.hots.items)) (sym g.grown)
+    (all_kept ns (spots_so_far before) g.more (length before.hots.items) (length after.hots.items) (omega (arith, so_many before)) (longer before after g) are)
 
 one_part : (g : Group) (place : ℕ) (name : List ℕ) (t : AbstractType) (presence : AbstractPresence) (rest : Components) (terms : List Term)
     → part (side_of_part g (record { name = name; ty = t; presence = presence }) (asked_at (is_exclusive g) place terms) (lay t (within_of place terms))) (lay t (within_of place terms)) (parts_of_group g (suc place) rest terms)
@@ -68,39 +54,38 @@ one_part group.Series place name t presence rest terms = refl
 one_part group.Set place name t presence rest terms = refl
 one_part group.Choice place name t presence rest terms = refl
 
-pub extends : (old new : AssembledParts) (l : Assembled) (p : Plan) (s side : Side)
-    → MayCome old → Lays old.builder l p → s ≡ side → WithPart old.nodes.items l s new
-    → Extends old new side p
-extends old new l p s side are laid same with =
-    let ss : List Spot = spots_so_far old.builder in
-    let k : ℕ = length old.builder.hots.items in
-    let ns : List Node = old.nodes.items in
-    record {
-      grows = subst (λ (b : Builder). Grows old.builder b) (sym with.same) laid.grows;
-      nodes = with.nodes;
-      stand = λ ps.
-          with.stand ps
-          ∙ ap (λ (q : Plan). parts_then (spots_at (spots_so_far l.builder) ns) (part s q ps)) laid.stands
-          ∙ ap (λ (s : Side). parts_then (spots_at (spots_so_far l.builder) ns) (part s p ps)) same
-          ∙ ap (λ (all : List Spot). parts_then (spots_at all ns) (part side p ps)) laid.grows.grown
-          ∙ ap (λ (aside : List Spot). parts_then aside (part side p ps)) (sym (all_stay ns ss laid.grows.more k (omega (arith, so_many old.builder)) are));
-    }
+one_aside : (before : Builder) (ns : List Node) (l : Assembled) (side : Side) (p : Plan) → MayCome before ns → LaysPart before l side p
+    → (ps : Parts) → parts_in l.builder (ns ++ l.node ∷ []) ps ≡ parts_in before ns (part side p ps)
+one_aside before ns l side p are laid ps =
+    parts_last (spots_so_far l.builder) ns l.node ps
+    ∙ ap (λ (s : Spot). parts_in l.builder ns (part s.side s.plan ps)) laid.stands
+    ∙ ap (λ (all : List Spot). parts_then (spots_at all ns) (part side p ps)) laid.grows.grown
+    ∙ ap (λ (aside : List Spot). parts_then aside (part side p ps)) (sym (all_stay ns (spots_so_far before) laid.grows.more (length before.hots.items) (omega (arith, so_many before)) are))
 
 -- with one part more it is the parts of all
-pub part_more : (old new : AssembledParts) (g : Group) (comps : List Comp) (place : ℕ) (comp : Comp) (own : PartAsked) (all : List Term) → place < length comps → comp ≡ get_or comps place comp → own ≡ asked_at (is_exclusive g) place all
-    → Extends old new (side_of_part g (component_view comp) own (lay (component_view comp).ty own.demands)) (lay (component_view comp).ty own.demands)
-    → (ps : Parts) → parts_in old (parts_of_group g place (left comps place) all) ≡ ps → parts_in new (parts_of_group g (place + 1) (left comps (place + 1)) all) ≡ ps
-part_more old new g comps place comp own all lt at is more ps so_far =
+pub part_more : (before : Builder) (ns : List Node) (l : Assembled) (g : Group) (comps : List Comp) (place : ℕ) (comp : Comp) (own : PartAsked) (all : List Term) → place < length comps → comp ≡ get_or comps place comp → own ≡ asked_at (is_exclusive g) place all
+    → MayCome before ns → LaysPart before l (side_of_part g (component_view comp) own (lay (component_view comp).ty own.demands)) (lay (component_view comp).ty own.demands)
+    → (ps : Parts) → parts_in before ns (parts_of_group g place (left comps place) all) ≡ ps → parts_in l.builder (ns ++ l.node ∷ []) (parts_of_group g (place + 1) (left comps (place + 1)) all) ≡ ps
+part_more before ns l g comps place comp own all lt at is are laid ps so_far =
     let one : PartAsked → OneComponent → Parts → Parts = λ asked c rest. part (side_of_part g c asked (lay c.ty asked.demands)) (lay c.ty asked.demands) rest in
     let asked : PartAsked = asked_at (is_exclusive g) place all in
     let c : OneComponent = component_view comp in
-    more.stand (parts_of_group g (place + 1) (left comps (place + 1)) all)
-    ∙ ap (λ (own : PartAsked). parts_in old (one own c (parts_of_group g (place + 1) (left comps (place + 1)) all))) is
-    ∙ ap (λ (i : ℕ). parts_in old (one asked c (parts_of_group g i (left comps (place + 1)) all))) (add-one place)
-    ∙ ap (λ (c : OneComponent). parts_in old (one asked c (parts_of_group g (suc place) (left comps (place + 1)) all))) (component_view_is comp)
-    ∙ ap (λ (ps : Parts). parts_in old ps) (one_part g place (opened comp).name (opened comp).ty (opened comp).presence (left comps (place + 1)) all)
-    ∙ ap (λ (cs : Components). parts_in old (parts_of_group g place cs all)) (sym (left_is comps place comp lt at))
+    one_aside before ns l _ _ are laid (parts_of_group g (place + 1) (left comps (place + 1)) all)
+    ∙ ap (λ (own : PartAsked). parts_in before ns (one own c (parts_of_group g (place + 1) (left comps (place + 1)) all))) is
+    ∙ ap (λ (i : ℕ). parts_in before ns (one asked c (parts_of_group g i (left comps (place + 1)) all))) (add-one place)
+    ∙ ap (λ (c : OneComponent). parts_in before ns (one asked c (parts_of_group g (suc place) (left comps (place + 1)) all))) (component_view_is comp)
+    ∙ ap (λ (ps : Parts). parts_in before ns ps) (one_part g place (opened comp).name (opened comp).ty (opened comp).presence (left comps (place + 1)) all)
+    ∙ ap (λ (cs : Components). parts_in before ns (parts_of_group g place cs all)) (sym (left_is comps place comp lt at))
     ∙ so_far
+
+pub none_more : (b : Builder) (ns : List Node) (g : Group) (comps : List Comp) (place : ℕ) (all : List Term) (ps : Parts) → length comps ≤ place
+    → parts_in b ns (parts_of_group g place (left comps place) all) ≡ ps → parts_in b ns no_parts ≡ ps
+none_more b ns g comps place all ps past stand = ap (parts_in b ns) (nothing g ∙ ap (λ (cs : Components). parts_of_group g place cs all) (sym (none_left comps place past))) ∙ stand
+  where
+    nothing : (g : Group) → no_parts ≡ parts_of_group g place no_components all
+    nothing group.Series = refl
+    nothing group.Set = refl
+    nothing group.Choice = refl
 
 -- what is asked of the part may be laid
 pub part_may : (g : Group) (comps : List Comp) (place : ℕ) (comp : Comp) (own : PartAsked) (all : List Term) → place < length comps → comp ≡ get_or comps place comp → own ≡ asked_at (is_exclusive g) place all
@@ -123,33 +108,33 @@ rest_may comps place comp all lt at may =
     subst (λ (i : ℕ). PartsMayBeLaid i (left comps (place + 1)) all) (sym (add-one place)) here.2
 
 -- they are there now, side by side
-parts_there : (parts : AssembledParts) (after : Builder) (first count : ℕ) → spots_so_far after ≡ spots_so_far parts.builder ++ spots_at (spots_so_far parts.builder) parts.nodes.items
-    → first ≡ length parts.builder.hots.items → count ≡ length parts.nodes.items → parts_between (spots_so_far after) first count ≡ parts_in parts no_parts
-parts_there parts after first count grown at many =
-    let ss : List Spot = spots_so_far parts.builder in
-    ap (λ (all : List Spot). parts_between all first count) grown ∙ run ss parts.nodes.items first count (at ∙ sym (so_many parts.builder)) many
+parts_there : (b : Builder) (ns : List Node) (after : Builder) (first count : ℕ) → spots_so_far after ≡ spots_so_far b ++ spots_at (spots_so_far b) ns
+    → first ≡ length b.hots.items → count ≡ length ns → parts_between (spots_so_far after) first count ≡ parts_in b ns no_parts
+parts_there b ns after first count grown at many =
+    let ss : List Spot = spots_so_far b in
+    ap (λ (all : List Spot). parts_between all first count) grown ∙ run ss ns first count (at ∙ sym (so_many b)) many
 
-pub parts_come : (parts : AssembledParts) (after : Builder) (ascending : Bool) (first count : ℕ) (n : Node) → spots_so_far after ≡ spots_so_far parts.builder ++ spots_at (spots_so_far parts.builder) parts.nodes.items
-    → first ≡ length parts.builder.hots.items → count ≡ length parts.nodes.items
-    → length parts.nodes.items ≤ 64 → (ascending ≡ true → ascend None (parts_in parts no_parts) ≡ true)
+pub parts_come : (b : Builder) (ns : List Node) (after : Builder) (ascending : Bool) (first count : ℕ) (n : Node) → spots_so_far after ≡ spots_so_far b ++ spots_at (spots_so_far b) ns
+    → first ≡ length b.hots.items → count ≡ length ns
+    → length ns ≤ 64 → (ascending ≡ true → ascend None (parts_in b ns no_parts) ≡ true)
     → ((spots : List Spot) (k : ℕ) → first + count ≤ k → count ≤ 64 → (ascending ≡ true → ascend None (parts_between spots first count) ≡ true) → IsNode n.hot n.cold spots k)
     → IsNode n.hot n.cold (spots_so_far after) (length after.hots.items)
-parts_come parts after ascending first count n grown at many few order node =
-    let ss : List Spot = spots_so_far parts.builder in
-    let all : length (spots_so_far after) ≡ length ss + length (spots_at ss parts.nodes.items) = ap (λ (ss : List Spot). length ss) grown ∙ length-append ss (spots_at ss parts.nodes.items) in
-    node (spots_so_far after) (length after.hots.items) (omega (arith, all, at, many, so_many parts.builder, so_many after, spots_length ss parts.nodes.items)) (omega (arith, many, few))
-    (λ e. ap (ascend None) (parts_there parts after first count grown at many) ∙ order e)
+parts_come b ns after ascending first count n grown at many few order node =
+    let ss : List Spot = spots_so_far b in
+    let all : length (spots_so_far after) ≡ length ss + length (spots_at ss ns) = ap (λ (ss : List Spot). length ss) grown ∙ length-append ss (spots_at ss ns) in
+    node (spots_so_far after) (length after.hots.items) (omega (arith, all, at, many, so_many b, so_many after, spots_length ss ns)) (omega (arith, many, few))
+    (λ e. ap (ascend None) (parts_there b ns after first count grown at many) ∙ order e)
 
-pub parts_stand : (parts : AssembledParts) (after : Builder) (g : Group) (tag : Option Tag) (first count : ℕ) (n : Node) → spots_so_far after ≡ spots_so_far parts.builder ++ spots_at (spots_so_far parts.builder) parts.nodes.items
-    → first ≡ length parts.builder.hots.items → count ≡ length parts.nodes.items
+pub parts_stand : (b : Builder) (ns : List Node) (after : Builder) (g : Group) (tag : Option Tag) (first count : ℕ) (n : Node) → spots_so_far after ≡ spots_so_far b ++ spots_at (spots_so_far b) ns
+    → first ≡ length b.hots.items → count ≡ length ns
     → ((spots : List Spot) → (spot_of n.hot n.cold spots).plan ≡ plan (own_tags tag) true (body_of_group g (parts_between spots first count)))
-    → (spot_of n.hot n.cold (spots_so_far after)).plan ≡ plan (own_tags tag) true (body_of_group g (parts_in parts no_parts))
-parts_stand parts after g tag first count n grown at many stands =
+    → (spot_of n.hot n.cold (spots_so_far after)).plan ≡ plan (own_tags tag) true (body_of_group g (parts_in b ns no_parts))
+parts_stand b ns after g tag first count n grown at many stands =
     stands (spots_so_far after)
-    ∙ ap (λ (ps : Parts). plan (own_tags tag) true (body_of_group g ps)) (parts_there parts after first count grown at many)
+    ∙ ap (λ (ps : Parts). plan (own_tags tag) true (body_of_group g ps)) (parts_there b ns after first count grown at many)
 
-pub all_grown : (parts : AssembledParts) (after : Builder) → spots_so_far after ≡ spots_so_far parts.builder ++ spots_at (spots_so_far parts.builder) parts.nodes.items → Grows parts.builder after
-all_grown parts after e = record { more = spots_at (spots_so_far parts.builder) parts.nodes.items; grown = e }
+pub all_grown : (b : Builder) (ns : List Node) (after : Builder) → spots_so_far after ≡ spots_so_far b ++ spots_at (spots_so_far b) ns → Grows b after
+all_grown b ns after e = record { more = spots_at (spots_so_far b) ns; grown = e }
 
 -- ---- whether anything is there
 
@@ -211,25 +196,19 @@ group_length group.Series cs terms = listed_length 0 cs terms
 group_length group.Set cs terms = listed_length 0 cs terms
 group_length group.Choice cs terms = chosen_length 0 cs terms
 
-pub nodes_few : (before : Builder) (parts : AssembledParts) (g : Group) (cs : Components) (terms : List Term) → LaysParts before parts (parts_of_group g 0 cs terms)
-    → component_count cs ≤ 64 → length parts.nodes.items ≤ 64
-nodes_few before parts g cs terms laid few =
-    let ss : List Spot = spots_at (spots_so_far parts.builder) parts.nodes.items in
-    let all : length ss + 0 ≡ component_count cs = sym (then_length ss no_parts) ∙ ap parts_length laid.stand ∙ group_length g cs terms in
-    omega (arith, all, few, spots_length (spots_so_far parts.builder) parts.nodes.items)
+pub nodes_few : (b : Builder) (ns : List Node) (g : Group) (cs : Components) (terms : List Term) → parts_in b ns no_parts ≡ parts_of_group g 0 cs terms
+    → component_count cs ≤ 64 → length ns ≤ 64
+nodes_few b ns g cs terms stand few =
+    let ss : List Spot = spots_at (spots_so_far b) ns in
+    let all : length ss + 0 ≡ component_count cs = sym (then_length ss no_parts) ∙ ap parts_length stand ∙ group_length g cs terms in
+    omega (arith, all, few, spots_length (spots_so_far b) ns)
 
-pub group_laid : (before : Builder) (parts : AssembledParts) (whole : Assembled) (ps : Parts) (g : Group) (tag : Option Tag) → LaysParts before parts ps → Lays parts.builder whole (plan (own_tags tag) true (body_of_group g (parts_in parts no_parts)))
-    → Lays before whole (plan (own_tags tag) true (body_of_group g ps))
-group_laid before parts whole ps g tag a b = record {
-  grows = grown_on before parts.builder whole.builder a.grows b.grows;
-  stands = b.stands ∙ ap (λ (ps : Parts). plan (own_tags tag) true (body_of_group g ps)) a.stand;
+pub group_laid : (before b : Builder) (ns : List Node) (whole : Assembled) (ps : Parts) (g : Group) (tag : Option Tag) → Grows before b → parts_in b ns no_parts ≡ ps
+    → Lays b whole (plan (own_tags tag) true (body_of_group g (parts_in b ns no_parts))) → Lays before whole (plan (own_tags tag) true (body_of_group g ps))
+group_laid before b ns whole ps g tag grows stand laid = record {
+  grows = grown_on before b whole.builder grows laid.grows;
+  stands = laid.stands ∙ ap (λ (ps : Parts). plan (own_tags tag) true (body_of_group g ps)) stand;
 }
-
-pub extended : {E : Type 0} (old : AssembledParts) (l : Assembled) (p : Plan) (s side : Side)
-    → MayCome old → Lays old.builder l p → s ≡ side
-    → (r : Result AssembledParts E) → IfOk r (λ new. WithPart old.nodes.items l s new) → IfOk r (λ new. Extends old new side p)
-extended old l p s side are laid same r h =
-    passed_on (λ (new : AssembledParts). WithPart old.nodes.items l s new) (λ (new : AssembledParts). Extends old new side p) r (λ new with. extends old new l p s side are laid same with) h
 
 pub formulas_are : (demands : List SlotDemand) (own : List Tag) (form : Bool) (kind : AbstractKind) (ts : List Term) (rs : List formulas.Implication) → ts ≡ (forms_of demands).terms → rs ≡ (forms_of demands).implications
     → plan own form (implied_of rs (lay_kind kind ts)) ≡ plan own form (implied_of (forms_of demands).implications (lay_kind kind (terms_at demands)))
@@ -238,9 +217,10 @@ formulas_are demands own form kind ts rs t r =
     ∙ ap (λ (rs : List formulas.Implication). plan own form (implied_of rs (lay_kind kind (terms_at demands)))) r
 
 -- the last of all is the whole
-pub whole_is : (before : Builder) (l : Assembled) (after : Builder) (first : ℕ) (n : Nodes) (p : Plan) → Lays before l p → Stacks l after first → n.hots.items ≡ after.hots.items → n.colds.items ≡ after.colds.items → root_of n ≡ p
+pub whole_is : (before : Builder) (l : Assembled) (after : Builder) (n : Nodes) (p : Plan) → Lays before l p → Stacks l after → n.hots.items ≡ after.hots.items → n.colds.items ≡ after.colds.items → root_of n ≡ p
 unfolding spots_in
-whole_is before l after first n p a s hots colds =
+whole_is before l after n p a s hots colds =
+    let first : ℕ = length l.builder.hots.items in
     let last : length n.hots.items - 1 ≡ first = omega (arith, ap (λ (hs : List Hot). length hs) hots, s.count) in
     ap (λ (k : ℕ). (spot_at (spots_of n.hots.items n.colds.items) k).plan) last
     ∙ ap (λ (hs : List Hot). (spot_at (spots_of hs n.colds.items) first).plan) hots

@@ -6,35 +6,23 @@ ghost use Rattle.guard_tables.specs.NodeViews.{condition_view, implication_view}
 ghost use Rattle.guard_tables.specs.Plan as plans;
 ghost use Rattle.guard_tables.specs.Plan.{body_in, tags_in, form_in, asked_of};
 ghost use Rattle.guard_tables.specs.TableNodes.{ascend, own_tags};
-ghost use Rattle.guard_tables.specs.inside.Aside.{AreNodes, spots_at};
-ghost use Rattle.guard_tables.specs.inside.Assembled.{Lays, Stacks, WithPart, MayCome, plan_in, parts_in};
+ghost use Rattle.guard_tables.specs.inside.Aside.{spots_at};
+ghost use Rattle.guard_tables.specs.inside.Assembled.{Lays, Stacks, MayCome, plan_in, parts_in};
 ghost use Rattle.guard_tables.specs.inside.Assembled.{body_of_group, body_of_elements, spots_so_far};
-ghost use Rattle.guard_tables.specs.inside.SideViews.{part_side_view};
 
-use crate::assembled::{Assembled, AssembledParts};
 use crate::conditions_list::Conditions;
 use crate::identifiers::{Identifiers, identifiers_of};
-use crate::new_nodes::{Elements, Group, Node, bare, group_node, with_side};
+use crate::new_nodes::{Elements, Group, Node, bare, group_node};
 use crate::node::{Implication, Kind};
-use crate::node_list::Builder;
-use crate::sides::PartSide;
+use crate::node_list::{Assembled, Builder};
 use guard_model::{OutOfMemory, Tag};
 use std::alloc::Global;
 
-/// Nodes, and which of them was the last to come.
-#[derive(Drop)]
-pub(crate) struct Stacked {
-    pub builder: Builder,
-    pub first: usize,
-}
-
 /// The nodes with the one that wasn't with them yet, which is the last now.
-pub(crate) fn with_last(laid: Assembled) -> Result<Stacked, OutOfMemory>
-    ensures { IfOk result (λ s. Stacks laid s.builder s.first) }
+pub(crate) fn with_last(laid: Assembled) -> Result<Builder, OutOfMemory>
+    ensures { IfOk result (λ b. Stacks laid b) }
 {
-    let first = laid.builder.hots.len();
-    let builder = laid.builder.with(laid.node.hot, laid.node.cold)?;
-    Ok(Stacked { builder, first })
+    laid.builder.with(laid.node.hot, laid.node.cold)
 }
 
 // ---- in front of a node
@@ -55,13 +43,11 @@ pub(crate) fn with_conditions(
         own: laid.node.hot.identifier,
         other: laid.node.hot.other,
     };
-    let inner = with_last(laid)?;
-    let mut node = bare(alloc, Kind::Asked, identifiers, true, inner.first, 1);
+    let first = laid.builder.hots.len();
+    let builder = with_last(laid)?;
+    let mut node = bare(alloc, Kind::Asked, identifiers, true, first, 1);
     node.cold.conditions = conditions;
-    Ok(Assembled {
-        builder: inner.builder,
-        node,
-    })
+    Ok(Assembled { builder, node })
 }
 
 /// The nodes with one in front that has these formulas over what fails there; without formulas no node comes in front.
@@ -80,13 +66,11 @@ pub(crate) fn with_formulas(
         own: laid.node.hot.identifier,
         other: laid.node.hot.other,
     };
-    let inner = with_last(laid)?;
-    let mut node = bare(alloc, Kind::Formula, identifiers, false, inner.first, 1);
+    let first = laid.builder.hots.len();
+    let builder = with_last(laid)?;
+    let mut node = bare(alloc, Kind::Formula, identifiers, false, first, 1);
     node.cold.implications = implications;
-    Ok(Assembled {
-        builder: inner.builder,
-        node,
-    })
+    Ok(Assembled { builder, node })
 }
 
 /// The nodes with one in front that is an explicit tag round the whole.
@@ -95,14 +79,12 @@ fn wrapped(alloc: Global, laid: Assembled, tag: Tag) -> Result<Assembled, OutOfM
     ensures { IfOk result (λ l. Lays laid.builder l
         (plans.plan (tag ∷ tags_in (plan_in laid)) (form_in (plan_in laid)) (body_in (plan_in laid)))) }
 {
-    let inner = with_last(laid)?;
+    let first = laid.builder.hots.len();
+    let builder = with_last(laid)?;
     let identifiers = identifiers_of(Some(tag), true);
-    let mut node = bare(alloc, Kind::Wrapper, identifiers, false, inner.first, 1);
+    let mut node = bare(alloc, Kind::Wrapper, identifiers, false, first, 1);
     node.cold.tag = Some(tag);
-    Ok(Assembled {
-        builder: inner.builder,
-        node,
-    })
+    Ok(Assembled { builder, node })
 }
 
 /// The last of the tags, which is the kind's own; None where there is none, as of a CHOICE.
@@ -146,62 +128,43 @@ pub(crate) fn as_elements(
     ensures { IfOk result
         (λ l. Lays element.builder l (plans.plan (own_tags tag) true (body_of_elements elements (plan_in element)))) }
 {
-    let inner = with_last(element)?;
+    let first = element.builder.hots.len();
+    let builder = with_last(element)?;
     let identifiers = identifiers_of(tag, true);
-    let mut node = bare(alloc, elements.kind(), identifiers, false, inner.first, 1);
+    let mut node = bare(alloc, elements.kind(), identifiers, false, first, 1);
     node.cold.tag = tag;
-    Ok(Assembled {
-        builder: inner.builder,
-        node,
-    })
+    Ok(Assembled { builder, node })
 }
 
 /// The nodes with one that has these parts, of which it is said whether they ascend by their tags.
 pub(crate) fn as_parts(
     alloc: Global,
-    parts: AssembledParts,
+    builder: Builder,
+    parts: Vec<Node>,
     group: Group,
     tag: Option<Tag>,
     ascending: bool,
 ) -> Result<Assembled, OutOfMemory>
-    requires come { MayCome parts }
-    requires few { length parts.nodes.items ≤ most_components }
-    requires order { ascending ≡ true → ascend None (parts_in parts plans.no_parts) ≡ true }
-    ensures { IfOk result (λ l. Lays parts.builder l
-        (plans.plan (own_tags tag) true (body_of_group group (parts_in parts plans.no_parts)))) }
+    requires come { MayCome builder parts.items }
+    requires few { length parts.items ≤ most_components }
+    requires order { ascending ≡ true → ascend None (parts_in builder parts.items plans.no_parts) ≡ true }
+    ensures { IfOk result (λ l. Lays builder l
+        (plans.plan (own_tags tag) true (body_of_group group (parts_in builder parts.items plans.no_parts)))) }
 {
-    let first = parts.builder.hots.len();
-    let count = parts.nodes.len() as u32;
-    let builder = with_all(parts)?;
+    let first = builder.hots.len();
+    let count = parts.len() as u32;
+    let builder = with_all(builder, parts)?;
     let node = group_node(alloc, group, tag, first, count, ascending);
     Ok(Assembled { builder, node })
 }
 
-/// The parts with one more after them, of which this is said beside its type.
-pub(crate) fn with_part(
-    part: Assembled,
-    others: Vec<Node>,
-    side: PartSide,
-) -> Result<AssembledParts, OutOfMemory>
-    requires { AreNodes others.items (spots_so_far part.builder) (length part.builder.hots.items) }
-    ensures { IfOk result (λ l. WithPart others.items part (part_side_view side) l) }
-{
-    let mut nodes = others;
-    nodes.push(with_side(part.node, side))?;
-    Ok(AssembledParts {
-        builder: part.builder,
-        nodes,
-    })
-}
-
 /// The nodes with all parts side by side at their end.
-fn with_all(parts: AssembledParts) -> Result<Builder, OutOfMemory>
-    requires { MayCome parts }
-    ensures { IfOk result (λ b. spots_so_far b ≡ spots_so_far parts.builder
-        ++ spots_at (spots_so_far parts.builder) parts.nodes.items) }
+fn with_all(builder: Builder, parts: Vec<Node>) -> Result<Builder, OutOfMemory>
+    requires { MayCome builder parts.items }
+    ensures { IfOk result (λ b. spots_so_far b ≡ spots_so_far builder ++ spots_at (spots_so_far builder) parts.items) }
 {
-    let mut builder = parts.builder;
-    for node in parts.nodes {
+    let mut builder = builder;
+    for node in parts {
         builder = builder.with(node.hot, node.cold)?;
     }
     Ok(builder)

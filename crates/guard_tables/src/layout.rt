@@ -18,16 +18,14 @@ ghost use Rattle.guard_tables.specs.Plan.{asked_of};
 ghost use Rattle.guard_tables.specs.TableNodes.{own_tags};
 ghost use Rattle.guard_tables.specs.inside.DemandViews.{slot_demands_view, terms_view};
 ghost use Rattle.guard_tables.specs.inside.DemandsOfParts.{part_asked};
-ghost use Rattle.guard_tables.specs.inside.Assembled.{Lays, LaysParts, Extends, MayCome, MayBeLaid, AskedMayBeLaid};
+ghost use Rattle.guard_tables.specs.inside.Assembled.{Lays, LaysPart, MayBeLaid, AskedMayBeLaid};
 ghost use Rattle.guard_tables.specs.inside.Assembled.{KindMayBeLaid, PartsMayBeLaid, body_of_group, parts_of_group};
 ghost use Rattle.guard_tables.specs.inside.Assembled.{body_of_elements, side_of_part};
 ghost use Rattle.guard_tables.specs.inside.SideViews.{part_side_view};
 
 use crate::ascending::ascend;
-use crate::assembled::{Assembled, AssembledParts};
 use crate::assembly::{
-    as_elements, as_parts, innermost, with_conditions, with_formulas, with_last, with_part,
-    with_tags,
+    as_elements, as_parts, innermost, with_conditions, with_formulas, with_last, with_tags,
 };
 use crate::conditions_at_node::conditions_of;
 use crate::conditions_list::Conditions;
@@ -36,8 +34,8 @@ use crate::demands_at_node::forms_of;
 use crate::demands_of_parts::{PartDemands, demands_of_parts, each_of};
 use crate::items::Items;
 use crate::kinds_of_nodes::simple_kind;
-use crate::new_nodes::{Elements, Group, simple_node};
-use crate::node_list::{Builder, Nodes};
+use crate::new_nodes::{Elements, Group, simple_node, with_side};
+use crate::node_list::{Assembled, Builder, Nodes};
 use crate::sides::{PartSide, side_chosen, side_for};
 use guard_model::{Comp, Kind, OutOfMemory, Tag, Ty};
 use std::alloc::Global;
@@ -56,7 +54,7 @@ pub(crate) fn lay_nodes(
 {
     let laid = lay(alloc, declared, demands, Builder::new(alloc))?;
     let whole = with_last(laid)?;
-    Ok(whole.builder.finish())
+    Ok(whole.finish())
 }
 
 /// The node of a type, and what is inside it.
@@ -108,46 +106,18 @@ fn lay_kind(
     ensures { IfOk result (λ l. Lays builder l (plans.plan (own_tags tag) (der.is_constructed (kind_view kind.now))
         (plan.lay_kind (kind_view kind.now) (terms_view terms.now)))) }
 {
-    let conditions = conditions_of(alloc, kind, terms)?;
+    let asked = conditions_of(alloc, kind, terms)?;
     match kind {
-        Kind::Sequence(comps) => lay_group(
-            alloc,
-            comps,
-            Group::Series,
-            terms,
-            tag,
-            conditions,
-            builder,
-        ),
-        Kind::Set(comps) => lay_group(alloc, comps, Group::Set, terms, tag, conditions, builder),
-        Kind::Choice(comps) => lay_group(
-            alloc,
-            comps,
-            Group::Choice,
-            terms,
-            tag,
-            conditions,
-            builder,
-        ),
-        Kind::SequenceOf(element) => lay_elements(
-            alloc,
-            element,
-            Elements::List,
-            terms,
-            tag,
-            conditions,
-            builder,
-        ),
-        Kind::SetOf(element) => lay_elements(
-            alloc,
-            element,
-            Elements::SetOf,
-            terms,
-            tag,
-            conditions,
-            builder,
-        ),
-        _ => lay_simple(alloc, kind, tag, conditions, builder),
+        Kind::Sequence(comps) => lay_group(alloc, comps, Group::Series, terms, tag, asked, builder),
+        Kind::Set(comps) => lay_group(alloc, comps, Group::Set, terms, tag, asked, builder),
+        Kind::Choice(comps) => lay_group(alloc, comps, Group::Choice, terms, tag, asked, builder),
+        Kind::SequenceOf(element) => {
+            lay_elements(alloc, element, Elements::List, terms, tag, asked, builder)
+        }
+        Kind::SetOf(element) => {
+            lay_elements(alloc, element, Elements::SetOf, terms, tag, asked, builder)
+        }
+        _ => lay_simple(alloc, kind, tag, asked, builder),
     }
 }
 
@@ -208,55 +178,40 @@ fn lay_group(
         (body_of_group group
         (parts_of_group group 0 (components_of (map component_view comps.now)) (terms_view terms.now)))))) }
 {
-    let parts = lay_each(alloc, comps, group, terms, builder)?;
-    let whole = as_parts(alloc, parts, group, tag, ascend(comps))?;
+    let asked = demands_of_parts(alloc, group.is_exclusive(), terms, comps.len())?;
+    let mut builder = builder;
+    let mut nodes = Vec::new(alloc);
+    for (place, comp) in comps.iter().enumerate() {
+        let part = lay_part(alloc, comp, group, &asked[place], builder)?;
+        builder = part.builder;
+        nodes.push(part.node)?;
+    }
+    let whole = as_parts(alloc, builder, nodes, group, tag, ascend(comps))?;
     with_conditions(alloc, whole, conditions)
 }
 
-/// What is inside the parts, and the parts' own nodes aside.
-#[cycle(layout)]
-fn lay_each(
-    alloc: Global,
-    comps: &[Comp],
-    group: Group,
-    terms: &[Term<'_>],
-    builder: Builder,
-) -> Result<AssembledParts, OutOfMemory>
-    requires { PartsMayBeLaid 0 (components_of (map component_view comps.now)) (terms_view terms.now) }
-    ensures { IfOk result (λ l. LaysParts builder l
-        (parts_of_group group 0 (components_of (map component_view comps.now)) (terms_view terms.now))) }
-{
-    let mut parts = AssembledParts {
-        builder,
-        nodes: Vec::new(alloc),
-    };
-    let asked = demands_of_parts(alloc, group.is_exclusive(), terms, comps.len())?;
-    for (place, comp) in comps.iter().enumerate() {
-        parts = lay_part(alloc, comp, group, &asked[place], parts)?;
-    }
-    Ok(parts)
-}
-
-/// The parts with one component or alternative more, of which this is asked.
+/// The node of a component or alternative of which this is asked, and what is inside it.
 #[cycle(layout)]
 fn lay_part(
     alloc: Global,
     comp: &Comp,
     group: Group,
     asked: &PartDemands<'_>,
-    parts: AssembledParts,
-) -> Result<AssembledParts, OutOfMemory>
-    requires nodes { MayCome parts }
+    builder: Builder,
+) -> Result<Assembled, OutOfMemory>
     requires laid { MayBeLaid (component_view comp.now).ty (part_asked asked.now).demands }
     requires proper { IsTrue (is_proper_presence (component_view comp.now).ty (component_view comp.now).presence) }
-    ensures { IfOk result (λ l. Extends parts l
+    ensures { IfOk result (λ l. LaysPart builder l
         (side_of_part group (component_view comp.now) (part_asked asked.now)
         (plan.lay (component_view comp.now).ty (part_asked asked.now).demands))
         (plan.lay (component_view comp.now).ty (part_asked asked.now).demands)) }
 {
     let side = side_of(alloc, comp, group, asked)?;
-    let laid = lay(alloc, &comp.ty, &asked.demands, parts.builder)?;
-    with_part(laid, parts.nodes, side)
+    let laid = lay(alloc, &comp.ty, &asked.demands, builder)?;
+    Ok(Assembled {
+        builder: laid.builder,
+        node: with_side(laid.node, side),
+    })
 }
 
 /// What is said of a component or alternative, beside its type.

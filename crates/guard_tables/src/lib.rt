@@ -9,7 +9,7 @@
 //! | At which nodes is that looked at, and which is the first with too many? | `nodes.rt` (`crowded_node`) | `Conditions.antt`, `Search.antt` |
 //! | Which slots have failed? | `slots.rt` | `Slots.antt` |
 //! | How are the nodes of a table put together? | `layout.rt` (`lay_nodes`) | `Lay.antt` |
-//! | By which steps? | `assembly.rt`, `assembled.rt` | `Assembled.antt`, `Bare.antt`, `Aside.antt` |
+//! | By which steps? | `assembly.rt` | `Assembled.antt`, `Bare.antt`, `Aside.antt` |
 //! | What is a node before it is with the others? | `new_nodes.rt`, `kinds_of_nodes.rt`, `identifiers.rt` | `Lay.antt` |
 //! | Do the components of a type ascend by their tags? | `ascending.rt` | `TableNodes.antt` (`ascend`), `Ascending.antt` |
 //! | Which tests has a node? | `conditions_at_node.rt`, octets `encoded.rt` | `Lay.antt` |
@@ -39,7 +39,6 @@
 
 mod alphabet;
 mod ascending;
-mod assembled;
 mod assembly;
 mod conditions;
 mod conditions_at_node;

@@ -4,6 +4,7 @@ ghost use Rattle.std.proofs.Props.{props};
 ghost use Rattle.guard_integers.specs.Integers.{integers_set};
 ghost use Rattle.guard_tables.specs.TableNodes.{IsBuilt, IsNode, spots_of};
 
+use crate::new_nodes::Node;
 use crate::node::{Cold, Hot};
 use guard_model::OutOfMemory;
 use std::alloc::Global;
@@ -23,6 +24,15 @@ pub(crate) struct Builder {
     pub hots: Vec<Hot>,
     pub colds: Vec<Cold>,
     pub ghost built: { IsBuilt hots.items colds.items } by { Prim.hlevel (props, integers_set) },
+}
+
+/// Nodes, and one more that stands for the whole and isn't with them yet.
+#[derive(Drop)]
+pub(crate) struct Assembled {
+    pub builder: Builder,
+    pub node: Node,
+    pub ghost stands: { IsNode node.hot node.cold (spots_of builder.hots.items builder.colds.items)
+        (length builder.hots.items) } by { Prim.hlevel (props, integers_set) },
 }
 
 impl Builder {

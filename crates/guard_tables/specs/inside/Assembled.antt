@@ -13,15 +13,14 @@ use Rattle.guard_tables.specs.declared.new_nodes.Group.TheVariants as group
 use Rattle.guard_tables.specs.declared.new_nodes.Elements.{Elements}
 use Rattle.guard_tables.specs.declared.new_nodes.Elements.TheVariants as elements
 use Rattle.guard_tables.specs.declared.new_nodes.Node.{Node}
-use Rattle.guard_tables.specs.declared.assembled.Assembled.{Assembled}
-use Rattle.guard_tables.specs.declared.assembled.AssembledParts.{AssembledParts}
+use Rattle.guard_tables.specs.declared.node_list.Assembled.{Assembled}
 use Rattle.guard_tables.specs.declared.node_list.Builder.{Builder}
 use Rattle.guard_tables.specs.Apt.{AreApt, AllSpeak}
 use Rattle.guard_tables.specs.Demands.{SlotDemand, Term}
 use Rattle.guard_tables.specs.OfParts.{each_of, within_of, terms_at, NeedsFew}
 use Rattle.guard_tables.specs.Lay.{lay_parts, lay_alternatives, side_for, side_chosen}
-use Rattle.guard_tables.specs.Plan.{Plan, Body, Parts, Side, series, set, choice, list, set_of, no_parts, part}
-use Rattle.guard_tables.specs.TableNodes.{Spot, spots_of, spot_at}
+use Rattle.guard_tables.specs.Plan.{Plan, Body, Parts, Side, series, set, choice, list, set_of}
+use Rattle.guard_tables.specs.TableNodes.{Spot, spot_of, spots_of, spot_at}
 use Rattle.guard_tables.specs.inside.FormViews.{RoomFor}
 use Rattle.guard_tables.specs.inside.DemandsOfParts.{PartAsked}
 use Rattle.guard_tables.specs.inside.Aside.{plan_of_node, spots_at, AreNodes, parts_then}
@@ -46,23 +45,23 @@ pub record Lays (before : Builder) (l : Assembled) (p : Plan) : Type 0 where
   pub stands : plan_in l ≡ p
 
 -- the node that wasn't with the others is with them now, and the last one
-pub record Stacks (l : Assembled) (after : Builder) (first : ℕ) : Type 0 where
+pub record Stacks (l : Assembled) (after : Builder) : Type 0 where
   pub grows : Grows l.builder after
-  pub count : length after.hots.items ≡ first + 1
-  pub stands : (spot_at (spots_so_far after) first).plan ≡ plan_in l
+  pub count : length after.hots.items ≡ length l.builder.hots.items + 1
+  pub stands : (spot_at (spots_so_far after) (length l.builder.hots.items)).plan ≡ plan_in l
 
-abbrev pub parts_in : AssembledParts → Parts → Parts
-parts_in l ps = parts_then (spots_at (spots_so_far l.builder) l.nodes.items) ps
+-- the node that isn't there yet is a part of which this is said, and stands for this plan
+pub record LaysPart (before : Builder) (l : Assembled) (side : Side) (p : Plan) : Type 0 where
+  pub grows : Grows before l.builder
+  pub stands : spot_of l.node.hot l.node.cold (spots_so_far l.builder) ≡ record { side = side; plan = p }
+
+-- the parts that these nodes stand for, and then those
+abbrev pub parts_in : Builder → List Node → Parts → Parts
+parts_in b nodes ps = parts_then (spots_at (spots_so_far b) nodes) ps
 
 -- each of them may come next
-abbrev pub MayCome : AssembledParts → Type 0
-MayCome l = AreNodes l.nodes.items (spots_so_far l.builder) (length l.builder.hots.items)
-
--- the nodes that aren't there yet stand for these parts
-pub record LaysParts (before : Builder) (l : AssembledParts) (ps : Parts) : Type 0 where
-  pub grows : Grows before l.builder
-  pub nodes : MayCome l
-  pub stand : parts_in l no_parts ≡ ps
+abbrev pub MayCome : Builder → List Node → Type 0
+MayCome b nodes = AreNodes nodes (spots_so_far b) (length b.hots.items)
 
 -- ---- nodes with parts
 
@@ -85,20 +84,6 @@ parts_of_group group.Choice i cs terms = lay_alternatives i cs terms
 abbrev pub body_of_elements : Elements → Plan → Body
 body_of_elements elements.List p = list p
 body_of_elements elements.SetOf p = set_of p
-
--- one part more, of which this is said
-pub record WithPart (others : List Node) (l : Assembled) (side : Side) (new : AssembledParts) : Type 0 where
-  pub same : new.builder ≡ l.builder
-  pub nodes : MayCome new
-  pub stand : (ps : Parts)
-      → parts_in new ps ≡ parts_then (spots_at (spots_so_far l.builder) others) (part side (plan_in l) ps)
-
--- with what is inside it: one part more, of which this is said and which stands for this plan, whatever parts come
--- after it
-pub record Extends (old new : AssembledParts) (side : Side) (p : Plan) : Type 0 where
-  pub grows : Grows old.builder new.builder
-  pub nodes : MayCome new
-  pub stand : (ps : Parts) → parts_in new ps ≡ parts_in old (part side p ps)
 
 -- what is said of a part of which this is asked
 abbrev pub side_of_part : Group → OneComponent → PartAsked → Plan → Side

@@ -9,13 +9,13 @@ use Rattle.guard_tables.specs.Demands.{Term}
 use Rattle.guard_tables.specs.OfParts.{each_of}
 use Rattle.guard_tables.specs.Lay.{lay, implied_of}
 use Rattle.guard_tables.specs.NodeViews.{condition_view, implication_view}
-use Rattle.guard_tables.specs.Plan.{Body, plan, asked_of}
+use Rattle.guard_tables.specs.Plan.{Body, Plan, Side, plan, asked_of}
 use Rattle.guard_tables.specs.TableNodes.{own_tags}
 use Rattle.guard_tables.specs.inside.DemandViews.{slot_demands_view, terms_view}
-use Rattle.guard_tables.specs.inside.Assembled.{AskedMayBeLaid, body_of_elements, body_of_group, parts_of_group, side_of_part, is_exclusive}
+use Rattle.guard_tables.specs.inside.Assembled.{AskedMayBeLaid, body_of_elements, body_of_group, parts_of_group, is_exclusive}
 use Rattle.guard_tables.specs.inside.SideViews.{part_side_view}
-use Rattle.guard_tables.proofs.Comings.{laid_as, grown_on}
-use Rattle.guard_tables.proofs.LaidSteps.{tags_laid, formulas_laid, elements_laid, group_laid, nodes_few, extended, formulas_are, still_aside, part_may, part_proper, part_more, rest_may}
+use Rattle.guard_tables.proofs.Comings.{laid_as, grown_on, nodes_last}
+use Rattle.guard_tables.proofs.LaidSteps.{tags_laid, formulas_laid, elements_laid, group_laid, nodes_few, none_more, formulas_are, still_aside, part_may, part_proper, part_more, rest_may}
 use Rattle.guard_tables.proofs.LaidTypes.{asked_may}
 use Rattle.guard_tables.proofs.AscendingParts.{laid_ascend}
 use Rattle.guard_tables.specs.declared.new_nodes.Group.{Group}
@@ -49,68 +49,75 @@ lay_elements-returns t c =
     (laid_as c.args.builder c.in_ok-laid.laid _ p (rw (c.deref.ensures.value, c.in_ok-demands.ensures) refl) c.in_ok-laid.ensures) c.in_ok-whole.ensures)
     refl c.with_conditions.result c.with_conditions.ensures
 
-pub lay_group-as_parts-requires : goal.lay_group-as_parts-requires
-lay_group-as_parts-requires t c = record {
-  come = c.in_ok-parts.ensures.nodes;
-  few = nodes_few c.args.builder c.in_ok-parts.parts c.args.group (components_of (map component_view c.args.comps.now)) (terms_view c.args.terms.now) c.in_ok-parts.ensures c.requires.few;
-  order = λ e. laid_ascend c.args.builder c.in_ok-parts.parts c.args.group (components_of (map component_view c.args.comps.now)) (terms_view c.args.terms.now) c.in_ok-parts.ensures ∙ sym c.ascend.ensures ∙ e;
-}
-
-pub lay_group-returns : goal.lay_group-returns
-lay_group-returns t c =
-    let ps = parts_of_group c.args.group 0 (components_of (map component_view c.args.comps.now)) (terms_view c.args.terms.now) in
-    formulas_laid c.args.builder c.in_ok-whole.whole (plan (own_tags c.args.tag) true (body_of_group c.args.group ps)) (plan (own_tags c.args.tag) true (asked_of (map condition_view c.args.conditions.list.items) (body_of_group c.args.group ps)))
-    (λ (b : Body). asked_of (map condition_view c.args.conditions.list.items) b)
-    (group_laid c.args.builder c.in_ok-parts.parts c.in_ok-whole.whole ps c.args.group c.args.tag c.in_ok-parts.ensures c.in_ok-whole.ensures)
-    refl c.with_conditions.result c.with_conditions.ensures
-
-pub lay_part-with_part-requires : goal.lay_part-with_part-requires
-lay_part-with_part-requires t c = still_aside c.args.parts c.in_ok-laid.laid.builder c.requires.nodes c.in_ok-laid.ensures.grows
+pub lay_part-invariant_of-result : goal.lay_part-invariant_of-result
+lay_part-invariant_of-result t c = record { stands = c.with_side.ensures.node _ _ c.in_ok-laid.laid.stands }
 
 pub lay_part-returns : goal.lay_part-returns
 lay_part-returns t c =
     let asked = part_asked c.args.asked.now in
     let p = lay (component_view c.args.comp.now).ty asked.demands in
-    extended c.args.parts c.in_ok-laid.laid p (part_side_view c.in_ok-side.side) (side_of_part c.args.group (component_view c.args.comp.now) asked p) c.requires.nodes
-    (laid_as c.args.parts.builder c.in_ok-laid.laid _ p (rw (c.deref.ensures.value, component_view_is c.args.comp.now) refl) c.in_ok-laid.ensures)
-    c.in_ok-side.ensures c.with_part.result c.with_part.ensures
+    let laid = laid_as c.args.builder c.in_ok-laid.laid _ p (rw (c.deref.ensures.value, component_view_is c.args.comp.now) refl) c.in_ok-laid.ensures in
+    record {
+      grows = laid.grows;
+      stands = c.with_side.ensures.spot _ ∙ ap (λ (p : Plan). record { side = part_side_view c.in_ok-side.side; plan = p }) laid.stands ∙ ap (λ (s : Side). record { side = s; plan = p }) c.in_ok-side.ensures;
+    }
 
 -- what is asked of the part
 own_asked : (group : Group) (all : List Term) (n : ℕ) (vs : List code.PartDemands) (place : ℕ) (v : code.PartDemands) (exclusive : Bool) → exclusive ≡ is_exclusive group
     → parts_asked vs ≡ add_terms exclusive all (replicate n nothing_asked) → place < n → v ≡ get_or vs place v → part_asked v ≡ asked_at (is_exclusive group) place all
 own_asked group all n vs place v exclusive same is lt at = asked_read exclusive all n vs place v is lt at ∙ ap (λ (b : Bool). asked_at b place all) same
 
-pub lay_each-index-requires : goal.lay_each-index-requires
-lay_each-index-requires t c =
+pub lay_group-index-requires : goal.lay_group-index-requires
+lay_group-index-requires t c =
     omega (arith, c.loop-place-test.true, all_added c.is_exclusive.result (terms_view c.args.terms.now) (length c.args.comps.now) c.in_ok-asked.asked.items c.in_ok-asked.ensures, c.in_ok-asked.asked.ok.0)
 
-pub lay_each-lay_part-requires : goal.lay_each-lay_part-requires
-lay_each-lay_part-requires t c =
+pub lay_group-lay_part-requires : goal.lay_group-lay_part-requires
+lay_group-lay_part-requires t c =
     let comps = c.args.comps.now in
     let place = c.loop-place.place in
     let all = terms_view c.args.terms.now in (
       search (rules, the_lemmas),
       (
-        c.loop-place.invariant.nodes,
-        (
-          part_may c.args.group comps place c.index-comps-place.result (part_asked c.index.result.now) all c.loop-place-test.true c.index-comps-place.is
-              (own_asked c.args.group all (length comps) c.in_ok-asked.asked.items place c.index.result.now c.is_exclusive.result c.is_exclusive.ensures c.in_ok-asked.ensures c.loop-place-test.true c.index.ensures)
-              c.loop-place.invariant.rest,
-          part_proper comps place c.index-comps-place.result all c.loop-place-test.true c.index-comps-place.is c.loop-place.invariant.rest,
-        ),
+        part_may c.args.group comps place c.index-comps-place.result (part_asked c.index.result.now) all c.loop-place-test.true c.index-comps-place.is
+            (own_asked c.args.group all (length comps) c.in_ok-asked.asked.items place c.index.result.now c.is_exclusive.result c.is_exclusive.ensures c.in_ok-asked.ensures c.loop-place-test.true c.index.ensures)
+            c.loop-place.invariant.rest,
+        part_proper comps place c.index-comps-place.result all c.loop-place-test.true c.index-comps-place.is c.loop-place.invariant.rest,
       ),
     )
 
-pub lay_each-loop-place-preserved : goal.lay_each-loop-place-preserved
-lay_each-loop-place-preserved t c =
+pub lay_group-loop-place-preserved : goal.lay_group-loop-place-preserved
+lay_group-loop-place-preserved t c =
     let comps = c.args.comps.now in
     let place = c.loop-place.place in
     let all = terms_view c.args.terms.now in
+    let builder = c.loop-place.builder in
+    let part = c.in_ok-part.part in
     record {
-      grows = grown_on c.args.builder c.loop-place.parts.builder c.in_ok-parts.parts.builder c.loop-place.invariant.grows c.in_ok-parts.ensures.grows;
-      nodes = c.in_ok-parts.ensures.nodes;
-      stand = part_more c.loop-place.parts c.in_ok-parts.parts c.args.group comps place c.index-comps-place.result (part_asked c.index.result.now) all c.loop-place-test.true c.index-comps-place.is
+      grows = grown_on c.args.builder builder part.builder c.loop-place.invariant.grows c.in_ok-part.ensures.grows;
+      nodes = rw c.in_ok-push.ensures.items (nodes_last c.loop-place.nodes.items part.node _ _ (still_aside c.loop-place.nodes.items builder part.builder c.loop-place.invariant.nodes c.in_ok-part.ensures.grows) part.stands);
+      stand = rw c.in_ok-push.ensures.items (part_more builder c.loop-place.nodes.items part c.args.group comps place c.index-comps-place.result (part_asked c.index.result.now) all c.loop-place-test.true c.index-comps-place.is
           (own_asked c.args.group all (length comps) c.in_ok-asked.asked.items place c.index.result.now c.is_exclusive.result c.is_exclusive.ensures c.in_ok-asked.ensures c.loop-place-test.true c.index.ensures)
-          c.in_ok-parts.ensures _ c.loop-place.invariant.stand;
+          c.loop-place.invariant.nodes c.in_ok-part.ensures _ c.loop-place.invariant.stand);
       rest = rest_may comps place c.index-comps-place.result all c.loop-place-test.true c.index-comps-place.is c.loop-place.invariant.rest;
     }
+
+-- the parts of all, once none is left
+pub lay_group-as_parts-requires : goal.lay_group-as_parts-requires
+lay_group-as_parts-requires t c =
+    let cs = components_of (map component_view c.args.comps.now) in
+    let terms = terms_view c.args.terms.now in
+    let stand = none_more c.loop-place.builder c.loop-place.nodes.items c.args.group c.args.comps.now c.loop-place.place terms _ c.loop-place-test.false c.loop-place.invariant.stand in
+    record {
+      come = c.loop-place.invariant.nodes;
+      few = nodes_few c.loop-place.builder c.loop-place.nodes.items c.args.group cs terms stand c.requires.few;
+      order = λ e. laid_ascend c.loop-place.builder c.loop-place.nodes.items c.args.group cs terms stand ∙ sym c.ascend.ensures ∙ e;
+    }
+
+pub lay_group-returns : goal.lay_group-returns
+lay_group-returns t c =
+    let ps = parts_of_group c.args.group 0 (components_of (map component_view c.args.comps.now)) (terms_view c.args.terms.now) in
+    formulas_laid c.args.builder c.in_ok-whole.whole (plan (own_tags c.args.tag) true (body_of_group c.args.group ps)) (plan (own_tags c.args.tag) true (asked_of (map condition_view c.args.conditions.list.items) (body_of_group c.args.group ps)))
+    (λ (b : Body). asked_of (map condition_view c.args.conditions.list.items) b)
+    (group_laid c.args.builder c.loop-place.builder c.loop-place.nodes.items c.in_ok-whole.whole ps c.args.group c.args.tag c.loop-place.invariant.grows
+    (none_more c.loop-place.builder c.loop-place.nodes.items c.args.group c.args.comps.now c.loop-place.place (terms_view c.args.terms.now) ps c.loop-place-test.false c.loop-place.invariant.stand) c.in_ok-whole.ensures)
+    refl c.with_conditions.result c.with_conditions.ensures

@@ -103,9 +103,7 @@ fn value_of_end<'a>(end: &EndTree<'a>) -> ValueTree<'a>
     ensures { trees.value_view result ≡ ends.value_of_end (end_view end.now) }
 {
     let form = match end.form {
-        EndForm::Integer(number) => {
-            ValueForm::Integer(number.minus, number.site, number.digits)
-        }
+        EndForm::Integer(number) => { ValueForm::Integer(number.minus, number.site, number.digits) }
         EndForm::Reference(name) => ValueForm::Reference(name),
         EndForm::Characters(spelling) => ValueForm::Text(StringKind::Characters, spelling),
     };

@@ -45,10 +45,6 @@ module _ (site : Site) (before : List AlphabetItem) (first : WrittenIntersection
   unfolding items_of
   union_then so_far h = gathered_then site before (items_of_intersection first) (items_of_united others) so_far h
 
-  pub union_refused : (f : Option ConsFault) → Refuses f (gathered site before (items_of_intersection first)) → Refuses f (gathered site before (items_of_form (written.union first others)))
-  unfolding items_of
-  union_refused f h = gathered_refused site before (items_of_intersection first) (items_of_united others) f h
-
 -- an element alone is a set
 nothing_more : (there : Option (List AlphabetItem)) → joined_items there (Some []) ≡ there
 nothing_more None = refl

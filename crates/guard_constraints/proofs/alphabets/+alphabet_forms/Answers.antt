@@ -11,6 +11,20 @@ use Rattle.guard_constraints.proofs.CodeSteps.KeptTrees.{joined_intersection_is}
 use Rattle.guard_constraints.proofs.CodeSteps.AlphabetForms.{union_then, united_goes_on, united_stops, united_ends, alone_taken, joined_refused}
 use Rattle.guard_constraints.proofs.alphabets.+alphabet_forms.Goals as goal
 
+pub in_intersection-returns-then-not-is_empty : goal.in_intersection-returns-then-not-is_empty
+in_intersection-returns-then-not-is_empty t c =
+    let d = difference_view c.in-Differences.first.value in
+    let others = c.in-Differences.others.items in
+    let e : intersection_view c.args.tree.now ≡ written.intersection (site_of_difference d) d (met_of (map joined_difference_view others)) = search (rules, tree_lemmas) in
+    rw (e, joined_refused (site_of_difference d) d others (rw c.deref-others.ensures.value at (sym c.is_empty.ensures ∙ c.if-not-is_empty.true))) refl
+
+pub in_intersection-returns-else-not-is_empty : goal.in_intersection-returns-else-not-is_empty
+in_intersection-returns-else-not-is_empty t c =
+    let d = difference_view c.in-Differences.first.value in
+    let others = c.in-Differences.others.items in
+    let e : intersection_view c.args.tree.now ≡ written.intersection (site_of_difference d) d (met_of (map joined_difference_view others)) = search (rules, tree_lemmas) in
+    rw (e, alone_taken (site_of_difference d) d others (rw c.deref-others.ensures.value at (sym c.is_empty.ensures ∙ c.if-not-is_empty.false))) (rw c.deref.ensures at c.in_difference.ensures)
+
 pub in_set-returns-in_ok-items-in-Union : goal.in_set-returns-in_ok-items-in-Union
 unfolding items_of
 in_set-returns-in_ok-items-in-Union t c =

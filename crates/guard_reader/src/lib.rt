@@ -9,6 +9,7 @@
 //! | Is an element of a node at the front of octets? | `element_fronts.rt`, lengths `header.rt` | `specs/Fronts.antt` |
 //! | Which tag is the outermost, is it spelled there? | `layers.rt`, `high_tags.rt` | `specs/inside/FrontViews.antt` |
 //! | Components of a SET that don't ascend: which is next? | `set_members.rt` | `specs/inside/Members.antt`, `specs/inside/Ranks.antt` |
+//! | Does an element of a SET OF descend to the next? | `order.rt` | of `guard_der` `specs/Fits.antt` (`descends`) |
 //! | Which contents octets are lawful? | `contents.rt`, `object_id.rt` | of `guard_der` `specs/Simple.antt` |
 //! | What fails at their value? | `simple.rt` | `specs/Judging.antt` |
 //! | What is asked of a value that has parts as a whole? | `whole.rt` | `specs/Judging.antt` |
@@ -31,6 +32,7 @@ pub mod laws;
 mod layers;
 mod marks;
 mod object_id;
+mod order;
 mod plain;
 mod set_members;
 mod simple;

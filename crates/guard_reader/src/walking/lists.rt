@@ -6,9 +6,9 @@ ghost use Rattle.guard_reader.specs.inside.Answers.{Answers};
 ghost use Rattle.guard_reader.specs.inside.NodeParts.{pass_at, sight_at};
 
 use crate::element_fronts::{element, front_at, front_of};
-use crate::plain::{after_one_plain, after_plain};
+use crate::order::descends;
+use crate::plain::{after_one_plain, after_plain, is_plain};
 use crate::walking::within_tag;
-use guard_der::order::descends;
 use guard_tables::{Kind, Nodes, Slots};
 
 /// Whether all the octets are elements of the node; the slots of what they don't pass are added to those that fail. One
@@ -74,7 +74,7 @@ pub fn set_of(table: &Nodes, first: usize, octets: &[u8], failed: &mut Slots) ->
         let Some((content, next)) = element(front_at(table, first, rest)) else {
             return false;
         };
-        if !within_tag(table, first, content, failed) {
+        if !item(table, first, content, failed) {
             return false;
         }
         let element = front_of(rest, next);
@@ -85,4 +85,17 @@ pub fn set_of(table: &Nodes, first: usize, octets: &[u8], failed: &mut Slots) ->
         rest = next;
     }
     true
+}
+
+/// What `within_tag` answers for one element. A plain number needs no call.
+#[cycle(walking)]
+#[inline(always)]
+fn item(table: &Nodes, at: usize, inside: &[u8], failed: &mut Slots) -> bool
+    requires { at < vec_len table.now.hots }
+    ensures { Answers result failed.new (pass_at (spots_in table.now) at inside.now failed.old) }
+{
+    if is_plain(&table.hots[at], inside) {
+        return true;
+    }
+    within_tag(table, at, inside, failed)
 }

@@ -346,14 +346,14 @@ lists::set_of-returns-in_default t c =
     sym c.loop-before.invariant
     ∙ not_ordered (sight_at (spots_in c.args.table.now) c.args.first) _ c.loop-before.before.now c.loop-before.rest.now c.loop-before.failed (sym c.is_empty.ensures ∙ c.loop-before-test.true) (ap element_in (sym c.front_at.ensures) ∙ sym c.in_default.ensures)
 
-pub lists::set_of-returns-then-not-within_tag : goal.lists::set_of-returns-then-not-within_tag
-lists::set_of-returns-then-not-within_tag t c =
+pub lists::set_of-returns-then-not-item : goal.lists::set_of-returns-then-not-item
+lists::set_of-returns-then-not-item t c =
     let sight = sight_at (spots_in c.args.table.now) c.args.first in
     let pass = pass_at (spots_in c.args.table.now) c.args.first in
     let some = sym c.is_empty.ensures ∙ c.loop-before-test.true in
     let there = element_here _ _ (ap element_in (sym c.front_at.ensures) ∙ sym c.in-Some.ensures) in
     let step = one_ordered sight pass c.loop-before.before.now c.loop-before.rest.now c.in-Some.content.now c.in-Some.next.now c.loop-before.failed (sees_within c.args.table.now c.args.first) some there in
-    sym c.loop-before.invariant ∙ step ∙ bind_none _ _ (no c.within_tag.result c.within_tag.new.failed _ c.within_tag.ensures c.if-not-within_tag.true)
+    sym c.loop-before.invariant ∙ step ∙ bind_none _ _ (no c.item.result c.item.new.failed _ c.item.ensures c.if-not-item.true)
 
 pub lists::set_of-front_of-element-requires : goal.lists::set_of-front_of-element-requires
 lists::set_of-front_of-element-requires t c =
@@ -369,7 +369,7 @@ lists::set_of-returns-then-descends t c =
     let there = element_here _ _ (ap element_in (sym c.front_at.ensures) ∙ sym c.in-Some.ensures) in
     let step = one_ordered sight pass c.loop-before.before.now c.loop-before.rest.now c.in-Some.content.now c.in-Some.next.now c.loop-before.failed (sees_within c.args.table.now c.args.first) some there in
     let tested = ap (descends c.loop-before.before.now) (sym c.front_of-element.ensures) ∙ sym c.descends.ensures ∙ c.if-descends.true in
-    sym c.loop-before.invariant ∙ step ∙ bind_some _ _ _ (yes c.within_tag.result c.within_tag.new.failed _ c.within_tag.ensures c.if-not-within_tag.false)
+    sym c.loop-before.invariant ∙ step ∙ bind_some _ _ _ (yes c.item.result c.item.new.failed _ c.item.ensures c.if-not-item.false)
     ∙ cond-true (descends c.loop-before.before.now (front_of c.loop-before.rest.now c.in-Some.next.now)) None _ tested
 
 pub lists::set_of-loop-before-smaller : goal.lists::set_of-loop-before-smaller
@@ -386,13 +386,18 @@ lists::set_of-loop-before-preserved t c =
     let there = element_here _ _ (ap element_in (sym c.front_at.ensures) ∙ sym c.in-Some.ensures) in
     let step = one_ordered sight pass c.loop-before.before.now c.loop-before.rest.now c.in-Some.content.now c.in-Some.next.now c.loop-before.failed (sees_within c.args.table.now c.args.first) some there in
     let tested = ap (descends c.loop-before.before.now) (sym c.front_of-element.ensures) ∙ sym c.descends.ensures ∙ c.if-descends.false in
-    ap (λ (xs : List ℕ). ordered sight pass xs c.in-Some.next.now c.within_tag.new.failed) c.front_of-element.ensures
-    ∙ sym (step ∙ bind_some _ _ _ (yes c.within_tag.result c.within_tag.new.failed _ c.within_tag.ensures c.if-not-within_tag.false)
+    ap (λ (xs : List ℕ). ordered sight pass xs c.in-Some.next.now c.item.new.failed) c.front_of-element.ensures
+    ∙ sym (step ∙ bind_some _ _ _ (yes c.item.result c.item.new.failed _ c.item.ensures c.if-not-item.false)
     ∙ cond-false (descends c.loop-before.before.now (front_of c.loop-before.rest.now c.in-Some.next.now)) None _ tested)
     ∙ c.loop-before.invariant
 
 pub lists::set_of-returns : goal.lists::set_of-returns
 lists::set_of-returns t c = sym c.loop-before.invariant ∙ none_ordered (sight_at (spots_in c.args.table.now) c.args.first) _ c.loop-before.before.now c.loop-before.rest.now c.loop-before.failed (sym c.is_empty.ensures ∙ c.loop-before-test.false)
+
+pub lists::item-returns-then-is_plain : goal.lists::item-returns-then-is_plain
+lists::item-returns-then-is_plain t c =
+    let n = node_at c.args.table.now c.args.at c.index.result.now c.requires c.index.ensures in
+    (plain_at c.args.table.now c.args.at c.index.result.now n c.args.inside.now c.args.failed.now (c.is_plain.ensures c.if-is_plain.true)).1
 
 -- ---- components
 

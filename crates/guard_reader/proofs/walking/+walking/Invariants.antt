@@ -59,7 +59,10 @@ abbrev pub decreases-lists::items : goal.decreases-lists::items
 decreases-lists::items l = 16 * l.first + 11
 
 abbrev pub decreases-lists::set_of : goal.decreases-lists::set_of
-decreases-lists::set_of l = 16 * l.first + 10
+decreases-lists::set_of l = 16 * l.first + 11
+
+abbrev pub decreases-lists::item : goal.decreases-lists::item
+decreases-lists::item l = 16 * l.at + 10
 
 abbrev pub decreases-choices::chosen : goal.decreases-choices::chosen
 decreases-choices::chosen l = 16 * l.at + 10

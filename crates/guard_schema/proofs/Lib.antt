@@ -14,5 +14,7 @@ pub mod Sound
 pub mod Throughout
 -- ---- the schema
 pub mod ByNames
+-- ---- lists that are too long
+pub mod LongLists
 -- ---- values that stand alone
 pub mod Alone

@@ -1,0 +1,316 @@
+-- Lists of which no element is kept: what is read of their elements in turn, and that so long a list is refused.
+use Rattle.std.proofs.Common.{◌≡◌, inl, inr, ℕ, suc, ◌+◌, ◌-◌, ◌≤◌, ◌<◌, Bool, true, false, ◌&&◌, cond, List, [], ◌∷◌, ◌++◌, length, map, drop, get_or, Option, Some, None, Ok, Err, refl, sym, ap, subst, ◌∙◌, IsTrue, arith, append_assoc}
+use Rattle.std.specs.Prelude.{nat_le, nat_eq}
+use Rattle.std.specs.Option.{is_some}
+use Rattle.std.proofs.lemmas.Bool.{and_parts, and_from, le-leb, lt-leb, eqb-true}
+use Rattle.std.proofs.lemmas.List.{at_drop_more, at_drop_all, append-nil, length-append}
+use Rattle.std.specs.Global.{Box, Vec}
+use Rattle.guard_model.specs.declared.site.Site.{Site}
+use Rattle.guard_model.specs.declared.tag.Tag.{Tag}
+use Rattle.guard_model.specs.declared.ty.Cons.{Cons}
+use Rattle.guard_model.specs.declared.ty.Kind.{Kind, SequenceOf}
+use Rattle.guard_model.specs.declared.ty.Kind.TheViews.{out-Ty}
+use Rattle.guard_model.specs.declared.ty.Ty.{Ty}
+use Rattle.guard_model.specs.AbstractType as type
+use Rattle.guard_model.specs.AbstractType.{AbstractType, AbstractKind, Constraints, type_of, no_constraints}
+use Rattle.guard_model.specs.AbstractValue as value
+use Rattle.guard_model.specs.AbstractValue.{AbstractValue, items_of}
+use Rattle.guard_model.specs.Kinds.{kind_of}
+use Rattle.guard_model.specs.Limits.{deepest_nesting}
+use Rattle.guard_model.proofs.Results.{same_Err}
+use Rattle.guard_model.specs.TypeView.{type_view, kind_view, constraint_view, constraints_of}
+use Rattle.guard_model.proofs.TypeViews.{type_view_is, kind_view_sequence_of}
+use Rattle.guard_tagcheck.specs.Limits.{nesting, is_tagged, are_low}
+use Rattle.guard_der.specs.Der.{der, contents_octets}
+use Rattle.guard_der.specs.Encoding.{longest_encoding, short_length, length_in}
+use Rattle.guard_der.specs.Fits.{fits}
+use Rattle.guard_der.specs.ProperConstraints.{is_short}
+use Rattle.guard_der.specs.Sound.{is_sound, is_proper, has_distinct_tags, are_proper_constraints}
+use Rattle.guard_der.proofs.Functions.Soundness.{told_where_short}
+use Rattle.guard_eval.specs.Elements.{every_item}
+use Rattle.guard_eval.specs.Member.{is_member, all_hold, parts_are_members}
+use Rattle.guard_syntax.specs.declared.tree.Collection.TheVariants as collection
+use Rattle.guard_syntax.specs.declared.tree.EntryTree.{EntryTree}
+use Rattle.guard_syntax.specs.Trees as written
+use Rattle.guard_syntax.specs.declared.tree.EntryTree.TheViews.{out-ValueTree}
+use Rattle.guard_syntax.specs.declared.tree.ValueForm as variant
+use Rattle.guard_syntax.specs.declared.tree.ValueForm.{ValueForm}
+use Rattle.guard_syntax.specs.declared.tree.ValueTree.{ValueTree}
+use Rattle.guard_syntax.specs.Trees.{WrittenValue, WrittenEntries, WrittenEntry, WrittenAssignment, value_node, no_entries, entry, entries_of}
+use Rattle.guard_syntax.specs.Views.{entry_view, value_view, value_form_view}
+use Rattle.guard_values.specs.declared.fault.ValueFault.TheVariants as value_fault
+use Rattle.guard_values.specs.Denotes.{Says, EntriesSay, Denotes}
+use Rattle.guard_values.specs.Meanings.{Meaning, AreFitting}
+use Rattle.guard_values.specs.inside.Reading.{room_without}
+use Rattle.guard_values.proofs.Braces.EntriesInTurn.{value_view_is, form_list}
+use Rattle.guard_values.proofs.Counting.CountedLists.{items_joined, last_counted}
+use Rattle.guard_values.proofs.Counting.CountedValues.{in_tags_counted}
+use Rattle.guard_values.proofs.Fitting.DenotedValuesFit.{says_fits}
+use Rattle.guard_constraints.specs.Visible.{Visible}
+use Rattle.guard_schema.specs.Building.{Assigns, HasValue, KeepsLimit}
+use Rattle.guard_schema.specs.Counting.{held, value_nodes, nodes_of_items, all_held}
+use Rattle.guard_schema.specs.Faults.{AbstractFault, DefaultOutside, TooLarge, Outcome}
+use Rattle.guard_schema.specs.Known.{Built, Known}
+use Rattle.guard_schema.specs.Outcomes.{Is, Then, RefusesBy}
+use Rattle.guard_schema.specs.inside.LongLists.{AreRead, ReadsAndHolds}
+use Rattle.guard_schema.proofs.Sound.Shaped.{element_shaped}
+
+-- ---- elements in turn
+
+and_true : (a : Bool) → (a && true) ≡ a
+and_true true = refl
+and_true false = refl
+
+and_grouped : (a b c : Bool) → (a && (b && c)) ≡ ((a && b) && c)
+and_grouped true b c = refl
+and_grouped false b c = refl
+
+every_last : (test : AbstractValue → Bool) (vs : List AbstractValue) (v : AbstractValue)
+    → every_item test (items_of (vs ++ v ∷ [])) ≡ (every_item test (items_of vs) && test v)
+every_last test [] v = and_true (test v)
+every_last test (w ∷ ws) v = ap (λ (b : Bool). test w && b) (every_last test ws v)
+    ∙ and_grouped (test w) (every_item test (items_of ws)) (test v)
+
+module _ (m : Meaning) (u : AbstractType) where
+  said_first : (e : WrittenEntry) (rest : WrittenEntries) (tree : WrittenValue) (v : AbstractValue)
+      (more : List AbstractValue) → e.name ≡ None → e.value ≡ tree → Says m u tree v → EntriesSay m u rest more
+      → EntriesSay m u (entry e.site e.name e.value rest) (v ∷ more)
+  said_first e rest tree v more none is said others =
+      subst (λ name. EntriesSay m u (entry e.site name e.value rest) (v ∷ more)) (sym none)
+      (v, more, subst (λ w. Says m u w v) (sym is) said, others, refl)
+
+  module _ (entries : List EntryTree) where
+    abbrev pub left : ℕ → WrittenEntries
+    left i = entries_of (map entry_view (drop i entries))
+
+    -- The entries before this one are read: with values of those that are left they say all.
+    abbrev pub AreReadTo : ℕ → Bool → ℕ → Type 0
+    AreReadTo i all room =
+        (vs : List AbstractValue)
+        × ((more : List AbstractValue) → EntriesSay m u (left i) more
+        → EntriesSay m u (entries_of (map entry_view entries)) (vs ++ more))
+        × (all ≡ every_item (is_member u) (items_of vs))
+        × (short_length (items_joined u vs) ≡ Some (longest_encoding - room)) × (length vs ≡ i)
+
+    pub one_read : (i room n : ℕ) (all after : Bool) (e : EntryTree) (tree : WrittenValue) (v : AbstractValue)
+        → i < length entries → e ≡ get_or entries i e → (entry_view e).name ≡ None → (entry_view e).value ≡ tree
+        → Says m u tree v → Some n ≡ short_length (der u v) → n ≤ room → room ≤ longest_encoding
+        → after ≡ (all && is_member u v) → AreReadTo i all room → AreReadTo (i + 1) after (room - n)
+    one_read i room n all after e tree v lt is none alone said counted within low member h =
+        let w = entry_view e in
+        let here : left i ≡ entry w.site w.name w.value (left (i + 1)) =
+        at_drop_more (λ xs. entries_of (map entry_view xs)) entries i e lt
+        ∙ ap (λ (x : EntryTree). entry (entry_view x).site (entry_view x).name (entry_view x).value (left (i + 1))) (sym is) in
+        let took : room_without w.site room (short_length (der u v)) ≡ Ok (room - n) =
+        ap (room_without w.site room) (sym counted)
+        ∙ ap (λ (b : Bool). cond b (Ok (room - n)) (Err (value_fault.TooLarge w.site))) (le-leb n room within) in (
+          h.0 ++ v ∷ [],
+          λ more others.
+              subst (EntriesSay m u (entries_of (map entry_view entries))) (sym (append_assoc h.0 (v ∷ []) more))
+              (h.1 (v ∷ more) (subst (λ es. EntriesSay m u es (v ∷ more)) (sym here) (said_first w (left (i + 1)) tree v more
+              none alone said others))),
+          member ∙ ap (λ (b : Bool). b && is_member u v) h.2 ∙ sym (every_last (is_member u) h.0 v),
+          (last_counted u h.0 v w.site room (room - n) h.3 low took).0,
+          length-append h.0 (v ∷ []) ∙ ap (λ (k : ℕ). k + 1) h.4,
+        )
+
+    pub all_read : (i room : ℕ) (all : Bool) → i ≡ length entries → AreReadTo i all room
+        → AreRead m u (entries_of (map entry_view entries)) (length entries) (all, longest_encoding - room)
+    all_read i room all end h =
+        let none : left i ≡ no_entries =
+        at_drop_all (λ xs. entries_of (map entry_view xs)) entries i (omega (arith, end)) in (
+          h.0,
+          subst (EntriesSay m u (entries_of (map entry_view entries))) (append-nil h.0)
+              (h.1 [] (subst (λ es. EntriesSay m u es []) (sym none) refl)),
+          h.2,
+          h.3,
+          h.4 ∙ end,
+        )
+
+-- ---- types of such lists
+
+pub listed_type : (ty : Ty) (element : Box Ty) → (out-Ty ty).kind ≡ SequenceOf element → (out-Ty ty).cons.items ≡ []
+    → type_view ty ≡ type_of (out-Ty ty).tags.items (type.sequence_of (type_view element.value)) no_constraints
+listed_type ty element is none =
+    type_view_is ty
+    ∙ ap (λ (k : Kind). type_of (out-Ty ty).tags.items (kind_view k)
+    (constraints_of (map constraint_view (out-Ty ty).cons.items))) is
+    ∙ ap (λ (k : AbstractKind). type_of (out-Ty ty).tags.items k
+    (constraints_of (map constraint_view (out-Ty ty).cons.items))) (kind_view_sequence_of element)
+    ∙ ap (λ (cs : List Cons). type_of (out-Ty ty).tags.items (type.sequence_of (type_view element.value))
+    (constraints_of (map constraint_view cs))) none
+
+empty_list : {A : Type 0} (xs : List A) → length xs ≡ 0 → xs ≡ []
+empty_list [] e = refl
+empty_list (x ∷ xs) e = absurd (let more : suc (length xs) ≡ 0 = e in omega (arith, more))
+
+pub no_items : {A : Type 0} (xs : Vec A) → nat_eq xs.len 0 ≡ true → xs.items ≡ []
+no_items xs e =
+    let none : xs.len ≡ 0 = eqb-true xs.len 0 e in
+    empty_list xs.items (omega (arith, none, xs.ok.0))
+
+pub element_sound : (tags : List Tag) (u : AbstractType) (cons : Constraints)
+    → IsTrue (is_sound (type_of tags (type.sequence_of u) cons)) → IsTrue (is_sound u)
+element_sound tags u cons h =
+    let t = type_of tags (type.sequence_of u) cons in
+    let a = and_parts (is_proper t && has_distinct_tags t) (nat_le (nesting t) deepest_nesting) h in
+    let b = and_parts (is_proper t) (has_distinct_tags t) a.0 in
+    let proper = and_parts (is_tagged tags (type.sequence_of u) && are_low tags && are_proper_constraints cons t)
+    (is_proper u) b.0 in
+    let shaped = element_shaped collection.Sequence tags u cons
+    (and_from (has_distinct_tags t) (nat_le (nesting t) deepest_nesting) b.1 a.1) in
+    let s = and_parts (has_distinct_tags u) (nat_le (nesting u) deepest_nesting) shaped in
+    and_from (is_proper u && has_distinct_tags u) (nat_le (nesting u) deepest_nesting)
+    (and_from (is_proper u) (has_distinct_tags u) proper.1 s.0) s.1
+
+-- ---- refused
+
+some_nodes : (v : AbstractValue) → 1 ≤ value_nodes v
+some_nodes (value.fields fs) = omega arith
+some_nodes (value.items vs) = omega arith
+some_nodes (value.chosen i v) = omega arith
+some_nodes (value.boolean b) = omega arith
+some_nodes (value.integer n) = omega arith
+some_nodes (value.enumerated n) = omega arith
+some_nodes value.null = omega arith
+some_nodes (value.bit_string os unused) = omega arith
+some_nodes (value.octet_string os) = omega arith
+some_nodes (value.object_identifier arcs) = omega arith
+some_nodes (value.characters cs) = omega arith
+
+a_node_each : (vs : List AbstractValue) → length vs ≤ nodes_of_items (items_of vs)
+a_node_each [] = omega arith
+a_node_each (v ∷ vs) =
+    let others : length vs ≤ nodes_of_items (items_of vs) = a_node_each vs in
+    let one : 1 ≤ value_nodes v = some_nodes v in
+    let both : suc (length vs) ≤ value_nodes v + nodes_of_items (items_of vs) = omega (arith, others, one) in
+    both
+
+-- what the contents have in their tags
+short_whole : (ty : Ty) (u : AbstractType)
+    → type_view ty ≡ type_of (out-Ty ty).tags.items (type.sequence_of u) no_constraints → (octets : ℕ) (whole : Option ℕ)
+    → whole ≡ length_in (out-Ty ty).tags.items (Some octets) → is_some whole ≡ true → (v : AbstractValue)
+    → Some octets ≡ short_length (contents_octets (type.sequence_of u) v) → is_short (der (type_view ty) v) ≡ true
+short_whole ty u is octets whole counted short v contents =
+    let within = contents ∙ ap (λ (t : AbstractType). short_length (contents_octets (kind_of t) v)) (sym is) in
+    sym (told_where_short (der (type_view ty) v))
+    ∙ ap is_some (sym (in_tags_counted ty v (Some octets) whole within (λ _. counted))) ∙ short
+
+module _ (names : Visible) (fit : AreFitting names.values) (t : AbstractType) (tags : List Tag) (u : AbstractType)
+    (is : t ≡ type_of tags (type.sequence_of u) no_constraints) (site : Site) (es : WrittenEntries) (count : ℕ)
+    (all : Bool) (octets : ℕ) (sound : IsTrue (is_sound t)) (read : AreRead names.values u es count (all, octets))
+    (few : count ≤ 4294967295)
+    (short : (v : AbstractValue) → Some octets ≡ short_length (contents_octets (type.sequence_of u) v)
+    → is_short (der t v) ≡ true) where
+  abbrev tree : WrittenValue
+  tree = value_node site (written.list es)
+
+  abbrev v : AbstractValue
+  v = value.items (items_of read.0)
+
+  denoted : Denotes names.values t tree v
+  denoted =
+      let counted : length read.0 ≡ count = read.4 in
+      let low : length read.0 ≤ 4294967295 = omega (arith, few, counted) in (
+        subst (λ (x : AbstractType). Says names.values x tree v) (sym is)
+            (read.0, read.1, le-leb (length read.0) 4294967295 low, refl),
+        short v (sym read.3),
+      )
+
+  member : is_member t v ≡ all
+  member =
+      let a = and_parts (is_proper t && has_distinct_tags t) (nat_le (nesting t) deepest_nesting) sound in
+      let proper = (and_parts (is_proper t) (has_distinct_tags t) a.0).0 in
+      let fitting = sym (ap (λ (x : AbstractType). fits x v) is) ∙ says_fits names.values fit tree t v proper denoted.0 in
+      ap (λ (x : AbstractType). is_member x v) is
+      ∙ ap (λ (b : Bool). b && all_hold no_constraints (type.sequence_of u) v && parts_are_members (type.sequence_of u) v)
+      fitting
+      ∙ sym read.2
+
+  one_outside : (before : ℕ) (name : Site) → all ≡ false
+      → ReadsAndHolds before name names t tree (Err (DefaultOutside site))
+  one_outside before name none = inr (
+    DefaultOutside site,
+    inl (
+      v,
+      denoted,
+      inr (
+        DefaultOutside site,
+        (refl, member ∙ none),
+        refl,
+      ),
+    ),
+    refl,
+  )
+
+  too_large : (before : ℕ) (name : Site) → all ≡ true → 100000 ≤ count
+      → ReadsAndHolds before name names t tree (Err (TooLarge name))
+  too_large before name each long =
+      let counted : length read.0 ≡ count = read.4 in
+      let nodes : length read.0 ≤ nodes_of_items (items_of read.0) = a_node_each read.0 in
+      let over : 100000 < before + (held t + suc (nodes_of_items (items_of read.0))) = omega (arith, long, counted, nodes) in
+      inl (v, inl (v, denoted, inl (tt, member ∙ each, refl)), (refl, lt-leb _ 100000 over))
+
+  one_refused : (before : ℕ) (name : Site) → 100000 ≤ count
+      → ReadsAndHolds before name names t tree (Err (cond all (TooLarge name) (DefaultOutside site)))
+  one_refused before name long = by all refl where
+    by : (b : Bool) → all ≡ b → ReadsAndHolds before name names t tree (Err (cond b (TooLarge name)
+        (DefaultOutside site)))
+    by true e = too_large before name e long
+    by false e = one_outside before name e
+
+-- such a list as the code has it
+pub record Listed (names : Visible) (ty : Ty) (element : Box Ty) (tree : ValueTree) (entries : Vec EntryTree)
+    (all : Bool) (octets : ℕ) : Type 0 where
+  pub fit : AreFitting names.values
+  pub sound : IsTrue (is_sound (type_view ty))
+  pub listed : (out-ValueTree tree).form ≡ variant.List entries
+  pub kind : (out-Ty ty).kind ≡ SequenceOf element
+  pub alone : (out-Ty ty).cons.items ≡ []
+  pub read : AreRead names.values (type_view element.value) (entries_of (map entry_view entries.items))
+      (length entries.items) (all, octets)
+  pub few : length entries.items ≤ 4294967295
+  pub whole : Option ℕ
+  pub counted : whole ≡ length_in (out-Ty ty).tags.items (Some octets)
+  pub short : is_some whole ≡ true
+
+module _ (names : Visible) (ty : Ty) (element : Box Ty) (tree : ValueTree) (entries : Vec EntryTree) (all : Bool)
+    (octets : ℕ) (l : Listed names ty element tree entries all octets) where
+  type_is : type_view ty
+      ≡ type_of (out-Ty ty).tags.items (type.sequence_of (type_view element.value)) no_constraints
+  type_is = listed_type ty element l.kind l.alone
+
+  tree_is : value_view tree ≡ value_node (out-ValueTree tree).site
+      (written.list (entries_of (map entry_view entries.items)))
+  tree_is = value_view_is tree
+      ∙ ap (λ (f : ValueForm). value_node (out-ValueTree tree).site (value_form_view f)) l.listed
+      ∙ ap (value_node (out-ValueTree tree).site) (form_list entries)
+
+  pub refused : 100000 ≤ length entries.items → (site : Site) (before : ℕ)
+      → ReadsAndHolds before site names (type_view ty) (value_view tree)
+      (Err (cond all (TooLarge site) (DefaultOutside (out-ValueTree tree).site)))
+  refused long site before =
+      subst (λ w. ReadsAndHolds before site names (type_view ty) w (Err (cond all (TooLarge site) (DefaultOutside
+      (out-ValueTree tree).site)))) (sym tree_is) (one_refused names l.fit (type_view ty) (out-Ty ty).tags.items
+      (type_view element.value) type_is (out-ValueTree tree).site (entries_of (map entry_view entries.items))
+      (length entries.items) all octets l.sound l.read l.few (short_whole ty (type_view element.value) type_is octets
+      l.whole l.counted l.short) before site long)
+
+-- ---- what the definition has then
+
+module _ (k : Known) (names : Visible) (a : WrittenAssignment) (t : AbstractType) (tree : WrittenValue)
+    (is : a.value ≡ Some tree) where
+  abbrev limited : Option AbstractValue → Outcome Built → Type 0
+  limited v = Then (KeepsLimit (all_held k.built) a.site (record { ty = t; value = v }))
+      (λ _. Is (record { ty = t; value = v }))
+
+  fault_found : (f : AbstractFault) → ReadsAndHolds (all_held k.built) a.site names t tree (Err f)
+      → Then (Assigns names t (Some tree)) limited (Err f)
+  fault_found f (inl (w, read, over)) = inl (Some w, inl (w, read, refl), inr (f, over, refl))
+  fault_found f (inr (g, read, e)) = inr (g, inr (g, read, refl), ap Err (same_Err f g e))
+
+  pub length_refuses : (fault : Option AbstractFault)
+      → RefusesBy fault (ReadsAndHolds (all_held k.built) a.site names t tree) → RefusesBy fault (HasValue k names a t)
+  length_refuses None h = tt
+  length_refuses (Some f) h =
+      subst (λ (o : Option WrittenValue). Then (Assigns names t o) limited (Err f)) (sym is) (fault_found f h)

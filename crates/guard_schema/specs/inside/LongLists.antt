@@ -1,0 +1,32 @@
+-- Assigned lists of which no element is kept: what is found out about their elements, and how they are refused.
+use Rattle.std.specs.Prelude.{◌≡◌, ℕ, Bool, List, length, Some}
+use Rattle.guard_model.specs.declared.site.Site.{Site}
+use Rattle.guard_model.specs.AbstractType as type
+use Rattle.guard_model.specs.AbstractType.{AbstractType}
+use Rattle.guard_model.specs.AbstractValue as value
+use Rattle.guard_model.specs.AbstractValue.{AbstractValue, items_of}
+use Rattle.guard_der.specs.Der.{contents_octets}
+use Rattle.guard_der.specs.Encoding.{short_length}
+use Rattle.guard_eval.specs.Elements.{every_item}
+use Rattle.guard_eval.specs.Member.{is_member}
+use Rattle.guard_syntax.specs.Trees.{WrittenValue, WrittenEntries}
+use Rattle.guard_values.specs.Denotes.{EntriesSay}
+use Rattle.guard_values.specs.Meanings.{Meaning}
+use Rattle.guard_constraints.specs.Visible.{Visible}
+use Rattle.guard_schema.specs.Building.{KeepsLimit}
+use Rattle.guard_schema.specs.Faults.{Outcome}
+use Rattle.guard_schema.specs.Outcomes.{Then}
+use Rattle.guard_schema.specs.Readings.{ReadsMember}
+
+-- The entries say so many values of the type, in turn: whether all are members, and how many octets they have as the
+-- contents of a SEQUENCE OF.
+abbrev pub AreRead : Meaning → AbstractType → WrittenEntries → ℕ → Bool × ℕ → Type 0
+AreRead m u es count x =
+    (vs : List AbstractValue) × EntriesSay m u es vs × (x.0 ≡ every_item (is_member u) (items_of vs))
+    × (short_length (contents_octets (type.sequence_of u) (value.items (items_of vs))) ≡ Some x.1)
+    × (length vs ≡ count)
+
+-- the value that is assigned, a member of its type, and S3 with so much before it
+abbrev pub ReadsAndHolds : ℕ → Site → Visible → AbstractType → WrittenValue → Outcome (Unit {0}) → Type 0
+ReadsAndHolds before site names t tree =
+    Then (ReadsMember names t tree) (λ v. KeepsLimit before site (record { ty = t; value = Some v }))

@@ -15,7 +15,7 @@ ghost use Rattle.guard_syntax.specs.Views as trees;
 use crate::fault::SchemaFault;
 use guard_der::{LONGEST_ENCODING, encoded_length, length_in};
 use guard_eval::proper_member;
-use guard_model::{Kind, MOST_ITEMS, Site, Ty};
+use guard_model::{Comp, Kind, MOST_ITEMS, Presence, Site, Ty, Value};
 use guard_syntax::{EntryTree, ValueForm, ValueTree};
 use guard_values::{Scope, shared_value};
 use std::alloc::Global;
@@ -40,7 +40,10 @@ pub fn check_length(
     let (ValueForm::List(entries), Kind::SequenceOf(element)) = (&tree.form, &ty.kind) else {
         return Ok(());
     };
-    if !ty.cons.is_empty() || !is_long(entries.len(), &element.kind) {
+    if !ty.cons.is_empty()
+        || !is_long(entries.len(), &element.kind)
+        || !has_small_defaults(element)
+    {
         return Ok(());
     }
     let Some((are_members, octets)) = elements_read(alloc, scope, entries, element) else {
@@ -72,6 +75,43 @@ fn is_long(count: usize, kind: &Kind) -> bool
         _ => false,
     };
     has_places && LONG <= count && count <= MOST_ITEMS
+}
+
+/// Whether each default of the type, and of those inside it, is quickly compared: the length of an encoding can't be told
+/// without comparing values with their defaults.
+#[cycle(defaults)]
+fn has_small_defaults(ty: &Ty) -> bool {
+    match &ty.kind {
+        Kind::Sequence(comps) | Kind::Set(comps) | Kind::Choice(comps) => have_small_defaults(
+            comps,
+        ),
+        Kind::SequenceOf(element) | Kind::SetOf(element) => has_small_defaults(element),
+        _ => true,
+    }
+}
+
+#[cycle(defaults)]
+fn have_small_defaults(comps: &[Comp]) -> bool {
+    for comp in comps {
+        if !is_small(&comp.presence) || !has_small_defaults(&comp.ty) {
+            return false;
+        }
+    }
+    true
+}
+
+fn is_small(presence: &Presence) -> bool {
+    match presence {
+        Presence::Default(value) => is_number(value),
+        _ => true,
+    }
+}
+
+fn is_number(value: &Value) -> bool {
+    match value {
+        Value::Bool(_) | Value::Int(_) | Value::Enumerated(_) | Value::Null => true,
+        _ => false,
+    }
 }
 
 /// Whether all elements are members of the type, and how many octets their encodings have. None where an element denotes

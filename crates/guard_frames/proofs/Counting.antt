@@ -1,8 +1,10 @@
 -- The totals, as frames are decided one after another.
-use Rattle.std.proofs.Common.{◌≡◌, ◌<◌, ℕ, ◌+◌, ◌^◌, List, [], ◌∷◌, ◌++◌, ◌∙◌, ap, refl, length, Bool, true, false, cond, arith}
+use Rattle.std.proofs.Common.{◌≡◌, ◌<◌, ℕ, ◌+◌, ◌^◌, List, [], ◌∷◌, ◌++◌, ◌∙◌, ap, sym, refl, length, Bool, true, false, cond, arith}
 use Rattle.std.specs.List.{filter}
 use Rattle.guard_frames.specs.declared.totals.Totals.{Totals}
 use Rattle.guard_frames.specs.Totals.{later, no_frames, after_going, after_staying, next_number, counted_one, counted}
+use Rattle.guard_frames.specs.declared.unsent.Unsent.{Unsent}
+use Rattle.guard_frames.specs.inside.Unsent.{none_after, totals_with}
 use Rattle.guard_frames.specs.Outcomes.{Outcome}
 use Rattle.guard_frames.specs.Guarding.{Counts}
 
@@ -24,6 +26,22 @@ numbers_on t (o ∷ os) =
     let rest : next_number (counted (counted_one t o) os) ≡ later (next_number (counted_one t o)) (length os) = numbers_on (counted_one t o) os in
     let last : later (later (next_number t) 1) (length os) ≡ later (next_number t) (length (o ∷ os)) = omega arith in
     rest ∙ ap (λ n. later n (length os)) (one_numbered o.goes t) ∙ last
+
+-- ---- the totals with frames that wait
+
+pub with_none : (t : Totals) (start : ℕ) → t.frames < 2 ^ 64 → t.passed < 2 ^ 64 → totals_with (none_after t start) ≡ t
+with_none t start few fewer =
+    let frames : later t.frames 0 ≡ t.frames = omega (arith, few) in
+    let passed : later t.passed 0 ≡ t.passed = omega (arith, fewer) in
+    λ i. record { frames = frames i; passed = passed i; denied = t.denied }
+
+pub with_one_more : (u : Unsent) → totals_with (record { totals = u.totals; frames = u.frames + 1; start = u.start }) ≡ after_going (totals_with u)
+with_one_more u =
+    λ i. record { frames = sym (later_later u.totals.frames u.frames 1) i; passed = sym (later_later u.totals.passed u.frames 1) i; denied = u.totals.denied }
+
+-- after one more that stays
+pub with_none_behind : (u : Unsent) (t : Totals) (start : ℕ) → t ≡ after_staying (totals_with u) → totals_with (none_after t start) ≡ t
+with_none_behind u t start e = with_none t start (omega (arith, ap (λ x. x.frames) e)) (omega (arith, ap (λ x. x.passed) e))
 
 -- ---- how many there are of each kind, from no frames on
 

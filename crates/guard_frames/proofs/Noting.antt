@@ -1,5 +1,5 @@
 -- What a watch is told, part by part.
-use Rattle.std.proofs.Common.{◌≡◌, ◌≤◌, ℕ, ◌+◌, ◌-◌, List, [], ◌∷◌, ◌++◌, ◌∙◌, ap, sym, refl, subst, inl, inr, drop, length, append_assoc, length-append, arith}
+use Rattle.std.proofs.Common.{◌≡◌, ◌<◌, ◌≤◌, ℕ, ◌+◌, ◌-◌, List, [], ◌∷◌, ◌++◌, ◌∙◌, ap, sym, refl, subst, inl, inr, drop, length, append_assoc, length-append, arith}
 use Rattle.std.specs.List.{concat}
 use Rattle.std.specs.Prelude.{Result, Ok, Err}
 use Rattle.std.proofs.lemmas.List.{append-nil}
@@ -64,15 +64,16 @@ frame_more Lets count rule octets frame body h is same by = record {
   each = All_more (λ frame. IsFrame frame × GoesBy Lets (drop 4 frame) rule) h.frames frame h.each (is, subst (λ (s : List ℕ). GoesBy Lets s rule) same by);
 }
 
--- A watch was told of all of which this was added, but for these frames, which are the last ones and end here.
+-- A watch was told of all of which this was added, but for these, which are the last of so many frames and end here.
 pub record NotedBut {W : Type 0} (Gives : Reason → List ℕ → Type 0) (Lets : AbstractBody → ℕ → Type 0) (notes : W → Told → W → Type 0) (old : W) (these : Untold)
-    (end : ℕ) (added : Added) (new : W) : Type 0 where
+    (count end : ℕ) (added : Added) (new : W) : Type 0 where
   pub first : Added
   pub octets : List ℕ
   pub all : added ≡ sent_more first octets
-  pub last : AreLetBy Lets these.frames these.rule octets
+  pub among : these.before ≤ count
+  pub last : AreLetBy Lets (count - these.before) these.rule octets
   pub size : end ≡ these.start + length octets
-  pub few : these.frames ≤ end
+  pub few : count ≤ end
   pub noted : Noted Gives Lets notes old first new
 
 -- ---- what was told, and then more
@@ -117,11 +118,12 @@ module _ (W : Type 0) (Gives : Reason → List ℕ → Type 0) (Lets : AbstractB
 
   -- ---- frames that go
 
-  pub but_none : (a b : W) (x : Added) (end : ℕ) → Noted Gives Lets notes a x b → NotedBut Gives Lets notes a (none_from end) end x b
+  pub but_none : (a b : W) (x : Added) (end : ℕ) → Noted Gives Lets notes a x b → NotedBut Gives Lets notes a (none_from end) 0 end x b
   but_none a b x end p = record {
     first = x;
     octets = [];
     all = sym (sent_none x [] refl);
+    among = omega arith;
     last = no_frames Lets 0;
     size = omega arith;
     few = omega arith;
@@ -129,34 +131,42 @@ module _ (W : Type 0) (Gives : Reason → List ℕ → Type 0) (Lets : AbstractB
   }
 
   -- those that wait are told
-  pub but_told : (a b c : W) (these : Untold) (end : ℕ) (x : Added) → NotedBut Gives Lets notes a these end x b → IsToldOf notes these end b c → Noted Gives Lets notes a x c
-  but_told a b c these end x h (inl (none, same)) =
-      let empty : h.octets ≡ [] = h.last.joined ∙ no_octets h.last.frames (sym h.last.counted ∙ none) in
+  pub but_told : (a b c : W) (these : Untold) (count end : ℕ) (x : Added) → NotedBut Gives Lets notes a these count end x b → IsToldOf notes these count end b c →
+      Noted Gives Lets notes a x c
+  but_told a b c these count end x h (inl (none, same)) =
+      let empty : h.octets ≡ [] = h.last.joined ∙ no_octets h.last.frames (omega (arith, none, h.last.counted)) in
       rw (h.all ∙ sent_none h.first h.octets empty, same) h.noted
-  but_told a b c these end x h (inr (some, noted)) =
+  but_told a b c these count end x h (inr (some, noted)) =
       let size : end - these.start ≡ length h.octets = omega (arith, h.size) in
-      rw (h.all) (goes these.frames (end - these.start) these.rule ∷ h.noted.0, (h.first, h.octets, refl, h.last, some, size, h.noted.1), (b, h.noted.2, noted))
+      let some₁ : 0 < count - these.before = omega (arith, some) in
+      rw (h.all) (goes (count - these.before) (end - these.start) these.rule ∷ h.noted.0, (h.first, h.octets, refl, h.last, some₁, size, h.noted.1), (b, h.noted.2, noted))
 
   -- one more goes
-  pub but_more : (a b c : W) (these more : Untold) (end rule : ℕ) (x : Added) (frame body : List ℕ) → NotedBut Gives Lets notes a these end x b → IsOneMore notes these rule end b c more →
-      IsFrame frame → body ≡ drop 4 frame → GoesBy Lets body rule → NotedBut Gives Lets notes a more (end + length frame) (sent_more x frame) c
-  but_more a b c these more end rule x frame body h (inl (theirs, told, counts)) is same by = rw (counts, told) (record {
+  pub but_more : (a b c : W) (these more : Untold) (count end rule : ℕ) (x : Added) (frame body : List ℕ) → NotedBut Gives Lets notes a these count end x b →
+      IsOneMore notes these rule count end b c more → IsFrame frame → body ≡ drop 4 frame → GoesBy Lets body rule →
+      NotedBut Gives Lets notes a more (count + 1) (end + length frame) (sent_more x frame) c
+  but_more a b c these more count end rule x frame body h (inl (theirs, told, same_ones)) is same by = rw (same_ones, told) (record {
     first = h.first;
     octets = h.octets ++ frame;
     all = ap (λ y. sent_more y frame) h.all ∙ sent_both h.first h.octets frame;
-    last = frame_more Lets these.frames rule h.octets frame body (rw theirs h.last) is same by;
+    among = omega (arith, h.among);
+    last = let counted : count - these.before + 1 ≡ count + 1 - these.before = omega (arith, h.among) in
+        subst (λ k. AreLetBy Lets k these.rule (h.octets ++ frame)) counted
+        (frame_more Lets (count - these.before) these.rule h.octets frame body h.last is same (subst (GoesBy Lets body) theirs by));
     size = omega (arith, h.size, length-append h.octets frame);
     few = omega (arith, h.few, is.header);
     noted = h.noted;
   })
-  but_more a b c these more end rule x frame body h (inr (other, told, counts)) is same by = rw (counts) (record {
+  but_more a b c these more count end rule x frame body h (inr (other, told, first)) is same by = rw (first) (record {
     first = x;
     octets = frame;
     all = refl;
-    last = frame_more Lets 0 rule [] frame body (no_frames Lets rule) is same by;
+    among = omega arith;
+    last = let counted : 0 + 1 ≡ count + 1 - count = omega arith in
+        subst (λ k. AreLetBy Lets k rule frame) counted (frame_more Lets 0 rule [] frame body (no_frames Lets rule) is same by);
     size = refl;
-    few = omega (arith, is.header);
-    noted = but_told a b c these end x h told;
+    few = omega (arith, h.few, is.header);
+    noted = but_told a b c these count end x h told;
   })
 
   -- one more stays

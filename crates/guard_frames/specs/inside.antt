@@ -3,5 +3,6 @@ pub mod Closing
 pub mod Judged
 pub mod Putting
 pub mod Seats
+pub mod Unsent
 pub mod Untold
 pub mod Waiting

@@ -1,6 +1,6 @@
 //! Answers what becomes of a frame.
 
-ghost use Rattle.std.specs.Prelude.{◌≡◌, ◌≤◌, Bool, true, List, ℕ, length, IfOk, OnOk, OnErr};
+ghost use Rattle.std.specs.Prelude.{◌≡◌, ◌≤◌, true, List, ℕ, length, IfOk, OnOk, OnErr};
 ghost use Rattle.std.specs.Io.KnownBytes.{Appends};
 ghost use Rattle.guard_frames.specs.Answering.{pass_line, Answers};
 ghost use Rattle.guard_frames.specs.Bodies.{body_view};
@@ -13,9 +13,9 @@ use crate::cut::frame_of;
 use crate::decision::Decide;
 use crate::devices::{Failed, Sink, put_all};
 use crate::header::read_body;
-use crate::report::{Ruling, judge, put_report};
+use crate::report::{put_report, report_on};
 use crate::short_line::{ShortLine, append};
-use guard_policy::LastRoute;
+use guard_policy::{LastRoute, Passing};
 use itoa::Buffer;
 use std::alloc::Global;
 
@@ -44,23 +44,17 @@ pub fn answer<D: Decide, S: Sink>(
     ensures lines { AsksLines (S.asked answers.old) (S.asked answers.new) }
 {
     let frame = frame_of(frame);
-    let mut room = Vec::new(alloc);
-    match judge(
-        alloc,
-        policy,
-        number,
-        &frame,
-        &mut LastRoute::none(),
-        &mut room,
-    ) {
-        Ruling::Goes(_) => {
+    match policy.goes(frame.body, &mut LastRoute::none()) {
+        Passing::Goes(_) => {
             let Some(body) = read_body(frame.body) else {
                 unreachable!()
             };
             put_pass(answers, number, &body)?;
             Ok(true)
         }
-        Ruling::Stopped(report) => {
+        Passing::Stopped(told) => {
+            let mut room = Vec::new(alloc);
+            let report = report_on(alloc, policy, number, &frame, told, &mut room);
             put_report(answers, number, &report)?;
             Ok(false)
         }

@@ -34,8 +34,9 @@ pub trait Decide {
     fn goes(&self, body: &[u8], last: &mut LastRoute) -> Passing
         ensures { IsDecided (decides self.now) (lets self.now) (reasons_of self.now) body.now result };
 
-    /// The report line of the frame of this number and with this body, with its line feed, and the reason that it gives.
-    /// The line takes the room of `room`, whose octets are dropped, so that one room serves many lines. Conditions: the body has three names, it is decided to stay, and a reason that is given is the one that `goes`
+    /// The report line of the frame of this number and with this body, with its line feed, and the reason that it
+    /// gives. The line takes the room of `room`, whose octets are dropped, so that one room serves many lines.
+    /// Conditions: the body has three names, it is decided to stay, and a reason that is given is the one that `goes`
     /// told of it, so that no more is asked of its message than this reason leaves open. OutOfMemory is the only error.
     fn line(
         &self,

@@ -7,9 +7,10 @@
 //! | What is the header of a frame? | `body.rt`, `header.rt` | `specs/Bodies.antt` |
 //! | What is a name in a header? | `header.rt` | `specs/Names.antt` of `guard_policy` |
 //! | Which bodies go, and what is reported of the others? | `decision.rt` (`Decide`) | `specs/Outcomes.antt` |
-//! | What becomes of one frame? | `report.rt` (`judge`) | `specs/Guarding.antt` (`Adds`), `specs/inside/Judged.antt` |
+//! | What is reported of a frame? | `report.rt` (`report_on`) | `specs/Guarding.antt` (`Adds`), `inside/Judged.antt` |
 //! | Why does a frame stay, and who is told? | `why.rt` (`Why`, `Watch`) | `specs/Reasons.antt` |
 //! | By which rule does a frame go? | `decision.rt` (`Decide`) | `specs/Outcomes.antt` (`GoesBy`) |
+//! | Which frames wait to be put, and how are they counted? | `unsent.rt` (`Unsent`) | `specs/inside/Unsent.antt` |
 //! | Of which frames is a watch told at once? | `untold.rt` (`Untold`) | `specs/inside/Untold.antt` |
 //! | What goes out of octets in memory? | `putting.rt` (`put_frames`) | `specs/Guarding.antt` (`text_out`) |
 //! | What is reported of them? | `putting.rt` | `specs/Guarding.antt` (`AllAdd`), `specs/inside/Putting.antt` |
@@ -63,6 +64,7 @@ mod short_line;
 mod texts;
 mod through;
 mod totals;
+mod unsent;
 mod untold;
 mod waiting;
 mod why;

@@ -9,14 +9,15 @@ ghost use Rattle.guard_frames.specs.inside.Putting.{ArePut, IsBroken, SinkFailed
 use crate::cut::{Cut, Rest, first_cut};
 use crate::decision::Decide;
 use crate::devices::Sink;
-use crate::report::{Ruling, judge, line_of};
+use crate::report::{line_of, report_on};
 use crate::sending::{Broken, put_going};
 use crate::short_line::ShortLine;
 use crate::totals::Totals;
+use crate::unsent::Unsent;
 use crate::untold::Untold;
 use crate::waiting::Waiting;
 use crate::why::Watch;
-use guard_policy::LastRoute;
+use guard_policy::{LastRoute, Passing};
 use std::alloc::Global;
 
 /// How far the whole frames of some octets reach.
@@ -34,8 +35,9 @@ pub struct Whole {
 /// line of one that stays; the watch is told of each, of those that go side by side by one rule at once. Frames that go
 /// side by side wait to be put in one call, and so do lines of frames that stay side by side, as many as `Waiting` lets
 /// wait. What waits for one sink is put before anything goes to the other, and the watch is told of frames that go
-/// before they are put; at the return nothing waits. Most frames have the route of the frame before, so each is compared
-/// with it first.
+/// before they are put; at the return nothing waits. Most frames have the route of the frame before, so each is
+/// compared with it first. The totals and the number of a frame are made where they are needed, from how many frames
+/// wait: most frames go, and what is done for each of those is kept short.
 pub fn put_frames<D: Decide, O: Sink, R: Sink, W: Watch>(
     alloc: Global,
     policy: &D,
@@ -56,44 +58,41 @@ pub fn put_frames<D: Decide, O: Sink, R: Sink, W: Watch>(
     ensures failed { IfErr result (λ b. SinkFailed b (O.has_failed out.new) (R.has_failed reports.new)) }
     ensures lines { AsksLines (R.asked reports.old) (R.asked reports.new) }
 {
-    let mut totals = totals;
-    let mut before = totals;
-    let mut sent = 0;
+    let mut unsent = Unsent::none(totals, 0);
+    let mut untold = Untold::none(0);
     let mut end = 0;
     let mut last = LastRoute::none();
     let mut waiting = Waiting::none(alloc);
     let mut short = ShortLine::new();
     let mut room = Vec::new(alloc);
-    let mut untold = Untold::none(0);
     loop {
         let frame = match first_cut(&octets[end..]) {
             Cut::Frame(frame) => frame,
             Cut::Rest(rest) => {
-                untold.tell(watch, end);
-                put_going(out, &octets[sent..end], before)?;
+                untold.tell(watch, unsent.frames, end);
+                put_going(out, &octets[unsent.start..end], unsent.totals)?;
                 waiting.put(reports)?;
+                let totals = unsent.totals_with();
                 return Ok(Whole { end, totals, rest });
             }
         };
-        let number = totals.next_number();
-        match judge(alloc, policy, number, &frame, &mut last, &mut room) {
-            Ruling::Goes(rule) => {
+        match policy.goes(frame.body, &mut last) {
+            Passing::Goes(rule) => {
                 waiting.put(reports)?;
-                untold = untold.and_one(watch, rule, end);
+                untold.add_one(watch, rule, unsent.frames, end);
+                unsent.frames += 1;
                 end += frame.octets.len();
-                totals = totals.after_going();
             }
-            Ruling::Stopped(report) => {
-                untold.tell(watch, end);
-                put_going(out, &octets[sent..end], before)?;
+            Passing::Stopped(told) => {
+                let number = unsent.totals_with().next_number();
+                let report = report_on(alloc, policy, number, &frame, told, &mut room);
+                untold.tell(watch, unsent.frames, end);
+                put_going(out, &octets[unsent.start..end], unsent.totals)?;
                 watch.stays(report.why());
-                short.clear();
                 waiting.add(reports, line_of(number, &report, &mut short))?;
                 room = report.into_room(alloc);
                 end += frame.octets.len();
-                totals = totals.after_staying();
-                before = totals;
-                sent = end;
+                unsent = Unsent::none(unsent.totals_with().after_staying(), end);
                 untold = Untold::none(end);
             }
         }

@@ -1,12 +1,13 @@
-//! What becomes of a frame, and the line that is reported of one that stays.
+//! The line that is reported of a frame that stays.
 
-ghost use Rattle.std.specs.Prelude.{◌≡◌, ◌++◌, ◌≤◌, true, List, [], ℕ, drop, length, IfSome, OnOk, OnErr, decimal};
+ghost use Rattle.std.specs.Prelude.{◌≡◌, ◌++◌, ◌≤◌, true, List, ℕ, drop, length, IfSome, OnOk, OnErr, decimal};
 ghost use Rattle.std.specs.Io.KnownBytes.{Appends};
 ghost use Rattle.guard_frames.specs.Calls.{EndsLine, AsksLines};
 ghost use Rattle.guard_frames.specs.Prefix.{IsProperPrefix};
-ghost use Rattle.guard_frames.specs.inside.Judged.{IsJudged, IsReportOf, ReportEnds, RulingEnds, report_line};
-ghost use Rattle.guard_frames.specs.inside.Judged.{ReportGives, RulingGives, RulingLets};
-ghost use Rattle.guard_frames.specs.Bodies.{body_view, HasNames};
+ghost use Rattle.guard_frames.specs.inside.Judged.{IsReportOf, ReportEnds, ReportGives, report_line};
+ghost use Rattle.guard_frames.specs.Bodies.{AbstractBody, IsBody, HasNames, body_view};
+ghost use Rattle.guard_frames.specs.Guarding.{Adds};
+ghost use Rattle.guard_frames.specs.Outcomes.{BodyGoes, staying};
 
 use crate::body::Body;
 use crate::cut::Frame;
@@ -15,19 +16,10 @@ use crate::devices::{Failed, Sink, put_all};
 use crate::header::read_body;
 use crate::short_line::{ShortLine, append};
 use crate::why::{Reason, Why};
-use guard_policy::{LastRoute, Passing, PlainReason};
+use guard_policy::PlainReason;
 use itoa::Buffer;
 use std::alloc::Global;
 use std::mem;
-
-/// What becomes of a frame.
-#[derive(Drop)]
-pub enum Ruling {
-    /// The frame goes out, by the rule of this number.
-    Goes(usize),
-    /// The frame stays, and this is reported of it.
-    Stopped(Report),
-}
 
 /// What is reported of a frame that stays.
 #[derive(Drop)]
@@ -42,7 +34,7 @@ pub enum Report {
 
 impl Report {
     ghost use Rattle.std.specs.Prelude.{◌≡◌};
-    ghost use Rattle.guard_frames.specs.inside.Judged.{why_of};
+    ghost use Rattle.guard_frames.specs.inside.Judged.{why_of, IsRoomOf};
 
     /// Why the frame stays.
     pub fn why(&self) -> Why
@@ -55,8 +47,10 @@ impl Report {
         }
     }
 
-    /// The room of its line, for the next one.
-    pub fn into_room(self, alloc: Global) -> Vec<u8> {
+    /// The room of its line, for the next one: that line itself. Where it has none, a list that has taken no memory.
+    pub fn into_room(self, alloc: Global) -> Vec<u8>
+        ensures { IsRoomOf self result }
+    {
         match self {
             Report::BadHeader | Report::NoMemory => Vec::new(alloc),
             Report::Line(line, _) => line,
@@ -64,30 +58,28 @@ impl Report {
     }
 }
 
-/// What becomes of the frame of this number. No memory is taken for one that goes, and the line of one that stays takes
-/// the room that is given, in whose place none is left. Condition: the frame's body is what
-/// follows its first four octets.
-pub fn judge<D: Decide>(
+/// What is reported of the frame of this number, which stays, for this reason where one is told. The line takes the
+/// room that is given, in whose place none is left. Conditions: the frame's body is what follows its first four octets,
+/// it doesn't go, and a reason that is told is that of the body.
+pub fn report_on<D: Decide>(
     alloc: Global,
     policy: &D,
     number: u64,
     frame: &Frame,
-    last: &mut LastRoute,
+    told: Option<PlainReason>,
     room: &mut Vec<u8>,
-) -> Ruling
-    requires { frame.now.body.now ≡ drop 4 frame.now.octets.now }
-    ensures judged { IsJudged (D.decides policy.now) number frame.now.octets.now result }
-    ensures ends { RulingEnds result }
-    ensures gives { RulingGives (D.gives policy.now) result }
-    ensures lets { RulingLets (D.lets policy.now) frame.now.body.now result }
+) -> Report
+    requires body { frame.now.body.now ≡ drop 4 frame.now.octets.now }
+    requires stays { BodyGoes (D.decides policy.now) frame.now.body.now → ⊥ }
+    requires told { IfSome told (λ r. (b : AbstractBody) →
+        IsBody frame.now.body.now b → D.reasons_of policy.now b r) }
+    ensures adds { Adds (D.decides policy.now) number (staying frame.now.octets.now) (report_line number result) }
+    ensures ends { ReportEnds result }
+    ensures gives { ReportGives (D.gives policy.now) result }
 {
-    let told = match policy.goes(frame.body, last) {
-        Passing::Goes(rule) => return Ruling::Goes(rule),
-        Passing::Stopped(told) => told,
-    };
     match read_body(frame.body) {
-        Some(body) => Ruling::Stopped(report_of(alloc, policy, number, &body, told, room)),
-        None => Ruling::Stopped(Report::BadHeader),
+        Some(body) => report_of(alloc, policy, number, &body, told, room),
+        None => Report::BadHeader,
     }
 }
 
@@ -128,11 +120,10 @@ pub(crate) fn put_report<S: Sink>(sink: &mut S, number: u64, report: &Report) ->
     put_all(sink, line_of(number, report, &mut short))
 }
 
-/// The line that says why the frame of this number stays. A line that takes no memory is put together in `short`.
-/// Conditions: a line that is given ends with a line feed, and `short` is empty.
+/// The line that says why the frame of this number stays. A line that takes no memory is put together in `short`,
+/// whose octets are dropped. Condition: a line that is given ends with a line feed.
 pub fn line_of<'a>(number: u64, report: &'a Report, short: &'a mut ShortLine) -> &'a [u8]
-    requires ends { ReportEnds report.now }
-    requires empty { short.old.items ≡ [] }
+    requires { ReportEnds report.now }
     ensures line { result.now ≡ report_line number report.now }
     ensures ends { EndsLine result.now }
 {
@@ -143,15 +134,15 @@ pub fn line_of<'a>(number: u64, report: &'a Report, short: &'a mut ShortLine) ->
     }
 }
 
-/// The number in decimal and then the octets, which end a line.
+/// The number in decimal and then the octets, which end a line, in place of what was there.
 fn numbered<'a>(number: u64, octets: &[u8], line: &'a mut ShortLine) -> &'a [u8]
     requires short { length octets.now ≤ 20 }
     requires ends { EndsLine octets.now }
-    requires empty { line.old.items ≡ [] }
     ensures line { result.now ≡ decimal number ++ octets.now }
     ensures ends { EndsLine result.now }
 {
     let mut buffer = Buffer::new();
+    line.clear();
     append(line, buffer.format(number).as_bytes());
     append(line, octets);
     line.as_slice()

@@ -98,10 +98,10 @@ fn read_piece<S: Source>(source: &mut S, buffer: &mut Vec<u8>) -> Result<usize, 
 }
 
 /// Reads all that the source gives, and decides it as the stream of this link: the frames that go are put out, in order
-/// and octet by octet as they came, and a line is reported for each one that stays. The watch is told of each frame, how
-/// many octets came in each piece, and before each piece that it may have to be waited for. At the return the link tells
-/// how many frames there were, and what a fault left of the one after them. Conditions: the link is new, and the buffer
-/// is one of `new_buffer`.
+/// and octet by octet as they came, and a line is reported for each one that stays. The watch is told of each frame,
+/// how many octets came in each piece, and before each piece that it may have to be waited for. At the return the link
+/// tells how many frames there were, and what a fault left of the one after them. Conditions: the link is new, and the
+/// buffer is one of `new_buffer`.
 ///
 /// # Errors
 /// Why the run ended before the stream's end: F1 FrameTooLong, F2 WriteFailed, F4 TornFrame or F5 ReadFailed, with the

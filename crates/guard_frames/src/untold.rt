@@ -1,64 +1,71 @@
 //! Frames that go, one after another, by one rule: a watch is told of them at once.
 
-ghost use Rattle.std.specs.Prelude.{◌≡◌, ◌<◌, ◌≤◌, ◌-◌, ◌^◌};
+ghost use Rattle.std.specs.Prelude.{◌≡◌, ◌≤◌};
 ghost use Rattle.guard_frames.specs.inside.Untold.{none_from, IsToldOf, IsOneMore};
 
 use crate::why::Watch;
 
-/// Frames that lie side by side and go by one rule, of which the watch isn't told yet.
+/// The last of some frames that lie side by side: they go by one rule, and the watch isn't told of them yet.
 #[derive(Clone, Copy, Debug)]
 pub(crate) struct Untold {
     /// The number of the rule. It says nothing where there are no frames.
     rule: usize,
-    /// How many frames there are.
-    frames: usize,
+    /// How many frames come before them.
+    before: usize,
     /// Where they begin, among the octets that they lie in.
     start: usize,
 }
 
 impl Untold {
-    /// No frames yet. The next one begins here.
+    /// No frames yet, and none before. The next one begins here.
     pub(crate) fn none(start: usize) -> Untold
         ensures { result ≡ none_from start }
     {
         Untold {
             rule: 0,
-            frames: 0,
+            before: 0,
             start,
         }
     }
 
-    /// Tells the watch of the frames, which end here, if there are any. Condition: they don't begin behind their end.
-    pub(crate) fn tell<W: Watch>(self, watch: &mut W, end: usize)
-        requires { self.start ≤ end }
-        ensures { IsToldOf W.notes self end watch.old watch.new }
+    /// Tells the watch of these, the last of so many frames, which end here, if there are any. Conditions: they don't
+    /// begin behind their end, and no more frames come before them than there are.
+    #[cold]
+    #[inline(never)]
+    pub(crate) fn tell<W: Watch>(&self, watch: &mut W, frames: usize, end: usize)
+        requires ordered { self.now.start ≤ end }
+        requires among { self.now.before ≤ frames }
+        ensures { IsToldOf W.notes self.now frames end watch.old watch.new }
     {
-        if self.frames > 0 {
-            watch.goes(self.frames, end - self.start, self.rule);
+        if self.before < frames {
+            watch.goes(frames - self.before, end - self.start, self.rule);
         }
     }
 
-    /// These frames and one more, which begins where they end, and goes by the rule of this number. Where that isn't
-    /// their rule, the watch is told of them, and the new frame is the first of others. Conditions: they don't begin
-    /// behind their end, and one more can be counted. It is called for each frame that goes, and most have the rule of the
-    /// frame before.
+    /// One more frame follows so many, which end here, and goes by the rule of this number. Where that is the rule of
+    /// these, it is one of them, and nothing changes: it is counted with all frames. Else the watch is told of these, and
+    /// the new frame is the first of others. Conditions: those of `tell`. It is called for each frame that goes, and most
+    /// have the rule of the frame before.
     #[inline(always)]
-    pub(crate) fn and_one<W: Watch>(self, watch: &mut W, rule: usize, end: usize) -> Untold
-        requires ordered { self.start ≤ end }
-        requires few { self.frames < 2 ^ 64 - 1 }
-        ensures { IsOneMore W.notes self rule end watch.old watch.new result }
+    pub(crate) fn add_one<W: Watch>(
+        &mut self,
+        watch: &mut W,
+        rule: usize,
+        frames: usize,
+        end: usize,
+    )
+        requires ordered { self.old.start ≤ end }
+        requires among { self.old.before ≤ frames }
+        ensures { IsOneMore W.notes self.old rule frames end watch.old watch.new self.new }
     {
         if rule == self.rule {
-            return Untold {
-                frames: self.frames + 1,
-                ..self
-            };
+            return;
         }
-        self.tell(watch, end);
-        Untold {
+        self.tell(watch, frames, end);
+        *self = Untold {
             rule,
-            frames: 1,
+            before: frames,
             start: end,
-        }
+        };
     }
 }

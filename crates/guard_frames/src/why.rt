@@ -53,7 +53,8 @@ pub trait Watch {
     /// What each thing that is told changes.
     ghost notes: { Self → Told → Self → Type 0 };
 
-    /// What comes next may have to be waited for. All frames so far, of which these are the totals, are out or reported.
+    /// What comes next may have to be waited for. All frames so far, of which these are the totals, are out or
+    /// reported.
     fn pauses(&mut self, totals: Totals)
         ensures { notes self.old (pauses totals) self.new };
 

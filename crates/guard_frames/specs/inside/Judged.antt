@@ -1,14 +1,12 @@
--- What becomes of one frame, and its line.
-use Rattle.std.specs.Prelude.{ℕ, List, ◌++◌, codes, decimal}
+-- What is reported of one frame, and its line.
+use Rattle.std.specs.Prelude.{◌≡◌, ℕ, List, [], ◌++◌, Vec, vec_capacity, codes, decimal}
+use Rattle.std.specs.declared.alloc.Global.{Global}
 use Rattle.guard_frames.specs.Bodies.{AbstractBody}
-use Rattle.guard_frames.specs.Outcomes.{Decision, FrameGoes, GoesBy, staying}
-use Rattle.guard_frames.specs.Guarding.{Adds}
+use Rattle.guard_frames.specs.Outcomes.{Decision}
 use Rattle.guard_frames.specs.Calls.{EndsLine}
 use Rattle.guard_frames.specs.declared.why.Reason.{Reason}
 use Rattle.guard_frames.specs.declared.why.Why.{Why}
 use Rattle.guard_frames.specs.declared.why.Why.TheVariants as why
-use Rattle.guard_frames.specs.declared.report.Ruling.{Ruling}
-use Rattle.guard_frames.specs.declared.report.Ruling.TheVariants as ruling
 use Rattle.guard_frames.specs.declared.report.Report.{Report}
 use Rattle.guard_frames.specs.declared.report.Report.TheVariants.{BadHeader, NoMemory, Line}
 
@@ -24,6 +22,12 @@ why_of BadHeader = why.BadHeader
 why_of NoMemory = why.NoMemory
 why_of (Line line reason) = why.Decided reason
 
+-- The room of its line is the line itself, with the memory that it has. Where there is none, the room has no memory.
+abbrev pub IsRoomOf : Report → Vec ℕ Global → Type 0
+IsRoomOf (Line line reason) room = room ≡ line
+IsRoomOf NoMemory room = (room.items ≡ []) × (vec_capacity room ≡ 0)
+IsRoomOf BadHeader room = (room.items ≡ []) × (vec_capacity room ≡ 0)
+
 -- what is reported of this body, which stays
 abbrev pub IsReportOf : Decision → ℕ → AbstractBody → Report → Type 0
 IsReportOf d n b (Line line reason) = d.Reports n b line.items
@@ -36,26 +40,8 @@ ReportEnds (Line line reason) = EndsLine line.items
 ReportEnds NoMemory = Unit {0}
 ReportEnds BadHeader = Unit {0}
 
-abbrev pub RulingEnds : Ruling → Type 0
-RulingEnds (ruling.Goes rule) = Unit {0}
-RulingEnds (ruling.Stopped report) = ReportEnds report
-
 -- the line of a report, where it has one, gives its reason
 abbrev pub ReportGives : (Reason → List ℕ → Type 0) → Report → Type 0
 ReportGives Gives (Line line reason) = Gives reason line.items
 ReportGives Gives NoMemory = Unit {0}
 ReportGives Gives BadHeader = Unit {0}
-
-abbrev pub RulingGives : (Reason → List ℕ → Type 0) → Ruling → Type 0
-RulingGives Gives (ruling.Goes rule) = Unit {0}
-RulingGives Gives (ruling.Stopped report) = ReportGives Gives report
-
--- the octets of a body that goes do so by this rule
-abbrev pub RulingLets : (AbstractBody → ℕ → Type 0) → List ℕ → Ruling → Type 0
-RulingLets Lets octets (ruling.Goes rule) = GoesBy Lets octets rule
-RulingLets Lets octets (ruling.Stopped report) = Unit {0}
-
--- the frame of this number goes, or stays and adds this report
-abbrev pub IsJudged : Decision → ℕ → List ℕ → Ruling → Type 0
-IsJudged d n frame (ruling.Goes rule) = FrameGoes d frame
-IsJudged d n frame (ruling.Stopped report) = Adds d n (staying frame) (report_line n report)

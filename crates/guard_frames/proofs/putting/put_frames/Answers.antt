@@ -1,12 +1,15 @@
-use Rattle.std.proofs.Common.{◌+◌, ◌-◌, sym, subst, take, drop, length}
+use Rattle.std.proofs.Common.{◌+◌, ◌-◌, ◌∙◌, ap, sym, subst, take, drop, length, arith}
 use Rattle.std.proofs.lemmas.Result.{err_from_is_err_and}
-use Rattle.guard_frames.specs.Totals.{next_number}
+use Rattle.guard_frames.specs.Totals.{after_staying, next_number}
+use Rattle.guard_frames.specs.declared.unsent.Unsent.{Unsent}
+use Rattle.guard_frames.specs.inside.Unsent.{totals_with}
 use Rattle.guard_frames.specs.Added.{Added, nothing}
 use Rattle.guard_frames.specs.Reasons.{Noted}
 use Rattle.guard_frames.proofs.Asking.{asks_none, asks_trans}
 use Rattle.guard_frames.proofs.Appending.{sent_more, reported_more, both_none, both_sent, both_reported}
 use Rattle.guard_frames.proofs.Noting.{noted_none, noted_staying, but_none, but_told, but_more}
-use Rattle.guard_frames.proofs.Reporting.{adds_line}
+use Rattle.guard_frames.proofs.Counting.{with_none, with_one_more, with_none_behind}
+use Rattle.guard_frames.proofs.Reporting.{goes_as_body, adds_line}
 use Rattle.guard_frames.proofs.Steps.{first_at, at_last}
 use Rattle.guard_frames.proofs.Waits.{no_lines, at_start, frames_put, so_far_told, broken_out, told_going, told_staying, goes_next, line_breaks, stays_next}
 use Rattle.guard_frames.proofs.putting.put_frames.Goals as goal
@@ -14,11 +17,12 @@ use Rattle.guard_frames.proofs.putting.put_frames.Goals as goal
 pub loop-frame-init : goal.loop-frame-init
 loop-frame-init g c = (
   nothing,
-  at_start (g.D.Decide.decides c.args.policy.now) c.args.totals c.args.octets.now c.none-waiting.result.lines.items c.none-waiting.ensures,
+  rw (c.none-unsent.ensures, with_none c.args.totals 0 (omega arith) (omega arith))
+      (at_start (g.D.Decide.decides c.args.policy.now) c.args.totals c.args.octets.now c.none-waiting.result.lines.items c.none-waiting.ensures),
   both_none _ _,
   asks_none _,
   no_lines c.none-waiting.result.lines.items c.none-waiting.ensures,
-  rw (c.none-untold.ensures, c.none-waiting.ensures)
+  rw (c.none-unsent.ensures, c.none-untold.ensures, c.none-waiting.ensures)
       (but_none _ _ _ _ _ _ _ _ (noted_none _ (g.D.Decide.gives c.args.policy.now) (g.D.Decide.lets c.args.policy.now) g.W.Watch.notes c.args.watch.now)),
 )
 
@@ -32,10 +36,10 @@ returns-in_err-put_going-in-Rest-clause-failure g c =
     let e = err_from_is_err_and c.from_residual.result c.from_residual.ensures.1 in
     rw (e.1, e.2) (
       sent_more h.0 p.0,
-      broken_out d c.args.totals c.loop-frame.totals c.loop-frame.before _ c.args.octets.now c.loop-frame.waiting.lines.items p.0
-          c.loop-frame.sent c.loop-frame.end h.0
+      broken_out d c.args.totals (totals_with c.loop-frame.unsent) c.loop-frame.unsent.totals _ c.args.octets.now c.loop-frame.waiting.lines.items p.0
+          c.loop-frame.unsent.start c.loop-frame.end h.0
           (λ (x : Added). Noted (g.D.Decide.gives c.args.policy.now) (g.D.Decide.lets c.args.policy.now) g.W.Watch.notes c.args.watch.now x c.tell.new.watch)
-          h.1 p.1 p.3 (but_told _ _ _ _ _ _ _ _ _ _ h.5 c.tell.ensures),
+          h.1 p.1 p.3 (but_told _ _ _ _ _ _ _ _ _ _ _ h.5 c.tell.ensures),
       both_sent _ _ _ _ _ h.0 p.0 h.2 p.2,
     )
 
@@ -47,15 +51,15 @@ returns-in_err-put-in-Rest-clause-failure g c =
     let d = g.D.Decide.decides c.args.policy.now in
     let h = c.loop-frame.invariant in
     let s = c.args.octets.now in
-    let waiting = take (c.loop-frame.end - c.loop-frame.sent) (drop c.loop-frame.sent s) in
+    let waiting = take (c.loop-frame.end - c.loop-frame.unsent.start) (drop c.loop-frame.unsent.start s) in
     let p = c.in_err-put-in-Rest.ensures.part in
     let e = err_from_is_err_and c.from_residual-in_err-put-in-Rest.result c.from_residual-in_err-put-in-Rest.ensures.1 in
     rw (e.1, e.2) (
       reported_more (sent_more h.0 waiting) p.0,
       (
-        frames_put d c.args.totals c.loop-frame.totals c.loop-frame.before s c.loop-frame.waiting.lines.items c.loop-frame.sent c.loop-frame.end h.0 h.1 p.0 p.1,
-        so_far_told h.0 s c.loop-frame.waiting.lines.items c.loop-frame.sent c.loop-frame.end,
-        but_told _ _ _ _ _ _ _ _ _ _ h.5 c.tell.ensures,
+        frames_put d c.args.totals (totals_with c.loop-frame.unsent) c.loop-frame.unsent.totals s c.loop-frame.waiting.lines.items c.loop-frame.unsent.start c.loop-frame.end h.0 h.1 p.0 p.1,
+        so_far_told h.0 s c.loop-frame.waiting.lines.items c.loop-frame.unsent.start c.loop-frame.end,
+        but_told _ _ _ _ _ _ _ _ _ _ _ h.5 c.tell.ensures,
       ),
       both_reported _ _ _ _ _ (sent_more h.0 waiting) p.0 (both_sent _ _ _ _ _ h.0 waiting h.2 c.in_ok-put_going-in-Rest.ensures.all) p.2,
     )
@@ -65,12 +69,12 @@ returns-in-Rest-clause-whole g c =
     let d = g.D.Decide.decides c.args.policy.now in
     let h = c.loop-frame.invariant in
     let s = c.args.octets.now in
-    let waiting = take (c.loop-frame.end - c.loop-frame.sent) (drop c.loop-frame.sent s) in (
+    let waiting = take (c.loop-frame.end - c.loop-frame.unsent.start) (drop c.loop-frame.unsent.start s) in (
       reported_more (sent_more h.0 waiting) c.loop-frame.waiting.lines.items,
-      at_last d c.args.totals c.loop-frame.totals c.loop-frame.before s c.loop-frame.sent c.loop-frame.end c.in-Rest.rest (reported_more h.0 c.loop-frame.waiting.lines.items) h.1.so_far c.in-Rest.ensures,
+      rw (c.totals_with-totals.ensures) (at_last d c.args.totals (totals_with c.loop-frame.unsent) c.loop-frame.unsent.totals s c.loop-frame.unsent.start c.loop-frame.end c.in-Rest.rest (reported_more h.0 c.loop-frame.waiting.lines.items) h.1.so_far c.in-Rest.ensures),
       both_reported _ _ _ _ _ (sent_more h.0 waiting) c.loop-frame.waiting.lines.items (both_sent _ _ _ _ _ h.0 waiting h.2 c.in_ok-put_going-in-Rest.ensures.all)
           c.in_ok-put-in-Rest.ensures.all,
-      but_told _ _ _ _ _ _ _ _ _ _ h.5 c.tell.ensures,
+      but_told _ _ _ _ _ _ _ _ _ _ _ h.5 c.tell.ensures,
     )
 
 -- ---- a frame goes
@@ -95,16 +99,18 @@ loop-frame-preserved-in-Goes g c =
     let h = c.loop-frame.invariant in
     let s = c.args.octets.now in
     let f = c.in-Frame.frame in
-    let at = first_at s c.loop-frame.end f h.1.so_far.within c.in-Frame.ensures in (
+    let at = first_at s c.loop-frame.end f h.1.so_far.within c.in-Frame.ensures in
+    let goes = goes_as_body d f.octets.now f.body.now c.in-Frame.ensures.body c.in-Goes.ensures.0 in
+    let more : Unsent = record { totals = c.loop-frame.unsent.totals; frames = c.loop-frame.unsent.frames + 1; start = c.loop-frame.unsent.start } in (
       reported_more h.0 c.loop-frame.waiting.lines.items,
-      goes_next d c.args.totals c.loop-frame.totals c.loop-frame.before c.after_going-totals.result s f.octets.now c.loop-frame.waiting.lines.items c.put-in-Goes.new.self.lines.items
-          c.loop-frame.sent c.loop-frame.end h.0 h.1 at c.in-Goes.ensures.judged c.after_going-totals.ensures c.in_ok-put-in-Goes.ensures.none,
+      goes_next d c.args.totals (totals_with c.loop-frame.unsent) c.loop-frame.unsent.totals (totals_with more) s f.octets.now c.loop-frame.waiting.lines.items c.put-in-Goes.new.self.lines.items
+          c.loop-frame.unsent.start c.loop-frame.end h.0 h.1 at goes (with_one_more c.loop-frame.unsent) c.in_ok-put-in-Goes.ensures.none,
       both_reported _ _ _ _ _ h.0 c.loop-frame.waiting.lines.items h.2 c.in_ok-put-in-Goes.ensures.all,
       asks_trans _ _ _ h.3 c.in_ok-put-in-Goes.ensures.lines,
       no_lines c.put-in-Goes.new.self.lines.items c.in_ok-put-in-Goes.ensures.none,
-      rw (sym (told_going s f.octets.now c.loop-frame.waiting.lines.items c.put-in-Goes.new.self.lines.items c.loop-frame.sent c.loop-frame.end h.0
+      rw (sym (told_going s f.octets.now c.loop-frame.waiting.lines.items c.put-in-Goes.new.self.lines.items c.loop-frame.unsent.start c.loop-frame.end h.0
           h.1.so_far.ordered at c.in_ok-put-in-Goes.ensures.none))
-          (but_more _ _ _ _ _ _ _ _ _ _ _ _ _ f.body.now h.5 c.and_one-untold.ensures at.frame c.in-Frame.ensures.body c.in-Goes.ensures.lets),
+          (but_more _ _ _ _ _ _ _ _ _ _ _ _ _ _ f.body.now h.5 c.add_one.ensures at.frame c.in-Frame.ensures.body c.in-Goes.ensures.1),
     )
 
 -- ---- a frame stays
@@ -117,10 +123,10 @@ returns-in_err-put_going-in-Stopped-clause-failure g c =
     let e = err_from_is_err_and c.from_residual-in_err-put_going-in-Stopped.result c.from_residual-in_err-put_going-in-Stopped.ensures.1 in
     rw (e.1, e.2) (
       sent_more h.0 p.0,
-      broken_out d c.args.totals c.loop-frame.totals c.loop-frame.before _ c.args.octets.now c.loop-frame.waiting.lines.items p.0
-          c.loop-frame.sent c.loop-frame.end h.0
+      broken_out d c.args.totals (totals_with c.loop-frame.unsent) c.loop-frame.unsent.totals _ c.args.octets.now c.loop-frame.waiting.lines.items p.0
+          c.loop-frame.unsent.start c.loop-frame.end h.0
           (λ (x : Added). Noted (g.D.Decide.gives c.args.policy.now) (g.D.Decide.lets c.args.policy.now) g.W.Watch.notes c.args.watch.now x c.tell-in-Stopped.new.watch)
-          h.1 p.1 p.3 (but_told _ _ _ _ _ _ _ _ _ _ h.5 c.tell-in-Stopped.ensures),
+          h.1 p.1 p.3 (but_told _ _ _ _ _ _ _ _ _ _ _ h.5 c.tell-in-Stopped.ensures),
       both_sent _ _ _ _ _ h.0 p.0 h.2 p.2,
     )
 
@@ -134,19 +140,19 @@ returns-in_err-add-in-Stopped-clause-failure g c =
     let s = c.args.octets.now in
     let f = c.in-Frame.frame in
     let at = first_at s c.loop-frame.end f h.1.so_far.within c.in-Frame.ensures in
-    let waiting = take (c.loop-frame.end - c.loop-frame.sent) (drop c.loop-frame.sent s) in
-    let adds = adds_line d c.next_number-number.result (next_number c.loop-frame.totals) f.octets.now c.line_of.result.now c.in-Stopped.report
-    c.next_number-number.ensures c.line_of.ensures.line c.in-Stopped.ensures.judged in
+    let waiting = take (c.loop-frame.end - c.loop-frame.unsent.start) (drop c.loop-frame.unsent.start s) in
+    let adds = adds_line d c.next_number-number.result (next_number (totals_with c.loop-frame.unsent)) f.octets.now c.line_of.result.now c.report_on-report.result
+    (c.next_number-number.ensures ∙ ap next_number c.totals_with.ensures) c.line_of.ensures.line c.report_on-report.ensures.adds in
     let p = c.in_err-add-in-Stopped.ensures.part in
     let e = err_from_is_err_and c.from_residual-in_err-add-in-Stopped.result c.from_residual-in_err-add-in-Stopped.ensures.1 in
     rw (e.1, e.2) (
       reported_more (sent_more h.0 waiting) p.0,
       (
-        line_breaks d c.args.totals c.loop-frame.totals c.loop-frame.before s f.octets.now c.loop-frame.waiting.lines.items c.line_of.result.now p.0 c.loop-frame.sent c.loop-frame.end h.0 h.1 at adds p.1,
-        reported_more (so_far_told h.0 s c.loop-frame.waiting.lines.items c.loop-frame.sent c.loop-frame.end) c.line_of.result.now,
+        line_breaks d c.args.totals (totals_with c.loop-frame.unsent) c.loop-frame.unsent.totals s f.octets.now c.loop-frame.waiting.lines.items c.line_of.result.now p.0 c.loop-frame.unsent.start c.loop-frame.end h.0 h.1 at adds p.1,
+        reported_more (so_far_told h.0 s c.loop-frame.waiting.lines.items c.loop-frame.unsent.start c.loop-frame.end) c.line_of.result.now,
         noted_staying _ (g.D.Decide.gives c.args.policy.now) (g.D.Decide.lets c.args.policy.now) g.W.Watch.notes c.args.watch.now c.tell-in-Stopped.new.watch c.stays.new.self
-            c.next_number-number.result c.in-Stopped.report (so_far_told h.0 s c.loop-frame.waiting.lines.items c.loop-frame.sent c.loop-frame.end)
-            c.line_of.result.now (but_told _ _ _ _ _ _ _ _ _ _ h.5 c.tell-in-Stopped.ensures) c.line_of.ensures.line c.in-Stopped.ensures.gives (rw c.why.ensures at c.stays.ensures),
+            c.next_number-number.result c.report_on-report.result (so_far_told h.0 s c.loop-frame.waiting.lines.items c.loop-frame.unsent.start c.loop-frame.end)
+            c.line_of.result.now (but_told _ _ _ _ _ _ _ _ _ _ _ h.5 c.tell-in-Stopped.ensures) c.line_of.ensures.line c.report_on-report.ensures.gives (rw c.why.ensures at c.stays.ensures),
       ),
       both_reported _ _ _ _ _ (sent_more h.0 waiting) p.0 (both_sent _ _ _ _ _ h.0 waiting h.2 c.in_ok-put_going-in-Stopped.ensures.all) p.2,
     )
@@ -158,22 +164,24 @@ loop-frame-preserved g c =
     let s = c.args.octets.now in
     let f = c.in-Frame.frame in
     let at = first_at s c.loop-frame.end f h.1.so_far.within c.in-Frame.ensures in
-    let waiting = take (c.loop-frame.end - c.loop-frame.sent) (drop c.loop-frame.sent s) in
-    let adds = adds_line d c.next_number-number.result (next_number c.loop-frame.totals) f.octets.now c.line_of.result.now c.in-Stopped.report
-    c.next_number-number.ensures c.line_of.ensures.line c.in-Stopped.ensures.judged in
+    let waiting = take (c.loop-frame.end - c.loop-frame.unsent.start) (drop c.loop-frame.unsent.start s) in
+    let adds = adds_line d c.next_number-number.result (next_number (totals_with c.loop-frame.unsent)) f.octets.now c.line_of.result.now c.report_on-report.result
+    (c.next_number-number.ensures ∙ ap next_number c.totals_with.ensures) c.line_of.ensures.line c.report_on-report.ensures.adds in
+    let counts = c.after_staying.ensures ∙ ap after_staying c.totals_with-in-Stopped.ensures in
     let q = c.in_ok-add-in-Stopped.ensures.all in (
       reported_more (sent_more h.0 waiting) q.0,
-      stays_next d c.args.totals c.loop-frame.totals c.loop-frame.before c.after_staying-totals.result s f.octets.now c.loop-frame.waiting.lines.items c.line_of.result.now q.0
-          c.add.new.self.lines.items c.loop-frame.sent c.loop-frame.end h.0 h.1 at adds c.after_staying-totals.ensures q.1,
+      rw (c.none-unsent-in-Stopped.ensures, with_none_behind c.loop-frame.unsent c.after_staying.result (c.loop-frame.end + length f.octets.now) counts)
+          (stays_next d c.args.totals (totals_with c.loop-frame.unsent) c.loop-frame.unsent.totals c.after_staying.result s f.octets.now c.loop-frame.waiting.lines.items c.line_of.result.now q.0
+          c.add.new.self.lines.items c.loop-frame.unsent.start c.loop-frame.end h.0 h.1 at adds counts q.1),
       both_reported _ _ _ _ _ (sent_more h.0 waiting) q.0 (both_sent _ _ _ _ _ h.0 waiting h.2 c.in_ok-put_going-in-Stopped.ensures.all) q.2,
       asks_trans _ _ _ h.3 c.in_ok-add-in-Stopped.ensures.lines,
       c.in_ok-add-in-Stopped.ensures.waiting,
-      rw (c.none-untold-in-Stopped.ensures) (but_none _ _ _ _ _ _ _ _ (subst (λ (x : Added). Noted (g.D.Decide.gives c.args.policy.now) (g.D.Decide.lets c.args.policy.now) g.W.Watch.notes c.args.watch.now x c.stays.new.self)
-          (told_staying s c.loop-frame.waiting.lines.items c.line_of.result.now q.0 c.add.new.self.lines.items c.loop-frame.sent c.loop-frame.end
+      rw (c.none-unsent-in-Stopped.ensures, c.none-untold-in-Stopped.ensures) (but_none _ _ _ _ _ _ _ _ (subst (λ (x : Added). Noted (g.D.Decide.gives c.args.policy.now) (g.D.Decide.lets c.args.policy.now) g.W.Watch.notes c.args.watch.now x c.stays.new.self)
+          (told_staying s c.loop-frame.waiting.lines.items c.line_of.result.now q.0 c.add.new.self.lines.items c.loop-frame.unsent.start c.loop-frame.end
           (c.loop-frame.end + length f.octets.now) h.0 q.1)
           (noted_staying _ (g.D.Decide.gives c.args.policy.now) (g.D.Decide.lets c.args.policy.now) g.W.Watch.notes c.args.watch.now c.tell-in-Stopped.new.watch c.stays.new.self
-          c.next_number-number.result c.in-Stopped.report (so_far_told h.0 s c.loop-frame.waiting.lines.items c.loop-frame.sent c.loop-frame.end)
-          c.line_of.result.now (but_told _ _ _ _ _ _ _ _ _ _ h.5 c.tell-in-Stopped.ensures) c.line_of.ensures.line c.in-Stopped.ensures.gives (rw c.why.ensures at c.stays.ensures)))),
+          c.next_number-number.result c.report_on-report.result (so_far_told h.0 s c.loop-frame.waiting.lines.items c.loop-frame.unsent.start c.loop-frame.end)
+          c.line_of.result.now (but_told _ _ _ _ _ _ _ _ _ _ _ h.5 c.tell-in-Stopped.ensures) c.line_of.ensures.line c.report_on-report.ensures.gives (rw c.why.ensures at c.stays.ensures)))),
     )
 
 -- ---- each call ends a line

@@ -15,19 +15,19 @@ use Rattle.guard_streams.specs.declared.links.Links.{Links}
 use Rattle.guard_streams.specs.declared.seen.Seen.{Seen}
 use Rattle.guard_streams.specs.Counters.{AbstractCounted, counters_text}
 use Rattle.guard_streams.specs.Counting.{ShowsLast}
-use Rattle.guard_streams.specs.CountingLinks.{IsShownBetween, MayShowCounted, ShowsBetween, ShowsCounted, ShowsAtEnd, TellsGuarded, EndsCounted, counted_before}
+use Rattle.guard_streams.specs.CountingLinks.{IsShownBetween, MayShowCounted, ShowsBetween, ShowsCounted, ShowsAtEnd}
 use Rattle.guard_streams.specs.LinksCounted.{maybe_counted}
-use Rattle.guard_streams.specs.Muxing.{Finishes, Stops, seen_before}
-use Rattle.guard_streams.specs.Shown.{Shown, Display, Shows}
+use Rattle.guard_streams.specs.Muxing.{EndsGuarded, Finishes, Stops, TellsGuarded, counted_before}
+use Rattle.guard_streams.specs.Shown.{Shown, Display, ShowsAt}
 use Rattle.guard_streams.specs.Turns.{AbstractMux}
 use Rattle.guard_streams.specs.inside.Doing.{mux_of, IsSeenBefore, IsCountedBefore}
 use Rattle.guard_streams.proofs.Tallied.{all_as}
 use Rattle.guard_streams.proofs.Taking.{TakenSoFar, stops_told, finishes_told, seen_told, counted_told, tells_seen_before}
 
-pub none_shown : (path : List ℕ) (first : AbstractMux) (a : Option (List ℕ)) (place : List ℕ) (s : Shown) → ShowsBetween path first a a place s s
+pub none_shown : (path : List ℕ) (first : AbstractMux) (a : Option (List ℕ)) (place : Option (List ℕ)) (s : Shown) → ShowsBetween path first a a place s s
 none_shown path first a place s = ([], refl, All-nil (IsShownBetween path first a a))
 
-module _ (path : List ℕ) (first : AbstractMux) (a b : Option (List ℕ)) (place : List ℕ) (old now : Shown)
+module _ (path : List ℕ) (first : AbstractMux) (a b : Option (List ℕ)) (place : Option (List ℕ)) (old now : Shown)
     (so_far : ShowsBetween path first a b place old now) where
   -- once more was read
   longer : (c : Option (List ℕ)) (more : List ℕ) → Consumes b c more → (text : List ℕ) → IsShownBetween path first a b text →
@@ -73,30 +73,30 @@ module _ (path : List ℕ) (first : AbstractMux) (a b : Option (List ℕ)) (plac
 
 -- ---- what is shown at one time
 
-pub shows_yes : (X place path : List ℕ) (is : Bool) (old new : Shown) → place ≡ path → ShowsLast (λ text. text ≡ X) place is old new →
-    is ≡ true → Shows old path X new
+pub shows_yes : (X : List ℕ) (place path : Option (List ℕ)) (is : Bool) (old new : Shown) → place ≡ path → ShowsLast (λ text. text ≡ X) place is old new →
+    is ≡ true → ShowsAt old path X new
 shows_yes X place path true old new same (text, e, shows) is =
-    subst (λ (s : List ℕ). Shows old s X new) same (subst (λ (s : List ℕ). Shows old place s new) e shows)
+    subst (λ (s : Option (List ℕ)). ShowsAt old s X new) same (subst (λ (s : List ℕ). ShowsAt old place s new) e shows)
 shows_yes X place path false old new same h is = absurd cc
 
-pub shows_no : (X path : List ℕ) (is : Bool) (old new : Shown) → ShowsLast (λ text. text ≡ X) path is old new → is ≡ false → new ≡ old
+pub shows_no : (X : List ℕ) (path : Option (List ℕ)) (is : Bool) (old new : Shown) → ShowsLast (λ text. text ≡ X) path is old new → is ≡ false → new ≡ old
 shows_no X path true old new h is = absurd cc
 shows_no X path false old new h is = h
 
-pub counted_shown : (c : AbstractCounted) (place : List ℕ) (is : Bool) (old new : Shown) →
+pub counted_shown : (c : AbstractCounted) (place : Option (List ℕ)) (is : Bool) (old new : Shown) →
     ShowsLast (λ text. text ≡ counters_text c) place is old new → ShowsCounted place (Some c) is old new
 counted_shown c place true old new (text, e, shows) = (text, (c, refl, e), shows)
 counted_shown c place false old new h = h
 
-pub may_show : (place : List ℕ) (counted : Option AbstractCounted) (is : Bool) (old mid new : Shown) → mid ≡ old →
+pub may_show : (place : Option (List ℕ)) (counted : Option AbstractCounted) (is : Bool) (old mid new : Shown) → mid ≡ old →
     ShowsCounted place counted is mid new → MayShowCounted place counted old new
-may_show place counted true old mid new e (text, is, shows) = inr (text, is, subst (λ (s : Shown). Shows s place text new) e shows)
+may_show place counted true old mid new e (text, is, shows) = inr (text, is, subst (λ (s : Shown). ShowsAt s place text new) e shows)
 may_show place counted false old mid new e h = inl (h ∙ e)
 
 -- ---- the end
 
 shows_before : (s : Stop) (path : List ℕ) (first : AbstractMux) (input : Input) (out err : Device) (h : Stops s path first input out err)
-    (counted : Option AbstractCounted) (place : List ℕ) (is : Bool) (old new : Shown) → IsCountedBefore s path first input out err h counted →
+    (counted : Option AbstractCounted) (place : Option (List ℕ)) (is : Bool) (old new : Shown) → IsCountedBefore s path first input out err h counted →
     ShowsAtEnd (Err s) place counted is old new → ShowsAtEnd (Err s) place (counted_before s path first input out err h) is old new
 shows_before BadRecord path first input out err h counted place is old new same shows =
     subst (λ (c : Option AbstractCounted). ShowsAtEnd (Err BadRecord) place c is old new) (sym same) shows
@@ -105,34 +105,27 @@ shows_before ReadFailed path first input out err h counted place is old new same
 shows_before WriteFailed path first input out err h counted place is old new same shows = shows
 shows_before ErrorFailed path first input out err h counted place is old new same shows = shows
 
-tells_before : (verbose : Bool) (s : Stop) (path : List ℕ) (first : AbstractMux) (input : Input) (out err : Device) (h : Stops s path first input out err)
-    (seen : Option Seen) (greatest : ℕ) (told : Device) (status : ℕ) → IsSeenBefore s path first input out err h seen →
-    TellsGuarded verbose (Err s) seen greatest told status → TellsGuarded verbose (Err s) (seen_before s path first input out err h) 3 told status
-tells_before true s path first input out err h seen greatest told status same said =
-    tells_seen_before s path first input out err h seen told status same said
-tells_before false s path first input out err h seen greatest told status same said = said
-
-pub ends_counted : (verbose : Bool) (result : Result (Unit {0}) Stop) (path place : List ℕ) (first : AbstractMux) (input : Input) (out : Device)
+pub ends_guarded : (result : Result (Unit {0}) Stop) (path : List ℕ) (place : Option (List ℕ)) (first : AbstractMux) (input : Input) (out : Device)
     (before reported after : Option (List ℕ)) (was is : Bool) (greatest : ℕ) (seen : Option Seen) (counted : Option AbstractCounted) (status : ℕ)
     (last : Shown) (display : Display) → (result ≡ Err ErrorFailed → is ≡ was) →
     OnOk result ((f : Finishes path first input out (device before reported was) greatest) × (f.after.seen ≡ seen) × (f.after.counted ≡ counted)) →
     IfErr result (λ s. (h : Stops s path first input out (device before reported was))
     × IsSeenBefore s path first input out (device before reported was) h seen
     × IsCountedBefore s path first input out (device before reported was) h counted) →
-    ShowsAtEnd result place counted display.is_shown last display.after → TellsGuarded verbose result seen greatest (device reported after is) status →
-    EndsCounted verbose result path place first input out (device before after is) reported status last display
-ends_counted verbose (Ok done) path place first input out before reported after was is greatest seen counted status last display same f h shows said = (
+    ShowsAtEnd result place counted display.is_shown last display.after → TellsGuarded result seen greatest (device reported after is) status →
+    EndsGuarded result path place first input out (device before after is) reported status last display
+ends_guarded (Ok done) path place first input out before reported after was is greatest seen counted status last display same f h shows said = (
   greatest,
   finishes_told path first input out before reported was is greatest f.0,
   subst (λ (c : Option AbstractCounted). ShowsAtEnd (Ok tt) place c display.is_shown last display.after) (sym f.2) shows,
-  subst (λ (s : Option Seen). TellsGuarded verbose (Ok tt) s greatest (device reported after is) status) (sym f.1) said,
+  subst (λ (s : Option Seen). TellsGuarded (Ok tt) s greatest (device reported after is) status) (sym f.1) said,
 )
-ends_counted verbose (Err s) path place first input out before reported after was is greatest seen counted status last display same f h shows said =
+ends_guarded (Err s) path place first input out before reported after was is greatest seen counted status last display same f h shows said =
     let kept : s ≡ ErrorFailed → is ≡ was = λ e. same (ap (λ (x : Stop). Err x) e) in
     let moved = stops_told s path first input out before reported was is kept h.0 in (
       moved,
       shows_before s path first input out (device before reported is) moved counted place display.is_shown last display.after
           (counted_told s path first input out before reported was is kept h.0 counted h.2) shows,
-      tells_before verbose s path first input out (device before reported is) moved seen greatest (device reported after is) status
+      tells_seen_before s path first input out (device before reported is) moved seen (device reported after is) status
           (seen_told s path first input out before reported was is kept h.0 seen h.1) said,
     )

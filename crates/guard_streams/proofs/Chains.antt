@@ -21,12 +21,6 @@ pub nine : (t x₁ x₂ x₃ x₄ x₅ x₆ x₇ x₈ x₉ a b c d e f g h i : L
 nine t x₁ x₂ x₃ x₄ x₅ x₆ x₇ x₈ x₉ a b c d e f g h i e₁ e₂ e₃ e₄ e₅ e₆ e₇ e₈ e₉ =
     rw (e₉, e₈, e₇, e₆, e₅, e₄, e₃, e₂, e₁) (simp append_assoc)
 
-pub seven : (t x₁ x₂ x₃ x₄ x₅ x₆ x₇ a b c d e f g : List ℕ) → x₁ ≡ t ++ a → x₂ ≡ x₁ ++ b → x₃ ≡ x₂ ++ c
-    → x₄ ≡ x₃ ++ d → x₅ ≡ x₄ ++ e → x₆ ≡ x₅ ++ f → x₇ ≡ x₆ ++ g
-    → x₇ ≡ t ++ (a ++ b ++ c ++ d ++ e ++ f ++ g)
-seven t x₁ x₂ x₃ x₄ x₅ x₆ x₇ a b c d e f g e₁ e₂ e₃ e₄ e₅ e₆ e₇ =
-    rw (e₇, e₆, e₅, e₄, e₃, e₂, e₁) (simp append_assoc)
-
 pub eight : (t x₁ x₂ x₃ x₄ x₅ x₆ x₇ x₈ a b c d e f g h : List ℕ) → x₁ ≡ t ++ a → x₂ ≡ x₁ ++ b → x₃ ≡ x₂ ++ c
     → x₄ ≡ x₃ ++ d → x₅ ≡ x₄ ++ e → x₆ ≡ x₅ ++ f → x₇ ≡ x₆ ++ g → x₈ ≡ x₇ ++ h
     → x₈ ≡ t ++ (a ++ b ++ c ++ d ++ e ++ f ++ g ++ h)
@@ -36,16 +30,6 @@ eight t x₁ x₂ x₃ x₄ x₅ x₆ x₇ x₈ a b c d e f g h e₁ e₂ e₃ e
 -- three texts one after another
 pub three : (t x₁ x₂ x₃ a b c : List ℕ) → x₁ ≡ t ++ a → x₂ ≡ x₁ ++ b → x₃ ≡ x₂ ++ c → x₃ ≡ t ++ (a ++ b ++ c)
 three t x₁ x₂ x₃ a b c e₁ e₂ e₃ = rw (e₃, e₂, e₁) (simp append_assoc)
-
--- a line of a text, and what is behind it
-pub line_then : (x₀ x₁ x₂ x₃ x₄ a b c d : List ℕ) → x₀ ≡ [] → x₁ ≡ x₀ ++ a → x₂ ≡ x₁ ++ b → x₃ ≡ x₂ ++ c
-    → x₄ ≡ x₃ ++ d → x₄ ≡ (a ++ b ++ c) ++ d
-line_then x₀ x₁ x₂ x₃ x₄ a b c d e₀ e₁ e₂ e₃ e₄ = rw (e₄, e₃, e₂, e₁, e₀) refl
-
--- three texts behind one that has nothing behind it
-pub three_behind : (t x₀ x₁ x₂ x₃ a b c : List ℕ) → x₀ ≡ t ++ [] → x₁ ≡ x₀ ++ a → x₂ ≡ x₁ ++ b → x₃ ≡ x₂ ++ c
-    → x₃ ≡ t ++ (a ++ b ++ c)
-three_behind t x₀ x₁ x₂ x₃ a b c e₀ e₁ e₂ e₃ = rw (e₃, e₂, e₁, e₀) (simp append_assoc)
 
 pub five_new : (x₀ x₁ x₂ x₃ x₄ x₅ a b c d e : List ℕ) → x₀ ≡ [] → x₁ ≡ x₀ ++ a → x₂ ≡ x₁ ++ b → x₃ ≡ x₂ ++ c
     → x₄ ≡ x₃ ++ d → x₅ ≡ x₄ ++ e → x₅ ≡ a ++ b ++ c ++ d ++ e

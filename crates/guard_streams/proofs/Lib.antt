@@ -1,4 +1,3 @@
-pub mod Streams
 pub mod Chains
 pub mod SaidLaws
 pub mod PassingLaws
@@ -10,7 +9,6 @@ pub mod Showing
 pub mod Rules
 pub mod Opening
 pub mod TallyLaws
-pub mod Watched
 pub mod Turning
 pub mod Doings
 pub mod Renewing

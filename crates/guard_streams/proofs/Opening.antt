@@ -5,7 +5,7 @@ use Rattle.std.specs.Io.KnownBytes.{Appends}
 use Rattle.guard_frames.specs.declared.devices.Failed.{Failed}
 use Rattle.guard_frames.specs.Prefix.{IsProperPrefix}
 use Rattle.guard_files.specs.Devices.{Device, device}
-use Rattle.guard_streams.specs.Counting.{Opens}
+use Rattle.guard_streams.specs.Stream.{Opens}
 use Rattle.guard_streams.specs.InForce.{digest_note}
 use Rattle.guard_streams.specs.inside.Counting.{IsOpened}
 

@@ -1,12 +1,11 @@
 -- What the system says, and where it says nothing.
-use Rattle.std.proofs.Common.{◌≡◌, ◌∙◌, ◌<◌, [], ℕ, List, inl, refl, sym, take, length-take, arith}
-use Rattle.std.specs.Prelude.{Result, Ok, Err, IfOk, slice_index}
-use Rattle.std.proofs.lemmas.List.{get_or-take}
+use Rattle.std.proofs.Common.{[], inl, refl}
+use Rattle.std.specs.Prelude.{Result, Ok, Err, IfOk}
 use Rattle.guard_frames.specs.declared.running.RunFault.{RunFault}
 use Rattle.guard_frames.specs.declared.running.RunFault.TheVariants.{FrameTooLong, WriteFailed, TornFrame, ReadFailed, OutOfMemory}
 use Rattle.guard_files.specs.declared.fault.Fault.{Fault}
 use Rattle.guard_files.specs.declared.fault.Fault.TheVariants.{BadHex, CannotRead, TooLarge, Schema, Policy, Run, NoMemory}
-use Rattle.guard_streams.specs.Saying.{HasNoLineFeed, IsSaidOfRun, IsSaidOfFault}
+use Rattle.guard_streams.specs.Saying.{IsSaidOfRun, IsSaidOfFault}
 
 pub none_of_run : (f : RunFault) → IsSaidOfRun f []
 none_of_run ReadFailed = inl refl
@@ -23,12 +22,6 @@ none_of_fault (Schema f) = refl
 none_of_fault (Policy f) = refl
 none_of_fault (Run f) = refl
 none_of_fault NoMemory = refl
-
--- the octets up to the first line feed
-pub no_line_feed : (text : List ℕ) (n : ℕ) → ((k : ℕ) → k < n → slice_index text k ≡ 10 → ⊥) → HasNoLineFeed (take n text)
-no_line_feed text n before = λ k within is. (
-    let few : k < n = omega (arith, within, length-take n text) in
-    before k few (sym (get_or-take n text k 0 few) ∙ is))
 
 -- what is answered says more
 pub if_ok : {A E : Type 0} {P Q : A → Type 0} (r : Result A E) → IfOk r P → ((x : A) → P x → Q x) → IfOk r Q

@@ -1,6 +1,6 @@
 -- What is shown of a run, from its beginning to its end.
 use Rattle.std.proofs.Common.{◌≡◌, ◌⊎◌, inl, inr, ℕ, Bool, true, false, List, [], ◌∷◌, ◌++◌, ◌∙◌, ap, sym, refl, subst}
-use Rattle.std.specs.Prelude.{Result, Ok, Err, OnOk, OnErr, Option, string_bytes}
+use Rattle.std.specs.Prelude.{Result, Ok, Err, OnOk, OnErr, Option, Some}
 use Rattle.std.specs.Io.KnownBytes.{Appends}
 use Rattle.guard_policy.specs.Policies.{AbstractPolicy}
 use Rattle.guard_frames.specs.declared.devices.Failed.{Failed}
@@ -24,9 +24,9 @@ use Rattle.guard_streams.specs.declared.faults.Faults.{Faults}
 use Rattle.guard_streams.specs.Counted.{no_counts, count_one, count_all, AreCounted}
 use Rattle.guard_streams.specs.Counters.{counted_view, force_of}
 use Rattle.guard_streams.specs.Faults.{no_faults}
-use Rattle.guard_streams.specs.Counting.{AbstractCounters, counters_view, fresh_counters, text_of, ended, display_of, IsShowing, IsTelling, IsNoted, unwritten_line, faults_of, IsLastOf, ShowsLast, ShowsCounts}
-use Rattle.guard_streams.specs.Shown.{Shown, Shows}
-use Rattle.guard_streams.specs.Watching.{IsSilent}
+use Rattle.guard_streams.specs.Counting.{AbstractCounters, counters_view, fresh_counters, text_of, ended, display_of, IsShowing, IsTelling, faults_of, IsLastOf, ShowsLast, ShowsCounts}
+use Rattle.guard_streams.specs.Shown.{Shown, ShowsAt}
+use Rattle.guard_streams.specs.Stream.{IsNoted, IsSilent, unwritten_line}
 use Rattle.guard_streams.specs.inside.Counting.{ShowsEnd, IsEnded}
 use Rattle.guard_streams.proofs.Told.{whys_of, said, counted_on}
 use Rattle.guard_streams.proofs.Tallied.{counters_all, counted_as, path_of, quiet, Showed, showed, showed_on, tally_of}
@@ -34,7 +34,7 @@ use Rattle.guard_streams.proofs.Tallied.{counters_all, counted_as, path_of, quie
 -- a line that is put whole or in part
 pub noted : (place : List ℕ) (is_shown : Bool) (put : Result (Unit {0}) Failed) (before after : Option (List ℕ)) (line : List ℕ) → is_shown ≡ false →
     line ≡ unwritten_line place → OnOk put (Appends before after line) →
-    OnErr put ((part : List ℕ) × IsProperPrefix part line × Appends before after part) → IsNoted place is_shown before after
+    OnErr put ((part : List ℕ) × IsProperPrefix part line × Appends before after part) → IsNoted (Some place) is_shown before after
 noted place true put before after line e is all part = absurd cc
 noted place false (Ok done) before after line e is all part = inr (inl (subst (Appends before after) is all))
 noted place false (Err f) before after line e is all part =
@@ -43,7 +43,7 @@ noted place false (Err f) before after line e is all part =
 abbrev any_rest : (d : Decision) (read : List ℕ) (a : Added) (Last : List ℕ → Type 0) → RunsAll d read a Last → RunsAll d read a (λ rest. Unit {0})
 any_rest d read a Last x = record { outcomes = x.outcomes; rest = x.rest; split = x.split; out = x.out; reports = x.reports; last = tt }
 
-pub shows_last : (IsLast : List ℕ → Type 0) (path text : List ℕ) (is : Bool) (old new : Shown) → (is ≡ true → Shows old path text new) →
+pub shows_last : (IsLast : List ℕ → Type 0) (path : Option (List ℕ)) (text : List ℕ) (is : Bool) (old new : Shown) → (is ≡ true → ShowsAt old path text new) →
     (is ≡ false → new ≡ old) → IsLast text → ShowsLast IsLast path is old new
 shows_last IsLast path text true old new shows same h = (text, h, shows refl)
 shows_last IsLast path text false old new shows same h = same refl
@@ -56,7 +56,7 @@ counts_from c (reads n ∷ before) = counts_from c before
 counts_from c (goes count n rule ∷ before) = counts_from c before
 counts_from c (stays why ∷ before) = ap (λ (x : Counts). count_one x why) (counts_from c before)
 
-module _ (B : Type 0) (shown : B → Shown) (p : AbstractPolicy) (digest path : List ℕ) where
+module _ (B : Type 0) (shown : B → Shown) (p : AbstractPolicy) (digest : List ℕ) (path : Option (List ℕ)) where
   abbrev pub Tellings : Counters B → Told → Counters B → Type 0
   Tellings = IsTelling shown
 
@@ -103,17 +103,17 @@ module _ (B : Type 0) (shown : B → Shown) (p : AbstractPolicy) (digest path : 
   last_shown b w e read a t many x start h count end =
       let here : counters_view e ≡ ended (counters_all (fresh_counters path (force_of p digest)) h.0) t many =
       end.counts ∙ ap (λ (c : AbstractCounters). ended c t many) (counted_as B shown p digest path h.0 b w h.2 ∙ ap (λ (c : AbstractCounters). counters_all c h.0) start) in
-      let named : string_bytes e.path ≡ path = ap (λ (c : AbstractCounters). c.path) here ∙ path_of _ p path (force_of p digest) h.0 read a h.1 in
+      let named : (counters_view e).path ≡ path = ap (λ (c : AbstractCounters). c.path) here ∙ path_of _ p path (force_of p digest) h.0 read a h.1 in
       shows_last (IsLastOf p digest read a many) path (text_of (counters_view e)) e.is_shown (shown w.board) (shown e.board)
-      (λ is. subst (λ (s : List ℕ). Shows (shown w.board) s (text_of (counters_view e)) (shown e.board)) named (end.shows.yes is)) end.shows.no
+      (λ is. subst (λ (s : Option (List ℕ)). ShowsAt (shown w.board) s (text_of (counters_view e)) (shown e.board)) named (end.shows.yes is)) end.shows.no
       (counted_view e.counted, tally_of _ p digest path h.0 read a t many (counters_view e) h.1 here x count, refl)
 
   begun_shown : (c b : Counters B) → Begun b → IsShowing shown c b →
       ShowsLast (λ text. text ≡ text_of (fresh_counters path (force_of p digest))) path b.is_shown (shown c.board) (shown b.board)
   begun_shown c b start h =
-      let named : string_bytes b.path ≡ path = ap (λ (x : AbstractCounters). x.path) start in
+      let named : (counters_view b).path ≡ path = ap (λ (x : AbstractCounters). x.path) start in
       shows_last (λ text. text ≡ text_of (fresh_counters path (force_of p digest))) path (text_of (counters_view b)) b.is_shown (shown c.board) (shown b.board)
-      (λ is. subst (λ (s : List ℕ). Shows (shown c.board) s (text_of (counters_view b)) (shown b.board)) named (h.yes is)) h.no (ap text_of start)
+      (λ is. subst (λ (s : Option (List ℕ)). ShowsAt (shown c.board) s (text_of (counters_view b)) (shown b.board)) named (h.yes is)) h.no (ap text_of start)
 
   abbrev Ends : Result (Unit {0}) RunFault → List ℕ → Added → Counters B → Counters B → Type 0
   Ends result read a w e = IsWatched result

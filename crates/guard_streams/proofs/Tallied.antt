@@ -1,6 +1,6 @@
 -- What counters have counted and shown, once they were told of what was read and added.
 use Rattle.std.proofs.Common.{◌≡◌, inl, inr, ℕ, ◌+◌, List, [], ◌∷◌, ◌++◌, ◌∙◌, ap, sym, refl, subst, length, append_assoc, length-append, arith}
-use Rattle.std.specs.Prelude.{string_bytes}
+use Rattle.std.specs.Prelude.{Option}
 use Rattle.std.specs.List.{All}
 use Rattle.std.proofs.lemmas.List.{append-nil}
 use Rattle.std.proofs.lemmas.List.Elements.{All-cons, All-nil}
@@ -25,7 +25,7 @@ use Rattle.guard_streams.specs.Counted.{no_counts, count_one, count_all}
 use Rattle.guard_streams.specs.Counters.{AbstractForce, counted_view, force_of, deny_one, deny_all, allow_some, allow_all}
 use Rattle.guard_streams.specs.Faults.{no_faults}
 use Rattle.guard_streams.specs.Counting.{AbstractCounters, counters_view, counters_one, ended, fresh_counters, text_of, IsTelling, IsTally, IsShownOf}
-use Rattle.guard_streams.specs.Shown.{Shown, Shows, ShowsAll}
+use Rattle.guard_streams.specs.Shown.{Shown, ShowsAt, ShowsAll}
 use Rattle.guard_streams.proofs.Rules.{deny_allowed, allow_times, later_more}
 use Rattle.guard_streams.proofs.Told.{whys_of, rules_in, said, are_let}
 
@@ -48,7 +48,7 @@ counters_all c (told ∷ before) = counters_one (counters_all c before) told
 -- ---- what is counted
 
 -- all but the totals
-record Sums (place : List ℕ) (f : AbstractForce) (whys : List Why) (rules : List ℕ) (read : List ℕ) (a : Added) (c : AbstractCounters) : Type 0 where
+record Sums (place : Option (List ℕ)) (f : AbstractForce) (whys : List Why) (rules : List ℕ) (read : List ℕ) (a : Added) (c : AbstractCounters) : Type 0 where
   path : c.path ≡ place
   counts : c.counted.tally.counts ≡ count_all no_counts whys
   force : c.counted.force ≡ allow_all (deny_all f whys) rules
@@ -58,7 +58,7 @@ record Sums (place : List ℕ) (f : AbstractForce) (whys : List Why) (rules : Li
   faults : c.counted.tally.faults ≡ no_faults
 
 -- the same numbers, where more was read or added
-sums_as : (path : List ℕ) (f : AbstractForce) (whys : List Why) (rules : List ℕ) (first read : List ℕ) (a b : Added) (c d : AbstractCounters) → Sums path f whys rules first a c →
+sums_as : (path : Option (List ℕ)) (f : AbstractForce) (whys : List Why) (rules : List ℕ) (first read : List ℕ) (a b : Added) (c d : AbstractCounters) → Sums path f whys rules first a c →
     d.path ≡ c.path → d.counted.tally.counts ≡ c.counted.tally.counts → d.counted.force ≡ c.counted.force → d.counted.tally.reloads ≡ c.counted.tally.reloads → d.counted.tally.faults ≡ c.counted.tally.faults →
     d.counted.tally.came ≡ later 0 (length read) → d.counted.tally.went ≡ later 0 (length b.out) → Sums path f whys rules read b d
 sums_as path f whys rules first read a b c d h same counts force reloads faults came went = record {
@@ -71,7 +71,7 @@ sums_as path f whys rules first read a b c d h same counts force reloads faults 
   faults = faults ∙ h.faults;
 }
 
-sums : (At : List ℕ → Added → Totals → Type 0) (p : AbstractPolicy) (path : List ℕ) (f : AbstractForce) (told : List Told) (read : List ℕ) (a : Added) →
+sums : (At : List ℕ → Added → Totals → Type 0) (p : AbstractPolicy) (path : Option (List ℕ)) (f : AbstractForce) (told : List Told) (read : List ℕ) (a : Added) →
     Tells At (gives_of p) (lets_of p) told read a → Sums path f (whys_of told) (rules_in told) read a (counters_all (fresh_counters path f) told)
 unfolding counters_all whys_of rules_in
 sums At p path f [] read a h = record {
@@ -119,12 +119,12 @@ sums At p path f (stays why ∷ before) read a (first, line, e, says, h) =
 with_faults : (c : AbstractCounters) (t : Totals) → c.counted.tally.faults ≡ no_faults → counters_one c (pauses t) ≡ ended c t no_faults
 with_faults c t none = λ i. record { path = c.path; counted = record c.counted { tally = record c.counted.tally { totals = t; faults = none i } } }
 
-pub path_of : (At : List ℕ → Added → Totals → Type 0) (p : AbstractPolicy) (path : List ℕ) (f : AbstractForce) (told : List Told) (read : List ℕ) (a : Added) →
+pub path_of : (At : List ℕ → Added → Totals → Type 0) (p : AbstractPolicy) (path : Option (List ℕ)) (f : AbstractForce) (told : List Told) (read : List ℕ) (a : Added) →
     Tells At (gives_of p) (lets_of p) told read a → (counters_all (fresh_counters path f) told).path ≡ path
 path_of At p path f told read a h = (sums At p path f told read a h).path
 
 -- with totals of all frames it is all that is counted
-pub tally_of : (At : List ℕ → Added → Totals → Type 0) (p : AbstractPolicy) (digest path : List ℕ) (told : List Told) (read : List ℕ) (a : Added)
+pub tally_of : (At : List ℕ → Added → Totals → Type 0) (p : AbstractPolicy) (digest : List ℕ) (path : Option (List ℕ)) (told : List Told) (read : List ℕ) (a : Added)
     (t : Totals) (faults : Faults) (c : AbstractCounters) →
     Tells At (gives_of p) (lets_of p) told read a → c ≡ ended (counters_all (fresh_counters path (force_of p digest)) told) t faults →
     (x : RunsAll (decision_of p) read a (λ rest. Unit {0})) → Count x.outcomes t → IsTally p digest read a faults c.counted
@@ -146,7 +146,7 @@ tally_of At p digest path told read a t faults c h e x count =
     })
 
 -- at a pause its totals are those
-paused_tally : (p : AbstractPolicy) (digest path : List ℕ) (before : List Told) (read : List ℕ) (a : Added) (t : Totals) (c : AbstractCounters) →
+paused_tally : (p : AbstractPolicy) (digest : List ℕ) (path : Option (List ℕ)) (before : List Told) (read : List ℕ) (a : Added) (t : Totals) (c : AbstractCounters) →
     Tells (AllDecided (decision_of p)) (gives_of p) (lets_of p) (pauses t ∷ before) read a →
     c ≡ counters_all (fresh_counters path (force_of p digest)) (pauses t ∷ before) → IsTally p digest read a no_faults c.counted
 unfolding counters_all
@@ -175,7 +175,7 @@ shown_longer p digest first piece read a b c e e₁ text h = record {
   text_is = h.text_is;
 }
 
-module _ (B : Type 0) (shown : B → Shown) (p : AbstractPolicy) (digest path : List ℕ) where
+module _ (B : Type 0) (shown : B → Shown) (p : AbstractPolicy) (digest : List ℕ) (path : Option (List ℕ)) where
   abbrev Telling : Counters B → Told → Counters B → Type 0
   Telling = IsTelling shown
 
@@ -213,7 +213,7 @@ module _ (B : Type 0) (shown : B → Shown) (p : AbstractPolicy) (digest path : 
   same_shown old mid new read a e h = subst (Showed old read a) (sym e) h
 
   at_path : (before : List Told) (read : List ℕ) (a : Added) (new : Counters B) → Tells (AllDecided (decision_of p)) (gives_of p) (lets_of p) before read a →
-      (t : Totals) → counters_view new ≡ counters_all (fresh_counters path (force_of p digest)) (pauses t ∷ before) → string_bytes new.path ≡ path
+      (t : Totals) → counters_view new ≡ counters_all (fresh_counters path (force_of p digest)) (pauses t ∷ before) → (counters_view new).path ≡ path
   unfolding counters_all
   at_path before read a new h t here =
       ap (λ (c : AbstractCounters). c.path) here ∙ (sums (AllDecided (decision_of p)) p path (force_of p digest) before read a h).path
@@ -247,7 +247,7 @@ module _ (B : Type 0) (shown : B → Shown) (p : AbstractPolicy) (digest path : 
             let here : counters_view new ≡ counters_all (fresh_counters path (force_of p digest)) (pauses t ∷ before) =
             counted_as (pauses t ∷ before) old new (last, k, noted) ∙ ap (λ (c : AbstractCounters). counters_all c (pauses t ∷ before)) start in (
               text_of (counters_view new) ∷ s.0,
-              (shown last.board, s.1, subst (λ (x : List ℕ). Shows (shown last.board) x (text_of (counters_view new)) (shown new.board)) (at_path before read a new h.1 t here) shows),
+              (shown last.board, s.1, subst (λ (x : Option (List ℕ)). ShowsAt (shown last.board) x (text_of (counters_view new)) (shown new.board)) (at_path before read a new h.1 t here) shows),
               All-cons (IsShownOf p digest read a) (text_of (counters_view new)) s.0 (paused_text before read a t new h here) s.2,
             )
       ]

@@ -1,6 +1,6 @@
 -- What follows from what a watch was told: of the lines that were reported what they say, of the frames that went out by
 -- which rules they go, and what a watch that counts has counted.
-use Rattle.std.proofs.Common.{◌≡◌, ◌⊎◌, inl, inr, ℕ, List, [], ◌∷◌, ◌++◌, ◌∙◌, ap, sym, refl, subst, drop, length, append_assoc}
+use Rattle.std.proofs.Common.{◌≡◌, ℕ, List, [], ◌∷◌, ◌++◌, ◌∙◌, ap, sym, refl, subst, drop, length, append_assoc}
 use Rattle.std.specs.List.{All, concat}
 use Rattle.std.proofs.lemmas.List.{append-nil}
 use Rattle.std.proofs.lemmas.List.Elements.{All-head, All-tail}
@@ -9,8 +9,7 @@ use Rattle.guard_frames.specs.declared.totals.Totals.{Totals}
 use Rattle.guard_frames.specs.declared.why.Why.{Why}
 use Rattle.guard_frames.specs.Added.{Added}
 use Rattle.guard_frames.specs.Frames.{IsFrame}
-use Rattle.guard_frames.specs.Leaving.{Watched, WatchedInPart}
-use Rattle.guard_frames.specs.OfPolicy.{decision_of, gives_of, lets_of}
+use Rattle.guard_frames.specs.OfPolicy.{gives_of, lets_of}
 use Rattle.guard_frames.specs.Outcomes.{GoesBy}
 use Rattle.guard_frames.specs.Reasons.{Told, Tells, IsTold, Noted}
 use Rattle.guard_frames.specs.Reasons.Told.{pauses, reads, goes, stays}
@@ -83,10 +82,6 @@ counted (stays why ∷ before) old new h = h.2 ∙ ap (λ (c : Counts). count_on
 pub noted_counted : (p : AbstractPolicy) (old new : Counts) (a : Added) → Noted (gives_of p) (lets_of p) Counting old a new → AreCounted p old a.reports new
 noted_counted p old new a h = (whys_of h.0, said _ p h.0 [] a h.1, counted h.0 old new h.2)
 
-pub watched_counted : (p : AbstractPolicy) (old new : Counts) (read : List ℕ) (a : Added) →
-    Watched (decision_of p) (gives_of p) (lets_of p) Counting old read a new → AreCounted p old a.reports new
-watched_counted p old new read a h = (whys_of h.0, said _ p h.0 read a h.1, counted h.0 old new h.2)
-
 -- ---- lines after lines
 
 pub said_on : (p : AbstractPolicy) (xs ys : List Why) (s t : List ℕ) → AreSaid p xs s → AreSaid p ys t → AreSaid p (ys ++ xs) (s ++ t)
@@ -104,14 +99,3 @@ counted_on p a b c s t h k = (
   said_on p h.0 k.0 s t h.1 k.1,
   k.2 ∙ ap (λ (d : Counts). count_all d k.0) h.2 ∙ sym (count_all-append a h.0 k.0),
 )
-
-pub part_counted : (Broken : Type 0) (p : AbstractPolicy) (old new : Counts) (read : List ℕ) (a : Added) →
-    WatchedInPart Broken (decision_of p) (gives_of p) (lets_of p) Counting old read a new → Broken ⊎ AreCounted p old a.reports new
-part_counted Broken p old new read a h = elim h.known [
-  | inl broken ↦ inl broken
-  | inr (lost, e) ↦
-      let more : AreCounted p h.last h.back.reports new =
-      subst (λ (x : Added). AreCounted p h.last x.reports new) e (noted_counted p h.last new h.told h.ahead) in
-      inr (subst (λ (x : List ℕ). AreCounted p old x new) (sym (ap (λ (x : Added). x.reports) h.split))
-      (counted_on p old h.last new h.front.reports h.back.reports (watched_counted p old h.last read h.front h.before) more))
-]

@@ -15,7 +15,6 @@ pub mod OwnRecords
 -- ---- a stream that is guarded with notes
 pub mod Saying
 pub mod Verbose
-pub mod Watching
 -- ---- a stream that is guarded with counters
 pub mod Faults
 pub mod Counters

@@ -1,5 +1,7 @@
--- What comes of a stream of records of many links. This is the page to read of `mux`.
-use Rattle.std.specs.Prelude.{◌≡◌, ◌⊎◌, ℕ, true, List, [], ◌∷◌, ◌++◌, Option, Some, None, map, replicate, codes}
+-- What comes of a stream of records of many links, by whether notes are asked for, and by the place at which what is
+-- counted is shown, where there is one. This is the page to read of `mux`; what comes of one record is in Turns.antt, and
+-- what is shown in CountingLinks.antt.
+use Rattle.std.specs.Prelude.{◌≡◌, ◌⊎◌, ℕ, Bool, true, false, List, [], ◌∷◌, ◌++◌, Option, Some, None, Result, Ok, Err, map, replicate, codes}
 use Rattle.std.specs.List.{concat, All}
 use Rattle.std.specs.Io.KnownBytes.{Appends, Consumes, IsAtEnd}
 use Rattle.guard_policy.specs.Policies.{AbstractPolicy}
@@ -14,15 +16,16 @@ use Rattle.guard_files.specs.declared.stop.Stop.TheVariants.{BadRecord, ReadFail
 use Rattle.guard_files.specs.Devices.{Input, Device, IsUnread, IsUntouched}
 use Rattle.guard_files.specs.Digest.{IsNumberedAt}
 use Rattle.guard_files.specs.Files.{Told, IsLater}
-use Rattle.guard_files.specs.Reading.{IsPolicyAt, IsNoPolicyAt}
+use Rattle.guard_files.specs.Reading.{IsNoPolicyAt}
 use Rattle.guard_files.specs.Records.{Record, record_octets, IsAllowed, IsBadRecord, IsLost}
-use Rattle.guard_files.specs.Writing.{Tells, TellsLine, line_of}
-use Rattle.guard_streams.specs.Counters.{AbstractCounted}
+use Rattle.guard_files.specs.Writing.{TellsLine, line_of}
+use Rattle.guard_streams.specs.Counters.{AbstractCounted, AbstractForce, nothing_counted, force_of}
+use Rattle.guard_streams.specs.CountingLinks.{ShowsCounted, ShowsBetween, ShowsAtEnd}
 use Rattle.guard_streams.specs.declared.seen.Seen.{Seen}
 use Rattle.guard_streams.specs.Turns.{AbstractMux, Written, Happens, InTurn, all_out, all_err, status_of, ends_left}
-use Rattle.guard_streams.specs.Saying.{TellsUnread}
-use Rattle.guard_streams.specs.Verbose.{last_lines, nothing_seen, seen_lines}
-use Rattle.guard_streams.specs.Watching.{BehindNote, TellsFault, TellsNotes}
+use Rattle.guard_streams.specs.Shown.{Shown, Display}
+use Rattle.guard_streams.specs.Stream.{IsNoted, Opens, TellsNone}
+use Rattle.guard_streams.specs.Verbose.{last_lines, nothing_seen, TellsFault, TellsNotes}
 
 -- What was read is records and then this rest, and the records were taken in turn.
 pub record Takes (path : List ℕ) (first : AbstractMux) (input : Input) (rest : List ℕ) : Type 0 where
@@ -101,7 +104,7 @@ pub record BreaksAtEnd (path : List ℕ) (first : AbstractMux) (input : Input) (
   pub in_turn : InTurn path all.last before closed last
   pub part : WritesPart path last next (all.written ++ closed) out err Breaks
 
--- ---- the whole stream
+-- ---- why they stop
 
 -- why the links aren't guarded to their ends, and what both outputs took
 abbrev pub Stops : Stop → List ℕ → AbstractMux → Input → Device → Device → Type 0
@@ -111,38 +114,6 @@ Stops WriteFailed path first input out err = BreaksAtRecord path first input out
 Stops ErrorFailed path first input out err =
     BreaksAtRecord path first input out err BreaksErr ⊎ BreaksAtEnd path first input out err BreaksErr
 
--- what is reported of that, with status 3; nothing more where standard error failed
-abbrev pub TellsStop : Stop → Device → ℕ → Type 0
-TellsStop BadRecord err status = TellsLine (codes "bad record") 3 err status
-TellsStop ReadFailed err status = TellsLine (codes "F5 ReadFailed") 3 err status
-TellsStop WriteFailed err status = TellsLine (fault_text link_fault.WriteFailed) 3 err status
-TellsStop ErrorFailed err status = (err.after ≡ err.before) × (status ≡ 3)
-
--- The links are guarded to their ends; or there is a reason why not, reported after what standard error took so far.
-abbrev pub GuardsRecords : List ℕ → AbstractMux → Input → Device → Device → ℕ → Type 0
-GuardsRecords path first input out err status =
-    Finishes path first input out err status
-    ⊎ ((s : Stop) × (reported : Option (List ℕ)) × Stops s path first input out (record err { after = reported })
-    × TellsStop s (record err { before = reported }) status)
-
--- sixteen links that are open, under this policy; notes are asked for where something is seen
-abbrev pub new_mux : AbstractPolicy → Told → Option Seen → Option AbstractCounted → AbstractMux
-new_mux p told seen counted = record {
-  told = told;
-  gateway = record { policy = p; links = replicate 16 new_link };
-  seen = seen;
-  counted = counted;
-}
-
--- What comes of a stream of records under the policy at the path. Where there is none, nothing is read or written.
-abbrev pub GuardsLinks : Told → List ℕ → Input → Device → Device → ℕ → Type 0
-GuardsLinks told path input out err status =
-    ((f : Fault) × IsNoPolicyAt told path f × IsUnread input × IsUntouched out × Tells f err status)
-    ⊎ ((p : AbstractPolicy) × (later : Told) × IsPolicyAt told path p × IsLater told later
-    × GuardsRecords path (new_mux p later None None) input out err status)
-
--- ---- with notes
-
 -- what is seen of the records before that
 abbrev pub seen_before : (s : Stop) (path : List ℕ) (first : AbstractMux) (input : Input) (out err : Device)
     → Stops s path first input out err → Option Seen
@@ -150,6 +121,23 @@ seen_before BadRecord path first input out err h = h.all.last.seen
 seen_before ReadFailed path first input out err h = h.all.last.seen
 seen_before WriteFailed path first input out err h = h.all.last.seen
 seen_before ErrorFailed path first input out err h = None
+
+-- and what is counted of them
+abbrev pub counted_before : (s : Stop) (path : List ℕ) (first : AbstractMux) (input : Input) (out err : Device)
+    → Stops s path first input out err → Option AbstractCounted
+counted_before BadRecord path first input out err h = h.all.last.counted
+counted_before ReadFailed path first input out err h = h.all.last.counted
+counted_before WriteFailed path first input out err h = None
+counted_before ErrorFailed path first input out err h = None
+
+-- ---- what is said at the end
+
+-- what is reported of that, with status 3; nothing more where standard error failed
+abbrev pub TellsStop : Stop → Device → ℕ → Type 0
+TellsStop BadRecord err status = TellsLine (codes "bad record") 3 err status
+TellsStop ReadFailed err status = TellsLine (codes "F5 ReadFailed") 3 err status
+TellsStop WriteFailed err status = TellsLine (fault_text link_fault.WriteFailed) 3 err status
+TellsStop ErrorFailed err status = (err.after ≡ err.before) × (status ≡ 3)
 
 -- Why the links aren't guarded to their ends, with what was seen; where nothing was, as without notes. Where standard
 -- error failed nothing more is said.
@@ -161,20 +149,73 @@ TellsStopWith (Some seen) ReadFailed err status = TellsFault run.ReadFailed seen
 TellsStopWith (Some seen) WriteFailed err status = TellsFault run.WriteFailed seen err status
 TellsStopWith (Some seen) ErrorFailed err status = TellsStop ErrorFailed err status
 
--- The records are guarded as without notes; then what is seen of them is said, behind the line that says why they
--- aren't guarded to their ends.
-abbrev pub WatchesRecords : List ℕ → AbstractMux → Input → Device → Device → ℕ → Type 0
-WatchesRecords path first input out err status =
-    ((greatest : ℕ) × (reported : Option (List ℕ))
-    × (f : Finishes path first input out (record err { after = reported }) greatest)
-    × TellsNotes (seen_lines f.after.seen) greatest (record err { before = reported }) status)
-    ⊎ ((s : Stop) × (reported : Option (List ℕ)) × (h : Stops s path first input out (record err { after = reported }))
-    × TellsStopWith (seen_before s path first input out (record err { after = reported }) h) s
-    (record err { before = reported }) status)
+-- What is said at the end: the last notes, where something is seen, or why the links aren't guarded to their ends.
+abbrev pub TellsGuarded : Result (Unit {0}) Stop → Option Seen → ℕ → Device → ℕ → Type 0
+TellsGuarded (Ok done) None greatest err status = IsUntouched err × (status ≡ greatest)
+TellsGuarded (Ok done) (Some seen) greatest err status = TellsNotes (last_lines seen) greatest err status
+TellsGuarded (Err s) seen greatest err status = TellsStopWith seen s err status
 
-abbrev pub WatchesLinks : Told → List ℕ → Input → Device → Device → ℕ → Type 0
-WatchesLinks told path input out err status =
-    ((f : Fault) × IsNoPolicyAt told path f × IsUnread input × IsUntouched out × TellsUnread f err status)
+-- The records are guarded to the end, or up to where they aren't; what is counted then is shown, and it is said what
+-- there is to say.
+abbrev pub EndsGuarded : Result (Unit {0}) Stop → List ℕ → Option (List ℕ) → AbstractMux → Input → Device → Device →
+    Option (List ℕ) → ℕ → Shown → Display → Type 0
+EndsGuarded (Ok done) path place first input out err reported status last display =
+    (greatest : ℕ) × (f : Finishes path first input out (record err { after = reported }) greatest)
+    × ShowsAtEnd (Ok done) place f.after.counted display.is_shown last display.after
+    × TellsGuarded (Ok done) f.after.seen greatest (record err { before = reported }) status
+EndsGuarded (Err s) path place first input out err reported status last display =
+    (h : Stops s path first input out (record err { after = reported }))
+    × ShowsAtEnd (Err s) place (counted_before s path first input out (record err { after = reported }) h)
+    display.is_shown last display.after
+    × TellsGuarded (Err s) (seen_before s path first input out (record err { after = reported }) h) 3
+    (record err { before = reported }) status
+
+-- ---- the whole stream
+
+-- sixteen links that are open, under this policy; notes are asked for where something is seen
+abbrev pub new_mux : AbstractPolicy → Told → Option Seen → Option AbstractCounted → AbstractMux
+new_mux p told seen counted = record {
+  told = told;
+  gateway = record { policy = p; links = replicate 16 new_link };
+  seen = seen;
+  counted = counted;
+}
+
+-- what is seen at first, where notes are asked for
+abbrev pub seen_first : Bool → List ℕ → Option Seen
+seen_first true digest = Some (nothing_seen digest)
+seen_first false digest = None
+
+-- what is counted at first, where it is shown
+abbrev pub counted_first : Option (List ℕ) → AbstractForce → Option AbstractCounted
+counted_first None force = None
+counted_first (Some place) force = Some (nothing_counted force)
+
+-- before the first record, under this policy, whose texts have this number
+abbrev pub first_mux : Bool → Option (List ℕ) → AbstractPolicy → List ℕ → Told → AbstractMux
+first_mux verbose place p digest told =
+    new_mux p told (seen_first verbose digest) (counted_first place (force_of p digest))
+
+-- under it: what is counted is shown at first, which is noted where it can't be, and now and then before a record
+pub record GuardsLinksUnder (first : AbstractMux) (path : List ℕ) (place : Option (List ℕ)) (display : Display)
+    (input : Input) (out err : Device) (status : ℕ) : Type 0 where
+  pub is_first : Bool
+  pub begun : Shown
+  pub begins : ShowsCounted place first.counted is_first display.before begun
+  pub said : Option (List ℕ)
+  pub noted : IsNoted place is_first err.before said
+  pub last : Shown
+  pub shows : ShowsBetween path first input.before input.after place begun last
+  pub result : Result (Unit {0}) Stop
+  pub reported : Option (List ℕ)
+  pub ends : EndsGuarded result path place first input out (record err { before = said }) reported status last display
+
+-- What comes of a stream of records under the policy at the path. Where there is none, nothing is read, written or
+-- shown.
+abbrev pub GuardsLinks : Bool → Option (List ℕ) → Told → List ℕ → Display → Input → Device → Device → ℕ → Type 0
+GuardsLinks verbose place told path display input out err status =
+    ((f : Fault) × IsNoPolicyAt told path f × IsUnread input × IsUntouched out × (display.after ≡ display.before)
+    × TellsNone verbose f err status)
     ⊎ ((p : AbstractPolicy) × (digest : List ℕ) × (later : Told) × IsNumberedAt told path p digest × IsLater told later
-    × BehindNote digest (IsUnread input × IsUntouched out) err status
-    (λ behind. WatchesRecords path (new_mux p later (Some (nothing_seen digest)) None) input out behind status))
+    × Opens verbose digest (IsUnread input × IsUntouched out × (display.after ≡ display.before)) err status
+    (λ behind. GuardsLinksUnder (first_mux verbose place p digest later) path place display input out behind status))

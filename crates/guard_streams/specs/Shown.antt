@@ -22,7 +22,12 @@ Shows None path text new = Unit {0}
 Shows (Some old) path text None = ⊥
 Shows (Some old) path text (Some new) = new ≡ record { path = path; text = text } ∷ old
 
--- these texts are shown at a path, the last first
-abbrev pub ShowsAll : List ℕ → Shown → List (List ℕ) → Shown → Type 0
-ShowsAll path old [] new = new ≡ old
-ShowsAll path old (text ∷ before) new = (last : Shown) × ShowsAll path old before last × Shows last path text new
+-- where there is a path: without one nothing is shown
+abbrev pub ShowsAt : Shown → Option (List ℕ) → List ℕ → Shown → Type 0
+ShowsAt old None text new = ⊥
+ShowsAt old (Some path) text new = Shows old path text new
+
+-- these texts are shown there, the last first
+abbrev pub ShowsAll : Option (List ℕ) → Shown → List (List ℕ) → Shown → Type 0
+ShowsAll place old [] new = new ≡ old
+ShowsAll place old (text ∷ before) new = (last : Shown) × ShowsAll place old before last × ShowsAt last place text new

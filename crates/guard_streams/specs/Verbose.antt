@@ -1,13 +1,18 @@
 -- The notes that end a run where it is asked to be verbose, each a line after `derguard: `.
-use Rattle.std.specs.Prelude.{ℕ, nat_eq, List, [], ◌++◌, codes, decimal, Option, Some, None, if◌then◌else◌}
+use Rattle.std.specs.Prelude.{ℕ, nat_eq, ◌⊎◌, List, [], ◌++◌, codes, decimal, if◌then◌else◌}
 use Rattle.guard_frames.specs.declared.running.RunFault.{RunFault}
 use Rattle.guard_frames.specs.declared.running.RunFault.TheVariants.{FrameTooLong, WriteFailed, TornFrame, ReadFailed, OutOfMemory}
 use Rattle.guard_frames.specs.declared.totals.Totals.{Totals}
 use Rattle.guard_frames.specs.LinkView.{AbstractLink}
 use Rattle.guard_frames.specs.Totals.{no_frames, next_number}
+use Rattle.guard_files.specs.declared.fault.Fault.TheVariants.{Run}
+use Rattle.guard_files.specs.Devices.{Device}
+use Rattle.guard_files.specs.Explaining.{TellsWith}
+use Rattle.guard_files.specs.Writing.{TellsOctets, TellsNoMemory}
 use Rattle.guard_streams.specs.declared.counts.Counts.{Counts}
 use Rattle.guard_streams.specs.declared.seen.Seen.{Seen}
 use Rattle.guard_streams.specs.Counted.{no_counts}
+use Rattle.guard_streams.specs.Saying.{IsSaidOfRun}
 
 -- `derguard: frames F, passed P, denied D`
 abbrev pub totals_line : Totals → List ℕ
@@ -35,11 +40,6 @@ count_lines c =
 abbrev pub last_lines : Seen → List ℕ
 last_lines s = totals_line s.totals ++ count_lines s.counts
 
--- where anything was seen
-abbrev pub seen_lines : Option Seen → List ℕ
-seen_lines None = []
-seen_lines (Some s) = last_lines s
-
 -- `derguard: frame N, length L` or `derguard: frame N, octets O`
 abbrev pub frame_line : ℕ → List ℕ → ℕ → List ℕ
 frame_line number word n =
@@ -65,3 +65,14 @@ seen_of digest l counts = record { digest = digest; totals = l.totals; counts = 
 -- before the first frame
 abbrev pub nothing_seen : List ℕ → Seen
 nothing_seen digest = record { digest = digest; totals = no_frames; counts = no_counts; left = 0 }
+
+-- ---- what is said at the end
+
+-- The octets are said, with this status; or that there was no memory for them.
+abbrev pub TellsNotes : List ℕ → ℕ → Device → ℕ → Type 0
+TellsNotes octets status err result = TellsOctets octets status err result ⊎ TellsNoMemory err result
+
+-- a fault with the notes behind its line
+abbrev pub TellsFault : RunFault → Seen → Device → ℕ → Type 0
+TellsFault f s err status =
+    (said : List ℕ) × IsSaidOfRun f said × TellsWith (Run f) (fault_lines f said s) err status

@@ -1,84 +1,24 @@
-//! Guards the stream that comes in, and shows what is counted of it.
-ghost use Rattle.std.specs.Prelude.{◌≡◌, true, IfOk, IfErr, OnErr};
+//! What begins and ends a run: the policy and what is counted under it, and where that is shown.
+ghost use Rattle.std.specs.Prelude.{◌≡◌, option_map, string_bytes, IfOk, IfErr};
 ghost use Rattle.guard_policy.specs.PolicyView.{policy_view};
-ghost use Rattle.guard_files.specs.Devices.{source_of, device_of};
+ghost use Rattle.guard_files.specs.Devices.{device_of};
 ghost use Rattle.guard_files.specs.Files.{IsLater};
 ghost use Rattle.guard_files.specs.Reading.{IsNoPolicyAt};
 ghost use Rattle.guard_streams.specs.Counters.{force_view};
-ghost use Rattle.guard_streams.specs.Counting.{CountsStream, display_of, IsNoted, TellsEnd, TellsNone};
-ghost use Rattle.guard_streams.specs.Watching.{IsSilent};
+ghost use Rattle.guard_streams.specs.Stream.{IsNoted, TellsNone};
 ghost use Rattle.guard_streams.specs.inside.Counting.{IsEnded, IsForceAt, IsOpened};
 
 use crate::board::Board;
 use crate::counters::Counters;
 use crate::faults::Faults;
-use crate::guarding::status_of;
 use crate::in_force::put_digest;
 use crate::rule_counts::InForce;
 use crate::saying::Says;
-use crate::seen::Seen;
-use crate::verbose::{tell_fault, tell_last, tell_unread};
-use guard_files::{FAILED, Fault, Files, load_numbered, tell};
-use guard_frames::{
-    Failed, Link, LinkFault, RunFault, Sink, Source, Totals, decide_link, new_buffer, put_all,
-};
+use crate::verbose::tell_unread;
+use guard_files::{Fault, Files, load_numbered, tell};
+use guard_frames::{Failed, LinkFault, RunFault, Sink, Totals, put_all};
 use guard_policy::Policy;
-use std::alloc::Global;
-
-/// Guards the stream under the policy at the path, and answers the status, as `run` does, or, where notes are asked
-/// for, as `run_verbosely` does. What is counted of it is shown at the place: at first, now and then, and at the end.
-/// Where it can't be shown at first, this is noted on standard error, and nothing else changes.
-pub fn run_counting<F: Files, S: Source, O: Sink, E: Sink, T: Says, B: Board>(
-    alloc: Global,
-    path: &str,
-    place: &str,
-    verbose: bool,
-    files: &mut F,
-    input: &mut S,
-    out: &mut O,
-    err: &mut E,
-    system: &T,
-    counters: &mut Counters<B>,
-) -> u8
-    ensures { CountsStream verbose place.now (F.told files.old) path.now
-        (display_of B.shown counters.old counters.new)
-        (source_of S.tells S.takes S.has_failed input.old input.new)
-        (device_of O.taken O.has_failed out.old out.new)
-        (device_of E.taken E.has_failed err.old err.new) result }
-{
-    let (policy, force) = match load_counted(alloc, path, files) {
-        Ok(both) => both,
-        Err(fault) => return tell_none(alloc, verbose, &fault, err, system),
-    };
-    let digest = force.digest;
-    let Ok(shown_at) = String::from_str(alloc, place) else {
-        return tell_none(alloc, verbose, &Fault::NoMemory, err, system);
-    };
-    let Ok(mut link) = Link::new(alloc) else {
-        return tell_none(alloc, verbose, &Fault::NoMemory, err, system);
-    };
-    let Ok(mut buffer) = new_buffer(alloc) else {
-        return tell_none(alloc, verbose, &Fault::NoMemory, err, system);
-    };
-    let Ok(()) = open(verbose, &digest, err) else {
-        return FAILED;
-    };
-    counters.begin(shown_at, force);
-    note(alloc, place, counters.is_shown(), err);
-    let ran = decide_link(
-        alloc,
-        &mut link,
-        &mut buffer,
-        input,
-        out,
-        err,
-        &policy,
-        counters,
-    );
-    show_end(ran, link.totals(), counters);
-    let seen = Seen::of(&link, counters.counts(), digest);
-    tell_end(alloc, verbose, ran, &seen, err, system)
-}
+use std::alloc::{AllocError, Global};
 
 /// The policy at the path, and what is counted under it.
 pub fn load_counted<F: Files>(
@@ -94,6 +34,16 @@ pub fn load_counted<F: Files>(
     let (policy, digest) = load_numbered(alloc, path, files)?;
     let force = InForce::of(alloc, &policy, digest)?;
     Ok((policy, force))
+}
+
+/// The place, where there is one, as counters keep it.
+pub fn place_kept(alloc: Global, place: Option<&str>) -> Result<Option<String>, AllocError>
+    ensures { IfOk result (λ kept. option_map string_bytes kept ≡ option_map (λ p. p.now) place.entry) }
+{
+    match place {
+        Some(place) => Ok(Some(String::from_str(alloc, place)?)),
+        None => Ok(None),
+    }
 }
 
 /// Puts the number of the policy's texts, where notes are asked for.
@@ -124,10 +74,14 @@ pub fn tell_none<E: Sink, T: Says>(
     }
 }
 
-/// Notes that nothing can be shown at the place, unless it is shown there. Standard error needn't take that.
-pub fn note<E: Sink>(alloc: Global, place: &str, is_shown: bool, err: &mut E)
-    ensures { IsNoted place.now is_shown (E.taken err.old) (E.taken err.new) }
+/// Notes that nothing can be shown at the place, where there is one, unless it is shown there. Standard error needn't
+/// take that.
+pub fn note<E: Sink>(alloc: Global, place: Option<&str>, is_shown: bool, err: &mut E)
+    ensures { IsNoted (option_map (λ p. p.now) place.entry) is_shown (E.taken err.old) (E.taken err.new) }
 {
+    let Some(place) = place else {
+        return;
+    };
     if is_shown {
         return;
     }
@@ -137,7 +91,7 @@ pub fn note<E: Sink>(alloc: Global, place: &str, is_shown: bool, err: &mut E)
 }
 
 /// Shows what is counted at the end of a run, unless an output failed.
-fn show_end<B: Board>(ran: Result<(), RunFault>, totals: Totals, counters: &mut Counters<B>)
+pub fn show_end<B: Board>(ran: Result<(), RunFault>, totals: Totals, counters: &mut Counters<B>)
     ensures { IsEnded B.shown ran totals counters.old counters.new }
 {
     let mut faults = Faults::none();
@@ -148,27 +102,4 @@ fn show_end<B: Board>(ran: Result<(), RunFault>, totals: Totals, counters: &mut 
         Err(RunFault::WriteFailed) | Err(RunFault::OutOfMemory) => return,
     }
     counters.end(totals, faults);
-}
-
-/// Says what there is to say at the end of a run, and answers the status.
-fn tell_end<E: Sink, T: Says>(
-    alloc: Global,
-    verbose: bool,
-    ran: Result<(), RunFault>,
-    seen: &Seen,
-    err: &mut E,
-    system: &T,
-) -> u8
-    ensures told { TellsEnd verbose ran seen.now (device_of E.taken E.has_failed err.old err.new) result }
-    ensures silent { OnErr ran (E.has_failed err.old ≡ true →
-        IsSilent (device_of E.taken E.has_failed err.old err.new) result) }
-{
-    match ran {
-        Ok(()) if verbose => tell_last(alloc, seen, err),
-        Ok(()) => status_of(seen.totals),
-        // Standard error took its last line in part: there is no place to say anything.
-        Err(_) if err.failed() => FAILED,
-        Err(fault) if verbose => tell_fault(alloc, fault, seen, err, system),
-        Err(fault) => tell(alloc, &Fault::Run(fault), err),
-    }
 }

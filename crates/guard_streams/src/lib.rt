@@ -1,22 +1,20 @@
-//! The commands that guard streams: `run`, `mux` and `ask`, with notes where they are asked for.
+//! The commands that guard streams: `run`, `mux` and `ask`, with notes and counters where they are asked for.
 //!
 //! | question | code | definition |
 //! |---|---|---|
 //! | What is answered to frames that ask what becomes of them? | `asking.rt`, `answering.rt` | `specs/Asking.antt`, `specs/Answered.antt` |
-//! | What comes of many links in one stream of records? | `muxing.rt` | `specs/Muxing.antt` (`GuardsLinks`) |
+//! | What comes of many links in one stream of records? | `muxing.rt`, `links_told.rt` | `specs/Muxing.antt` (`GuardsLinks`) |
 //! | What does one record do and write? | `links.rt`, `sinks.rt` | `specs/Turns.antt`, `specs/inside/Doing.antt` |
 //! | What goes out of a link, and how are its lines marked? | `passing.rt` | `specs/Passing.antt` |
-//! | What comes of a stream? | `guarding.rt` | `specs/Stream.antt` |
-//! | What comes of a stream with notes? | `verbose.rt` | `specs/Watching.antt` |
+//! | What comes of a stream? | `guarding.rt`, `counting.rt` | `specs/Stream.antt` |
 //! | What is said of which policy is in force? | `in_force.rt` | `specs/InForce.antt` |
-//! | What is noted? | `seen.rt`, `counts.rt` | `specs/Verbose.antt`, `specs/Counted.antt` |
-//! | What is counted of a stream, and shown while it runs? | `counting.rt`, `counters.rt` | `specs/Counting.antt` |
-//! | What is counted of many links? | `counting_links.rt`, `following.rt` | `specs/CountingLinks.antt`, `specs/LinksCounted.antt` |
+//! | What is noted? | `verbose.rt`, `seen.rt`, `counts.rt` | `specs/Verbose.antt`, `specs/Counted.antt` |
+//! | What is counted of a stream, and shown while it runs? | `counters.rt` | `specs/Counting.antt` |
+//! | What is counted of many links? | `following.rt` | `specs/CountingLinks.antt`, `specs/LinksCounted.antt` |
 //! | By which rules do frames go? | `rule_counts.rt` | `specs/Allowed.antt` |
 //! | Where is it shown, and when? | `board.rt` (`Board`) | `specs/Shown.antt` |
 //! | Which text shows it? | `counters_text.rt`, `counted.rt` | `specs/Counters.antt`, `specs/Faults.antt` |
 //! | What is said of a device that failed? | `saying.rt` | `specs/Saying.antt` |
-//! | What comes of many links with notes? | `watching_links.rt` | `specs/Muxing.antt` (`WatchesLinks`) |
 //! | What is seen of the frames of links? | `links.rt` (`see`), `sinks.rt` | `specs/Tallying.antt` |
 //! | At which frame of its stream is a link's fault? | `passing.rt` (`put_note`) | `specs/AtFault.antt` |
 #![tactic(auto)]
@@ -28,13 +26,13 @@ mod counted;
 mod counters;
 mod counters_text;
 mod counting;
-mod counting_links;
 mod counts;
 mod faults;
 mod following;
 mod guarding;
 mod in_force;
 mod links;
+mod links_told;
 mod muxing;
 mod passing;
 mod rule_counts;
@@ -43,16 +41,10 @@ mod seen;
 mod sinks;
 mod tally;
 mod verbose;
-mod waits;
-mod watching_links;
 
 pub use asking::ask;
 pub use board::Board;
 pub use counters::Counters;
-pub use counting::run_counting;
-pub use counting_links::mux_counting;
 pub use guarding::run;
 pub use muxing::mux;
 pub use saying::{Failing, Says};
-pub use verbose::run_verbosely;
-pub use watching_links::mux_verbosely;

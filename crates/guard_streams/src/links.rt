@@ -414,7 +414,7 @@ fn unread_note<T: Says>(
     ensures { IfOk result (λ note. (said : List ℕ) × IsSaidOfFault fault.now said
         × (note.items ≡ said ++ kept_note digest.now)) }
 {
-    let mut note = said_of_fault(alloc, fault, system)?;
+    let mut note = said_of_fault(alloc, fault, system)?.into_bytes();
     add_kept(&mut note, digest)?;
     Ok(note)
 }

@@ -1,49 +1,70 @@
 //! Guards the links of a stream of records.
-ghost use Rattle.std.specs.Prelude.{◌≡◌, Err, length, OnOk, IfErr};
+ghost use Rattle.std.specs.Prelude.{◌≡◌, Err, length, option_map, OnOk, IfErr};
 ghost use Rattle.guard_files.specs.Devices.{source_of, device_of};
 ghost use Rattle.guard_files.specs.Headers.{IsGood, record_of};
-ghost use Rattle.guard_files.specs.declared.stop.Stop.TheVariants as stop;
 ghost use Rattle.guard_files.specs.declared.stop.Stop.TheVariants.{WriteFailed};
-ghost use Rattle.guard_streams.specs.Muxing.{GuardsLinks, Finishes, Stops, TellsStop};
+ghost use Rattle.guard_streams.specs.Counting.{display_of};
 ghost use Rattle.guard_streams.specs.CountingLinks.{ShowsBetween};
 ghost use Rattle.guard_streams.specs.LinksCounted.{maybe_counted};
+ghost use Rattle.guard_streams.specs.Muxing.{GuardsLinks, Finishes, Stops};
 ghost use Rattle.guard_streams.specs.inside.Doing.{IsReady, mux_of, IsTaken, IsCut, IsSeenBefore, IsCountedBefore};
 
+use crate::board::Board;
+use crate::counters::Counters;
+use crate::counting::{load_counted, note, open, tell_none};
 use crate::links::Links;
-use crate::saying::{Says, Silent};
-use crate::waits::{Unshown, Waits};
-use guard_files::{
-    FAILED, Files, Header, Stop, load, new_room, next_record, tell, tell_bad_record,
-    tell_failed_read, tell_failed_write, tell_no_memory,
-};
+use crate::links_told::{counted_first, seen_first, show_last, tell_guarded};
+use crate::saying::Says;
+use guard_files::{FAILED, Fault, Files, Header, Stop, new_room, next_record};
 use guard_frames::{MOST_READS, Sink, Source};
 use std::alloc::Global;
 
 /// Guards the links of the stream under the policy at the path, and answers the status: 0 where all frames passed, 1
 /// where one didn't, 2 where there is no policy, or a new one couldn't be read, 3 where a link has a fault, a record is
 /// bad, a device failed or memory ran out.
-pub fn mux<F: Files, S: Source, O: Sink, E: Sink>(
+///
+/// Where notes are asked for, it begins with the number of the policy's texts; where standard error fails in that,
+/// nothing is read. New policies are noted as they come, with their numbers; behind all else, and behind the line that
+/// says why the links aren't guarded to their ends, it is said how many frames there were and how often each reason was
+/// reported. Where there is no memory for that, it says so, and the status is 3.
+///
+/// Where there is a place, what is counted is shown there: at first, now and then before a record, and at the end.
+/// Where it can't be shown at first, this is noted on standard error, and nothing else changes.
+pub fn mux<F: Files, S: Source, O: Sink, E: Sink, T: Says, B: Board>(
     alloc: Global,
     path: &str,
+    verbose: bool,
+    place: Option<&str>,
     files: &mut F,
     input: &mut S,
     out: &mut O,
     err: &mut E,
+    system: &T,
+    counters: &mut Counters<B>,
 ) -> u8
-    ensures { GuardsLinks (F.told files.old) path.now (source_of S.tells S.takes S.has_failed input.old input.new)
+    ensures { GuardsLinks verbose (option_map (λ p. p.now) place.entry) (F.told files.old) path.now
+        (display_of B.shown counters.old counters.new)
+        (source_of S.tells S.takes S.has_failed input.old input.new)
         (device_of O.taken O.has_failed out.old out.new)
         (device_of E.taken E.has_failed err.old err.new) result }
 {
-    let policy = match load(alloc, path, files) {
-        Ok(policy) => policy,
-        Err(fault) => return tell(alloc, &fault, err),
+    let (policy, force) = match load_counted(alloc, path, files) {
+        Ok(both) => both,
+        Err(fault) => return tell_none(alloc, verbose, &fault, err, system),
     };
-    let Ok(mut links) = Links::new(alloc, policy, None, None) else {
-        return tell_no_memory(err);
+    let digest = force.digest;
+    let seen = seen_first(verbose, digest);
+    let Ok(mut links) = Links::new(alloc, policy, seen, counted_first(place, force)) else {
+        return tell_none(alloc, verbose, &Fault::NoMemory, err, system);
     };
     let Ok(mut room) = new_room(alloc) else {
-        return tell_no_memory(err);
+        return tell_none(alloc, verbose, &Fault::NoMemory, err, system);
     };
+    let Ok(()) = open(verbose, &digest, err) else {
+        return FAILED;
+    };
+    counters.show_at(place, links.counted());
+    note(alloc, place, counters.is_shown(), err);
     let guarded = guard(
         alloc,
         path,
@@ -53,32 +74,17 @@ pub fn mux<F: Files, S: Source, O: Sink, E: Sink>(
         input,
         out,
         err,
-        &Silent,
-        "",
-        &mut Unshown,
+        system,
+        place,
+        counters,
     );
-    match guarded {
-        Ok(()) => links.status(),
-        Err(reason) => tell_stop(reason, err),
-    }
-}
-
-/// Tells why the links weren't guarded to their ends.
-pub fn tell_stop<E: Sink>(reason: Stop, err: &mut E) -> u8
-    ensures told { TellsStop reason (device_of E.taken E.has_failed err.old err.new) result }
-    ensures silent { reason ≡ stop.ErrorFailed → err.new ≡ err.old }
-{
-    match reason {
-        Stop::BadRecord => tell_bad_record(err),
-        Stop::ReadFailed => tell_failed_read(err),
-        Stop::WriteFailed => tell_failed_write(err),
-        Stop::ErrorFailed => FAILED,
-    }
+    show_last(guarded, place, &links, counters);
+    tell_guarded(alloc, guarded, &links, err, system)
 }
 
 /// Takes each record of the stream, and then the end of each link that wasn't ended. Before each record what is counted
 /// may be shown at the place.
-pub fn guard<F: Files, S: Source, O: Sink, E: Sink, T: Says, K: Waits>(
+fn guard<F: Files, S: Source, O: Sink, E: Sink, T: Says, B: Board>(
     alloc: Global,
     path: &str,
     files: &mut F,
@@ -88,8 +94,8 @@ pub fn guard<F: Files, S: Source, O: Sink, E: Sink, T: Says, K: Waits>(
     out: &mut O,
     err: &mut E,
     system: &T,
-    place: &str,
-    shows: &mut K,
+    place: Option<&str>,
+    counters: &mut Counters<B>,
 ) -> Result<(), Stop>
     requires room { length room.old ≡ 1048576 }
     requires ready { IsReady links.old.gateway }
@@ -112,11 +118,11 @@ pub fn guard<F: Files, S: Source, O: Sink, E: Sink, T: Says, K: Waits>(
         (device_of O.taken O.has_failed out.old out.new)
         (device_of E.taken E.has_failed err.old err.new) h (maybe_counted links.new.followed.counted)) }
     ensures shows { ShowsBetween path.now (mux_of (F.told files.old) links.old) (S.tells input.old) (S.tells input.new)
-        place.now (K.shown shows.old) (K.shown shows.new) }
+        (option_map (λ p. p.now) place.entry) (B.shown counters.old.board) (B.shown counters.new.board) }
 {
     let mut reads = MOST_READS;
     for _ in 0..MOST_READS {
-        shows.waits(place, links.counted());
+        counters.waits(place, links.counted());
         let Some(header) = next_record(input, room, &mut reads)? else {
             return links.end_all(alloc, err);
         };

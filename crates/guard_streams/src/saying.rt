@@ -1,11 +1,9 @@
 //! What the system says of a device or a file that failed.
-ghost use Rattle.std.specs.Prelude.{◌≡◌, ◌++◌, ◌<◌, ◌≢◌, ℕ, length, slice_index, codes, IfOk};
+ghost use Rattle.std.specs.Prelude.{◌≡◌, string_bytes, IfOk};
 ghost use Rattle.guard_streams.specs.Saying.{HasNoLineFeed, said_line, IsSaid, IsSaidOfRun, IsSaidOfFault};
 
-use guard_files::{Fault, add};
+use guard_files::Fault;
 use guard_frames::RunFault;
-use guard_model::OutOfMemory;
-use guard_notes::line_end;
 use std::alloc::{AllocError, Global};
 
 /// What may fail.
@@ -25,28 +23,20 @@ pub trait Says {
     fn said(&self, alloc: Global, failing: Failing) -> Result<Option<String>, AllocError>;
 }
 
-/// A system that says nothing.
-#[derive(Clone, Copy)]
-pub struct Silent;
-
-impl Says for Silent {
-    fn said(&self, _alloc: Global, _failing: Failing) -> Result<Option<String>, AllocError> {
-        Ok(None)
-    }
-}
-
 /// The line for a stream that wasn't guarded to its end, where a device failed and the system said why.
 pub fn said_of_run<T: Says>(
     alloc: Global,
     fault: RunFault,
     system: &T,
-) -> Result<Vec<u8>, OutOfMemory>
-    ensures { IfOk result (λ line. IsSaidOfRun fault line.items) }
+) -> Result<String, AllocError>
+    ensures { IfOk result (λ line. IsSaidOfRun fault (string_bytes line)) }
 {
     match fault {
         RunFault::ReadFailed => line_said(alloc, Failing::Input, "standard input", system),
         RunFault::WriteFailed => line_said(alloc, Failing::Output, "standard output", system),
-        RunFault::FrameTooLong | RunFault::TornFrame | RunFault::OutOfMemory => Ok(Vec::new(alloc)),
+        RunFault::FrameTooLong | RunFault::TornFrame | RunFault::OutOfMemory => {
+            Ok(String::new(alloc))
+        }
     }
 }
 
@@ -55,8 +45,8 @@ pub fn said_of_fault<T: Says>(
     alloc: Global,
     fault: &Fault,
     system: &T,
-) -> Result<Vec<u8>, OutOfMemory>
-    ensures { IfOk result (λ line. IsSaidOfFault fault.now line.items) }
+) -> Result<String, AllocError>
+    ensures { IfOk result (λ line. IsSaidOfFault fault.now (string_bytes line)) }
 {
     match fault {
         Fault::CannotRead(path, _) => line_said(alloc, Failing::File, path, system),
@@ -65,40 +55,39 @@ pub fn said_of_fault<T: Says>(
         | Fault::Schema(_)
         | Fault::Policy(_)
         | Fault::Run(_)
-        | Fault::NoMemory => Ok(Vec::new(alloc)),
+        | Fault::NoMemory => Ok(String::new(alloc)),
     }
 }
 
 /// `derguard: NAME: TEXT`, where the system said why this failed. Of a text of several lines it is the first one.
-pub fn line_said<T: Says>(
+fn line_said<T: Says>(
     alloc: Global,
     failing: Failing,
     name: &str,
     system: &T,
-) -> Result<Vec<u8>, OutOfMemory>
-    ensures { IfOk result (λ line. IsSaid name.now line.items) }
+) -> Result<String, AllocError>
+    ensures { IfOk result (λ line. IsSaid name.now (string_bytes line)) }
 {
     match system.said(alloc, failing)? {
-        Some(text) => named(alloc, name, front(text.as_bytes())),
-        None => Ok(Vec::new(alloc)),
+        Some(text) => named(alloc, name, front(&text)),
+        None => Ok(String::new(alloc)),
     }
 }
 
-fn named(alloc: Global, name: &str, text: &[u8]) -> Result<Vec<u8>, OutOfMemory>
-    ensures { IfOk result (λ line. line.items ≡ said_line name.now text.now) }
+fn named(alloc: Global, name: &str, text: &str) -> Result<String, AllocError>
+    ensures { IfOk result (λ line. string_bytes line ≡ said_line name.now text.now) }
 {
-    let mut line = Vec::new(alloc);
-    add(&mut line, b"derguard: ")?;
-    add(&mut line, name.as_bytes())?;
-    add(&mut line, b": ")?;
-    add(&mut line, text)?;
-    add(&mut line, b"\n")?;
+    let mut line = String::new(alloc);
+    write!(line, "derguard: {name}: {text}\n")?;
     Ok(line)
 }
 
-/// The octets before the first line feed.
-fn front(text: &[u8]) -> &[u8]
+/// The text before the first line feed.
+fn front(text: &str) -> &str
     ensures { HasNoLineFeed result.now }
 {
-    &text[..line_end(text)]
+    match text.split_once('\n') {
+        Some((front, _)) => front,
+        None => text,
+    }
 }

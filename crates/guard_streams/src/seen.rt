@@ -1,18 +1,12 @@
 //! What is seen of a stream, and the notes that end it.
-ghost use Rattle.std.specs.Prelude.{◌≡◌, ◌++◌, ℕ, List, IfOk, OnOk};
-ghost use Rattle.guard_files.specs.Faults.{IsText};
-ghost use Rattle.guard_files.specs.Writing.{line_of};
-ghost use Rattle.guard_files.specs.declared.fault.Fault.TheVariants.{Run};
+ghost use Rattle.std.specs.Prelude.{◌≡◌, ◌++◌, string_bytes, IfOk, OnOk};
 ghost use Rattle.guard_frames.specs.LinkView.{link_view};
 ghost use Rattle.guard_streams.specs.Verbose.{nothing_seen, seen_of, totals_line, count_line, count_lines};
-ghost use Rattle.guard_streams.specs.Verbose.{last_lines, seen_lines, frame_line, fault_line, fault_lines};
+ghost use Rattle.guard_streams.specs.Verbose.{last_lines, frame_line, fault_line, fault_lines};
 
 use crate::counts::Counts;
-use guard_files::{Fault, add};
 use guard_frames::{Link, RunFault, Totals};
-use guard_model::OutOfMemory;
-use guard_report::add_number;
-use std::alloc::Global;
+use std::alloc::{AllocError, Global};
 
 /// Which policy is in force, by the number of its texts, how many frames there were, how often each reason was reported,
 /// and what a fault leaves of the frame after them: the length that is too long, or how many octets of it there are.
@@ -50,116 +44,85 @@ impl Seen {
     }
 }
 
-/// Some lines, and then the notes that end a stream, where anything was seen of it. They fail only where memory runs
-/// out.
-pub fn notes(alloc: Global, first: &[u8], seen: Option<Seen>) -> Result<Vec<u8>, OutOfMemory>
-    ensures { IfOk result (λ text. text.items ≡ first.now ++ seen_lines seen) }
+/// Some lines, and then the notes that end a stream. They fail only where memory runs out.
+pub fn notes(alloc: Global, first: &str, seen: &Seen) -> Result<String, AllocError>
+    ensures { IfOk result (λ text. string_bytes text ≡ first.now ++ last_lines seen.now) }
 {
-    let mut text = Vec::new(alloc);
-    add(&mut text, first)?;
-    if let Some(seen) = seen {
-        add_last(&mut text, &seen)?;
-    }
-    Ok(text)
-}
-
-/// The line of a fault and the notes behind it, with what the system says of it. They fail only where memory runs out.
-pub fn fault_notes(
-    alloc: Global,
-    fault: RunFault,
-    said: &[u8],
-    seen: &Seen,
-) -> Result<Vec<u8>, OutOfMemory>
-    ensures { IfOk result (λ text. (name : List ℕ) × IsText (Run fault) name
-        × (text.items ≡ line_of name ++ fault_lines fault said.now seen.now)) }
-{
-    let mut text = line_with(alloc, &Fault::Run(fault), b"")?;
-    add_fault(&mut text, fault, seen)?;
-    add(&mut text, said)?;
+    let mut text = String::from_str(alloc, first)?;
     add_last(&mut text, seen)?;
     Ok(text)
 }
 
-/// The line of a fault and what comes after it. They fail only where memory runs out.
-pub fn line_with(alloc: Global, fault: &Fault, note: &[u8]) -> Result<Vec<u8>, OutOfMemory>
-    ensures { IfOk result (λ text. (name : List ℕ) × IsText fault.now name
-        × (text.items ≡ line_of name ++ note.now)) }
+/// The notes behind the line of a fault, with what the system says of it. They fail only where memory runs out.
+pub fn fault_notes(
+    alloc: Global,
+    fault: RunFault,
+    said: &str,
+    seen: &Seen,
+) -> Result<String, AllocError>
+    ensures { IfOk result (λ text. string_bytes text ≡ fault_lines fault said.now seen.now) }
 {
-    let name = fault.text(alloc)?;
-    let mut text = Vec::new(alloc);
-    add(&mut text, b"derguard: ")?;
-    add(&mut text, name.as_bytes())?;
-    add(&mut text, b"\n")?;
-    add(&mut text, note)?;
+    let mut text = String::new(alloc);
+    add_fault(&mut text, fault, seen)?;
+    text.push_str(said)?;
+    add_last(&mut text, seen)?;
     Ok(text)
 }
 
 /// Appends the notes that end a stream.
-fn add_last(text: &mut Vec<u8>, seen: &Seen) -> Result<(), OutOfMemory>
-    ensures { OnOk result (text.new.items ≡ text.old.items ++ last_lines seen.now) }
+fn add_last(text: &mut String, seen: &Seen) -> Result<(), AllocError>
+    ensures { OnOk result (string_bytes text.new ≡ string_bytes text.old ++ last_lines seen.now) }
 {
     add_totals(text, seen.totals)?;
     add_counts(text, &seen.counts)
 }
 
-fn add_totals(text: &mut Vec<u8>, totals: Totals) -> Result<(), OutOfMemory>
-    ensures { OnOk result (text.new.items ≡ text.old.items ++ totals_line totals) }
+fn add_totals(text: &mut String, totals: Totals) -> Result<(), AllocError>
+    ensures { OnOk result (string_bytes text.new ≡ string_bytes text.old ++ totals_line totals) }
 {
-    add(text, b"derguard: frames ")?;
-    add_number(text, totals.frames)?;
-    add(text, b", passed ")?;
-    add_number(text, totals.passed)?;
-    add(text, b", denied ")?;
-    add_number(text, totals.denied)?;
-    add(text, b"\n")
+    let (frames, passed, denied) = (totals.frames, totals.passed, totals.denied);
+    write!(
+        text,
+        "derguard: frames {frames}, passed {passed}, denied {denied}\n"
+    )
 }
 
-fn add_counts(text: &mut Vec<u8>, counts: &Counts) -> Result<(), OutOfMemory>
-    ensures { OnOk result (text.new.items ≡ text.old.items ++ count_lines counts.now) }
+fn add_counts(text: &mut String, counts: &Counts) -> Result<(), AllocError>
+    ensures { OnOk result (string_bytes text.new ≡ string_bytes text.old ++ count_lines counts.now) }
 {
-    add_count(text, b"bad-header", counts.bad_header)?;
-    add_count(text, b"unknown-message", counts.unknown_message)?;
-    add_count(text, b"undecodable", counts.undecodable)?;
-    add_count(text, b"outside-type", counts.outside_type)?;
-    add_count(text, b"denied-by", counts.denied_by)?;
-    add_count(text, b"not-allowed", counts.not_allowed)?;
-    add_count(text, b"no-rule", counts.no_rule)?;
-    add_count(text, b"no-memory", counts.no_memory)
+    add_count(text, "bad-header", counts.bad_header)?;
+    add_count(text, "unknown-message", counts.unknown_message)?;
+    add_count(text, "undecodable", counts.undecodable)?;
+    add_count(text, "outside-type", counts.outside_type)?;
+    add_count(text, "denied-by", counts.denied_by)?;
+    add_count(text, "not-allowed", counts.not_allowed)?;
+    add_count(text, "no-rule", counts.no_rule)?;
+    add_count(text, "no-memory", counts.no_memory)
 }
 
-fn add_count(text: &mut Vec<u8>, reason: &[u8], count: u64) -> Result<(), OutOfMemory>
-    ensures { OnOk result (text.new.items ≡ text.old.items ++ count_line reason.now count) }
+fn add_count(text: &mut String, reason: &str, count: u64) -> Result<(), AllocError>
+    ensures { OnOk result (string_bytes text.new ≡ string_bytes text.old ++ count_line reason.now count) }
 {
     if count == 0 {
         return Ok(());
     }
-    add(text, b"derguard: ")?;
-    add(text, reason)?;
-    add(text, b" ")?;
-    add_number(text, count)?;
-    add(text, b"\n")
+    write!(text, "derguard: {reason} {count}\n")
 }
 
-fn add_fault(text: &mut Vec<u8>, fault: RunFault, seen: &Seen) -> Result<(), OutOfMemory>
-    ensures { OnOk result (text.new.items ≡ text.old.items ++ fault_line fault seen.now) }
+fn add_fault(text: &mut String, fault: RunFault, seen: &Seen) -> Result<(), AllocError>
+    ensures { OnOk result (string_bytes text.new ≡ string_bytes text.old ++ fault_line fault seen.now) }
 {
     let number = seen.totals.next_number();
     match fault {
-        RunFault::FrameTooLong => add_frame(text, number, b"length", seen.left),
-        RunFault::TornFrame => add_frame(text, number, b"octets", seen.left),
-        RunFault::WriteFailed => add(text, b"derguard: standard output failed\n"),
+        RunFault::FrameTooLong => add_frame(text, number, "length", seen.left),
+        RunFault::TornFrame => add_frame(text, number, "octets", seen.left),
+        RunFault::WriteFailed => text.push_str("derguard: standard output failed\n"),
         RunFault::ReadFailed | RunFault::OutOfMemory => Ok(()),
     }
 }
 
-fn add_frame(text: &mut Vec<u8>, number: u64, word: &[u8], count: usize) -> Result<(), OutOfMemory>
-    ensures { OnOk result (text.new.items ≡ text.old.items ++ frame_line number word.now count) }
+fn add_frame(text: &mut String, number: u64, word: &str, count: usize) -> Result<(), AllocError>
+    ensures { OnOk result (string_bytes text.new ≡ string_bytes text.old ++ frame_line number word.now count) }
 {
-    add(text, b"derguard: frame ")?;
-    add_number(text, number)?;
-    add(text, b", ")?;
-    add(text, word)?;
-    add(text, b" ")?;
-    add_number(text, count as u64)?;
-    add(text, b"\n")
+    write!(text, "derguard: frame {number}, {word} {count}\n")
 }

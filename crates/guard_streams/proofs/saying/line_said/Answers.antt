@@ -7,4 +7,4 @@ returns-in-Some g c =
     if_ok c.named.result c.named.ensures (λ line is. inr (c.front.result.now, c.front.ensures, is))
 
 pub returns-in-None : goal.returns-in-None
-returns-in-None g c = inl c.new.ensures.items
+returns-in-None g c = inl c.new.ensures.bytes

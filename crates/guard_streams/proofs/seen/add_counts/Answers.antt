@@ -1,4 +1,4 @@
-use Rattle.std.specs.Prelude.{codes}
+use Rattle.std.specs.Prelude.{codes, string_bytes}
 use Rattle.guard_streams.specs.Verbose.{count_line}
 use Rattle.guard_streams.proofs.Chains.{eight}
 use Rattle.guard_streams.proofs.Doings.{told_ok}
@@ -7,7 +7,7 @@ use Rattle.guard_streams.proofs.seen.add_counts.Goals as goal
 pub returns : goal.returns
 returns c =
     told_ok c.add_count-8.result c.add_count-8.ensures (λ last.
-    eight c.args.text.now.items _ _ _ _ _ _ _ _
+    eight (string_bytes c.args.text.now) _ _ _ _ _ _ _ _
     (count_line (codes "bad-header") c.args.counts.now.bad_header)
     (count_line (codes "unknown-message") c.args.counts.now.unknown_message)
     (count_line (codes "undecodable") c.args.counts.now.undecodable)

@@ -26,7 +26,7 @@ use Rattle.guard_messages.specs.declared.unfound.Unfound.{Unfound}
 use Rattle.guard_messages.specs.declared.unfound.Unfound.TheVariants as unfound
 use Rattle.guard_messages.specs.Finding.{IsUnfound, of_stop}
 use Rattle.guard_messages.specs.Linked.{ReadsLink, IsNthOfLink}
-use Rattle.guard_messages.specs.Numbered.{IsNatural, IsNumber}
+use Rattle.guard_messages.specs.Numbered.{IsLink, IsNumber}
 use Rattle.guard_messages.specs.Questions.{linked}
 use Rattle.guard_messages.specs.inside.Passed.{AreFrames, Completes, Holds, IsUnlinked, Refuses, joins}
 
@@ -259,9 +259,9 @@ module _ (link n : ℕ) (a b : Option (List ℕ)) (held : List ℕ) (before : �
 
 -- ---- what is answered for it
 
-pub unlinked_is : (u : Unfound) (told : Told) (number word : List ℕ) (link n : ℕ) (input : Input) → IsNatural number link → IsNumber word n
+pub unlinked_is : (u : Unfound) (told : Told) (number word : List ℕ) (link n : ℕ) (input : Input) → IsLink number link → IsNumber word n
     → IsUnlinked link n input u → IsUnfound told (linked number word) input u
-unlinked_is unfound.NoSuchFrame told number word link n input first second h = inr (link, n, first, second, h)
+unlinked_is unfound.NoSuchFrame told number word link n input first second h = (link, first, inr (n, second, h))
 unlinked_is (unfound.Faulty (Run f)) told number word link n input first second h = inl (link, n, first, second, h)
 unlinked_is unfound.BadRecord told number word link n input first second h = (link, n, first, second, h)
 unlinked_is (unfound.Faulty NoMemory) told number word link n input first second h = inr refl

@@ -24,7 +24,7 @@ held_in route (linked link number) octets = body_in octets
 -- what is reported where the words don't say where a message is
 abbrev pub unasked : List ℕ
 unasked =
-    codes "error: the following required arguments were not provided:\n  <HEX> or --der <FILE>, with each name that the command takes; or --frame <N> without any, alone or with --link <K>\n\nFor more information, try '--help'."
+    codes "error: the message must be given in one of these ways:\n  <HEX> or --der <FILE>, not both, with each name that the command takes; or --frame <N> without any, alone or with --link <K>\n\nFor more information, try '--help'."
 
 -- nothing is read
 abbrev pub TellsUnasked : Input → Device → Device → ℕ → Type 0

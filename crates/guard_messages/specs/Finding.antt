@@ -15,9 +15,9 @@ use Rattle.guard_files.specs.Files.{Told, HasFront, HasNone, after_read}
 use Rattle.guard_files.specs.Intake.{IsRead, IsLost}
 use Rattle.guard_files.specs.Writing.{TellsLine, TellsText, Tells, Writes}
 use Rattle.guard_messages.specs.declared.unfound.Unfound.{Unfound}
-use Rattle.guard_messages.specs.declared.unfound.Unfound.TheVariants.{BadHex, Faulty, TooLong, NoSuchFrame, BadRecord}
+use Rattle.guard_messages.specs.declared.unfound.Unfound.TheVariants.{BadHex, Faulty, TooLong, NoSuchLink, NoSuchFrame, BadRecord}
 use Rattle.guard_messages.specs.Linked.{IsNthOfLink, EndsBefore, IsTornBefore, IsTooLongBefore, IsBadBefore, IsLostBefore}
-use Rattle.guard_messages.specs.Numbered.{IsNatural, IsNumber, IsNth, HasFewer, StopsBefore}
+use Rattle.guard_messages.specs.Numbered.{IsLink, IsNumber, IsNth, HasFewer, StopsBefore}
 use Rattle.guard_messages.specs.Questions.{AbstractSpot, written, kept, framed, linked}
 
 -- ---- all that is at a path
@@ -46,7 +46,7 @@ IsFrameAt (written digits) input frame = ⊥
 IsFrameAt (kept path) input frame = ⊥
 IsFrameAt (framed word) input frame = (n : ℕ) × IsNumber word n × IsNth n input frame
 IsFrameAt (linked number word) input frame =
-    (link : ℕ) × (n : ℕ) × IsNatural number link × IsNumber word n × IsNthOfLink link n input frame
+    (link : ℕ) × (n : ℕ) × IsLink number link × IsNumber word n × IsNthOfLink link n input frame
 
 -- what follows the length of the frame
 abbrev pub IsBodyAt : AbstractSpot → Input → List ℕ → Type 0
@@ -81,6 +81,13 @@ IsTooLongAt told (kept path) input =
 IsTooLongAt told (framed word) input = ⊥
 IsTooLongAt told (linked number word) input = ⊥
 
+-- the word is no number of a link
+abbrev pub HasNoSuchLink : AbstractSpot → Input → Type 0
+HasNoSuchLink (written digits) input = ⊥
+HasNoSuchLink (kept path) input = ⊥
+HasNoSuchLink (framed word) input = ⊥
+HasNoSuchLink (linked number word) input = ((link : ℕ) → IsLink number link → ⊥) × IsUnread input
+
 -- the word is no number of a frame, or there are fewer frames
 abbrev pub HasNoSuchFrame : AbstractSpot → Input → Type 0
 HasNoSuchFrame (written digits) input = ⊥
@@ -88,8 +95,8 @@ HasNoSuchFrame (kept path) input = ⊥
 HasNoSuchFrame (framed word) input =
     (((n : ℕ) → IsNumber word n → ⊥) × IsUnread input) ⊎ ((n : ℕ) × IsNumber word n × HasFewer n input)
 HasNoSuchFrame (linked number word) input =
-    (((link n : ℕ) → IsNatural number link → IsNumber word n → ⊥) × IsUnread input)
-    ⊎ ((link : ℕ) × (n : ℕ) × IsNatural number link × IsNumber word n × EndsBefore link n input [])
+    (link : ℕ) × IsLink number link
+    × ((((n : ℕ) → IsNumber word n → ⊥) × IsUnread input) ⊎ ((n : ℕ) × IsNumber word n × EndsBefore link n input []))
 
 -- why that of a link can't be reached
 abbrev pub StopsLink : RunFault → ℕ → ℕ → Input → Type 0
@@ -105,7 +112,7 @@ IsFaultyAt told (kept path) input f = IsNotKeptBy (is_input path) told path inpu
 IsFaultyAt told (framed word) input (Run f) = (n : ℕ) × IsNumber word n × StopsBefore f n input
 IsFaultyAt told (framed word) input _ = ⊥
 IsFaultyAt told (linked number word) input (Run f) =
-    (link : ℕ) × (n : ℕ) × IsNatural number link × IsNumber word n × StopsLink f link n input
+    (link : ℕ) × (n : ℕ) × IsLink number link × IsNumber word n × StopsLink f link n input
 IsFaultyAt told (linked number word) input _ = ⊥
 
 -- what comes in is no record, or is cut short
@@ -114,13 +121,14 @@ IsBadAt (written digits) input = ⊥
 IsBadAt (kept path) input = ⊥
 IsBadAt (framed word) input = ⊥
 IsBadAt (linked number word) input =
-    (link : ℕ) × (n : ℕ) × IsNatural number link × IsNumber word n × IsBadBefore link n input
+    (link : ℕ) × (n : ℕ) × IsLink number link × IsNumber word n × IsBadBefore link n input
 
 -- why they can't be had; that memory ran out may come in place of any answer
 abbrev pub IsUnfound : Told → AbstractSpot → Input → Unfound → Type 0
 IsUnfound told spot input BadHex = IsBadHexAt spot
 IsUnfound told spot input (Faulty f) = IsFaultyAt told spot input f ⊎ (f ≡ NoMemory)
 IsUnfound told spot input TooLong = IsTooLongAt told spot input
+IsUnfound told spot input NoSuchLink = HasNoSuchLink spot input
 IsUnfound told spot input NoSuchFrame = HasNoSuchFrame spot input
 IsUnfound told spot input BadRecord = IsBadAt spot input
 
@@ -143,6 +151,7 @@ abbrev pub TellsUnfound : Bool → Unfound → Device → ℕ → Type 0
 TellsUnfound explain BadHex err status = TellsBadHex explain err status
 TellsUnfound explain (Faulty f) err status = Tells f err status
 TellsUnfound explain TooLong err status = TellsText (codes "message too long") 2 err status
+TellsUnfound explain NoSuchLink err status = TellsText (codes "no such link") 2 err status
 TellsUnfound explain NoSuchFrame err status = TellsText (codes "no such frame") 2 err status
 TellsUnfound explain BadRecord err status = TellsLine (codes "bad record") 3 err status
 

@@ -18,6 +18,10 @@ IsNatural word n =
 abbrev pub IsNumber : List ℕ → ℕ → Type 0
 IsNumber word n = IsNatural word n × (0 < n)
 
+-- and a link may have it
+abbrev pub IsLink : List ℕ → ℕ → Type 0
+IsLink word n = IsNatural word n × (n < 16)
+
 -- This frame has the number, and nothing was read behind it.
 pub record IsNth (n : ℕ) (input : Input) (frame : List ℕ) : Type 0 where
   pub others : List (List ℕ)

@@ -6,7 +6,6 @@ use Rattle.guard_model.specs.AbstractValue.{AbstractValue}
 use Rattle.guard_der.specs.Breach.{AbstractBreach, IsBreach}
 use Rattle.guard_der.specs.Der.{der}
 use Rattle.guard_der.specs.Fits.{fits}
-use Rattle.json.specs.Print.{print}
 use Rattle.guard_policy.specs.Policies.{AbstractPolicy, AbstractRoute, declared_type}
 use Rattle.guard_policy.specs.Verdicts.{AbstractVerdict, unknown_message, undecodable}
 use Rattle.guard_report.specs.Text.{verdict_octets}
@@ -18,7 +17,7 @@ use Rattle.guard_files.specs.Allowed.{OfValue}
 use Rattle.guard_files.specs.Answers.{AbstractAnswer}
 use Rattle.guard_messages.specs.Decided.{OfHeld}
 use Rattle.guard_messages.specs.PartsBefore.{AreLinesBefore}
-use Rattle.guard_messages.specs.ValueJson.{value_json}
+use Rattle.guard_messages.specs.ValueJson.{ascii_text, value_json}
 
 -- the octets are the encoding of a value of the type, and it is shown; or they break the rules, and it is shown where
 abbrev pub IsShown : AbstractType → List ℕ → AbstractShown → Type 0
@@ -67,7 +66,7 @@ on_a_line line = json_line line ++ codes "\n"
 abbrev pub ShowsJson : AbstractPolicy → AbstractRoute → List ℕ → AbstractAnswer → Type 0
 ShowsJson p route octets a =
     OfValue p route.message octets
-    (λ t v. (a.out ≡ print (value_json (Some t) v) ++ codes "\n") × (a.status ≡ 0))
+    (λ t v. (a.out ≡ ascii_text (value_json (Some t) v) ++ codes "\n") × (a.status ≡ 0))
     ⊎ ((w : AbstractVerdict) × HasNoValue p route.message octets w × (a.out ≡ on_a_line (verdict_octets p route w))
     × (a.status ≡ 1))
 

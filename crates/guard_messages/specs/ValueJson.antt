@@ -1,10 +1,12 @@
 -- A value as JSON (RFC 8259), as tokens, in the form of the JSON encoding rules of ASN.1 (X.697): by the names that its
 -- type has, and with octets in hexadecimal. What the type doesn't name is written by its number, as in value notation. A
 -- BIT STRING has its length beside its octets, whether or not its type fixes that.
-use Rattle.std.specs.Prelude.{ℕ, suc, ◌-◌, ◌*◌, ℤ, List, [], ◌∷◌, ◌++◌, codes, decimal, length, Option, Some, None}
+use Rattle.std.specs.Prelude.{ℕ, suc, ◌+◌, ◌-◌, ◌*◌, ◌/◌, ◌%◌, ℤ, List, [], ◌∷◌, ◌++◌, codes, decimal, flat_map, length, nat_lt, Option, Some, None, if◌then◌else◌}
 use Rattle.std.specs.Fmt.{signed_decimal}
-use Rattle.std.specs.Str.{encode_utf8_all}
-use Rattle.hex.specs.Hex.{encode_upper}
+use Rattle.std.specs.Int.{w16, to_be_bytes}
+use Rattle.std.specs.Str.{chars, encode_utf8_all}
+use Rattle.hex.specs.Hex.{encode_lower, encode_upper}
+use Rattle.json.specs.Print.{print}
 use Rattle.json.specs.Token as json
 use Rattle.json.specs.Token.{Token}
 use Rattle.guard_model.specs.declared.site.Step.TheVariants.{Component}
@@ -70,3 +72,20 @@ abbrev mutual
   pub elements_json : Option AbstractType → Items → List Token
   elements_json t value.no_items = []
   elements_json t (value.item v vs) = value_json t v ++ elements_json t vs
+
+-- ---- the text of the tokens
+
+-- a unit of UTF-16, by four hexadecimal digits
+abbrev pub escaped_unit : ℕ → List ℕ
+escaped_unit unit = codes "\\u" ++ encode_lower (to_be_bytes w16 unit)
+
+-- A character that ASCII has and prints stands for itself. Any other, which only strings have, is escaped (RFC 8259
+-- clause 7): none of them is hidden, or moves what is shown beside it.
+abbrev pub in_ascii : ℕ → List ℕ
+in_ascii code =
+    if nat_lt code 0x7f then code ∷ []
+    else if nat_lt code 0x10000 then escaped_unit code
+    else escaped_unit (0xd800 + (code - 0x10000) / 0x400) ++ escaped_unit (0xdc00 + (code - 0x10000) % 0x400)
+
+abbrev pub ascii_text : List Token → List ℕ
+ascii_text ts = flat_map in_ascii (chars (print ts))

@@ -8,7 +8,7 @@ ghost use Rattle.guard_messages.specs.Finding.{LeavesInput};
 ghost use Rattle.guard_messages.specs.Questions.{spot_view, written, kept, framed, linked};
 
 use crate::linked::linked_frame;
-use crate::numbered::{natural_in, nth_frame, number_in};
+use crate::numbered::{link_in, nth_frame, number_in};
 use crate::question::Spot;
 use crate::unfound::Unfound;
 use guard_der::LONGEST_ENCODING;
@@ -156,8 +156,8 @@ pub fn frame_of_link<S: Source>(
     ensures unfound { (told : Told) → IfErr result (IsUnfound told (linked number.now word.now)
         (source_of S.tells S.takes S.has_failed input.old input.new)) }
 {
-    let Some(link) = natural_in(number) else {
-        return Err(Unfound::NoSuchFrame);
+    let Some(link) = link_in(number) else {
+        return Err(Unfound::NoSuchLink);
     };
     let Some(number) = number_in(word) else {
         return Err(Unfound::NoSuchFrame);

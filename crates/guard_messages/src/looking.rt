@@ -21,8 +21,8 @@ use std::alloc::Global;
 
 /// What is said where the words don't say where a message is.
 const UNASKED: &str =
-    "error: the following required arguments were not provided:\n  <HEX> or --der <FILE>, with each name that the \
-        command takes; or --frame <N> without any, alone or with --link <K>\n\nFor more information, try '--help'.";
+    "error: the message must be given in one of these ways:\n  <HEX> or --der <FILE>, not both, with each name that \
+        the command takes; or --frame <N> without any, alone or with --link <K>\n\nFor more information, try '--help'.";
 
 /// The status where the words are bad.
 const BAD_WORDS: u8 = 2;

@@ -23,6 +23,8 @@ pub enum Unfound {
     Faulty(Fault),
     /// There are more than 1,048,576.
     TooLong,
+    /// No link has the number.
+    NoSuchLink,
     /// No frame that comes in has the number.
     NoSuchFrame,
     /// What comes in is no record, or is cut short by the end.
@@ -67,6 +69,7 @@ pub fn tell_unfound<E: Sink>(alloc: Global, explain: bool, reason: &Unfound, err
         Unfound::BadHex => tell_bad_hex(alloc, explain, err),
         Unfound::Faulty(fault) => tell(alloc, fault, err),
         Unfound::TooLong => tell_text(alloc, "message too long", 2, err),
+        Unfound::NoSuchLink => tell_text(alloc, "no such link", 2, err),
         Unfound::NoSuchFrame => tell_text(alloc, "no such frame", 2, err),
         Unfound::BadRecord => tell_bad_record(err),
     }

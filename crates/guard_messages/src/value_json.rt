@@ -1,11 +1,11 @@
 //! A value as JSON.
 ghost use Rattle.std.specs.Prelude.{◌≡◌, ◌++◌, ◌∷◌, [], IfOk, OnOk, codes, decimal, map, option_map, string_bytes};
-ghost use Rattle.std.specs.Prelude.{◌-◌, ◌*◌, chars, length, Some};
+ghost use Rattle.std.specs.Prelude.{◌-◌, ◌*◌, chars, flat_map, length, Some};
 ghost use Rattle.std.specs.Str.{encode_utf8_all};
 ghost use Rattle.std.specs.Fmt.{signed_decimal};
 ghost use Rattle.std.specs.Arc.{arc_slice_items};
 ghost use Rattle.hex.specs.Hex.{encode_upper};
-ghost use Rattle.json.specs.Print.{print, IsPrintable};
+ghost use Rattle.json.specs.Print.{IsPrintable};
 ghost use Rattle.json.specs.Reads.{token_of};
 ghost use Rattle.json.specs.Token.{begin_array, begin_object, end_array, end_object, key, number, string};
 ghost use Rattle.guard_model.specs.declared.site.Step.TheVariants.{Component};
@@ -14,23 +14,63 @@ ghost use Rattle.guard_model.specs.ValueView.{value_view, fields_view, items_vie
 ghost use Rattle.guard_report.specs.Strings.{name_of};
 ghost use Rattle.guard_report.specs.Text.{element_type, type_within};
 ghost use Rattle.guard_report.specs.ValueText.{part_name};
-ghost use Rattle.guard_messages.specs.ValueJson.{bits_json, dotted, elements_json, item_json, members_json};
-ghost use Rattle.guard_messages.specs.ValueJson.{value_json};
+ghost use Rattle.guard_messages.specs.ValueJson.{ascii_text, bits_json, dotted, elements_json, escaped_unit, in_ascii};
+ghost use Rattle.guard_messages.specs.ValueJson.{item_json, members_json, value_json};
 
 use guard_model::{Bits, Named, OutOfMemory, Ty, Value};
-use guard_report::{component_at, element_type, items_known, name_of, part_type};
+use guard_report::{add, component_at, element_type, items_known, name_of, part_type};
 use itoa::Buffer;
 use json::{Token, Writer};
 use std::alloc::Global;
+use std::str::from_utf8;
 
-/// The text of a value of the type.
+/// The text of a value of the type, in ASCII alone.
 pub fn value_json(alloc: Global, ty: &Ty, value: &Value) -> Result<Vec<u8>, OutOfMemory>
     ensures { IfOk result (λ text. text.items
-        ≡ print (value_json (Some (type_view ty.now)) (value_view value.now))) }
+        ≡ ascii_text (value_json (Some (type_view ty.now)) (value_view value.now))) }
 {
     let mut writer = Writer::new(Vec::new(alloc));
     add_value(alloc, &mut writer, Some(ty), value)?;
-    Ok(writer.into_inner())
+    let text = writer.into_inner();
+    match from_utf8(&text) {
+        Ok(text) => in_ascii(alloc, text),
+        Err(_) => unreachable!(),
+    }
+}
+
+/// The text in ASCII alone. Characters that ASCII doesn't print are escaped.
+fn in_ascii(alloc: Global, text: &str) -> Result<Vec<u8>, OutOfMemory>
+    ensures { IfOk result (λ out. out.items ≡ flat_map in_ascii (chars text.now)) }
+{
+    let mut out = Vec::new(alloc);
+    for character in text.chars() {
+        add_in_ascii(alloc, &mut out, character)?;
+    }
+    Ok(out)
+}
+
+fn add_in_ascii(alloc: Global, out: &mut Vec<u8>, character: char) -> Result<(), OutOfMemory>
+    ensures { OnOk result (out.new.items ≡ out.old.items ++ in_ascii character) }
+{
+    let code = u32::from(character);
+    if code < 0x7f {
+        return add(out, &[code as u8]);
+    }
+    if code < 0x10000 {
+        return add_unit(alloc, out, code as u16);
+    }
+    let above = code - 0x10000;
+    add_unit(alloc, out, (0xd800 + above / 0x400) as u16)?;
+    add_unit(alloc, out, (0xdc00 + above % 0x400) as u16)
+}
+
+/// Adds a unit of UTF-16 as an escape.
+fn add_unit(alloc: Global, out: &mut Vec<u8>, unit: u16) -> Result<(), OutOfMemory>
+    ensures { OnOk result (out.new.items ≡ out.old.items ++ escaped_unit unit) }
+{
+    let digits = hex::encode(alloc, unit.to_be_bytes().as_slice())?;
+    add(out, b"\\u")?;
+    add(out, digits.as_bytes())
 }
 
 /// Writes the value, with the names that its type has, where one is known.

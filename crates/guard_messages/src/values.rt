@@ -3,7 +3,6 @@ ghost use Rattle.std.specs.Prelude.{◌≡◌, ◌++◌, codes, IfOk, IsTrue, So
 ghost use Rattle.guard_model.specs.TypeView.{type_view};
 ghost use Rattle.guard_model.specs.ValueView.{value_view};
 ghost use Rattle.guard_der.specs.Sound.{is_sound};
-ghost use Rattle.json.specs.Print.{print};
 ghost use Rattle.guard_policy.specs.PolicyView.{policy_view, route_view};
 ghost use Rattle.guard_policy.specs.Verdicts.{verdict_view};
 ghost use Rattle.guard_report.specs.Text.{verdict_octets};
@@ -11,7 +10,7 @@ ghost use Rattle.guard_report.specs.Shown.{shown_view};
 ghost use Rattle.guard_files.specs.Answers.{answer_view};
 ghost use Rattle.guard_messages.specs.Shown.{on_a_line, shown_octets, shown_status, ComesBefore, ShowsJson};
 ghost use Rattle.guard_messages.specs.Shown.{ShowsMessage};
-ghost use Rattle.guard_messages.specs.ValueJson.{value_json};
+ghost use Rattle.guard_messages.specs.ValueJson.{ascii_text, value_json};
 
 use crate::parts_before::lines_before;
 use crate::value_json::value_json;
@@ -111,7 +110,7 @@ pub fn show_json(
 /// A value of the type and a line feed, with status 0.
 fn json_answer(alloc: Global, ty: &Ty, value: &Value) -> Result<Answer, OutOfMemory>
     ensures { IfOk result (λ a. (a.out.items
-        ≡ print (value_json (Some (type_view ty.now)) (value_view value.now)) ++ codes "\n") × (a.status ≡ 0)) }
+        ≡ ascii_text (value_json (Some (type_view ty.now)) (value_view value.now)) ++ codes "\n") × (a.status ≡ 0)) }
 {
     let mut out = value_json(alloc, ty, value)?;
     add(&mut out, b"\n")?;

@@ -1,6 +1,7 @@
 -- Worked examples of values as JSON. What is expected was written by hand by X.697 and RFC 8259.
 use Rattle.std.specs.Prelude.{◌≡◌, pos, negsuc, [], ◌∷◌, codes, refl, Some, None}
 use Rattle.std.specs.Fmt.{digits}
+use Rattle.std.specs.Str.{chars}
 use lib.Utf8.{encode}
 use Rattle.hex.specs.Hex.{encode_with}
 use Rattle.json.specs.Print.{escape_byte, print, print_from}
@@ -11,7 +12,7 @@ use Rattle.guard_model.specs.AbstractValue.{fields, no_fields, present, absent}
 use Rattle.guard_eval.specs.rows.Rows.{plain}
 use Rattle.guard_report.specs.rows.Rows.{order}
 use Rattle.guard_report.specs.rows.ValueRows.{bought}
-use Rattle.guard_messages.specs.ValueJson.{value_json}
+use Rattle.guard_messages.specs.ValueJson.{ascii_text, value_json}
 
 -- an order with one line, which is the empty list of alternative `all`
 whole : print (value_json (Some order) bought) ≡ codes "{\"qty\":11,\"urgent\":true,\"lines\":[{\"all\":[]}]}"
@@ -61,7 +62,8 @@ escaped : print (value_json None (characters (97 ∷ 34 ∷ 10 ∷ 1 ∷ []))) �
 unfolding print_from escape_byte encode
 escaped = refl
 
--- U+00E9 in UTF-8
-accented : print (value_json None (characters (233 ∷ []))) ≡ 34 ∷ 195 ∷ 169 ∷ 34 ∷ []
-unfolding print_from escape_byte encode
-accented = refl
+-- in ASCII: a letter with an accent, a control, a mark of direction, and a tag, which has two units
+in_units : ascii_text (value_json None (characters (0xe9 ∷ 0x7f ∷ 0x202e ∷ 0xe0001 ∷ [])))
+    ≡ codes "\"\\u00e9\\u007f\\u202e\\udb40\\udc01\""
+unfolding print_from escape_byte encode_with chars encode
+in_units = refl

@@ -1,6 +1,6 @@
--- ---- what is listed of a policy, what is shown of a message
+-- ---- what is said of a policy
 pub mod Listing
-pub mod Strictness
+pub mod Checked
 -- ---- what encodes a value that is written
 pub mod ValueTexts
 pub mod NoValue
@@ -10,8 +10,6 @@ pub mod Encodes
 pub mod Cases
 pub mod Reached
 pub mod Testing
-pub mod Checked
-pub mod Digested
 -- ---- two policies
 pub mod Differing
 pub mod Summary

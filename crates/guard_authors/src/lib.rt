@@ -2,10 +2,8 @@
 //!
 //! | question | code | definition |
 //! |---|---|---|
-//! | What is answered to `check`? | `checking.rt` | `specs/Checked.antt` |
-//! | Which number have the texts of a policy? | `digesting.rt` | `specs/Digested.antt` |
-//! | What is listed of a policy that is accepted? | `listing.rt` | `specs/Listing.antt` |
-//! | What is remarked of it where that counts? | `strictness.rt`, `parties.rt` | `specs/Strictness.antt` |
+//! | What comes of `check`? | `checking.rt` | `specs/Checked.antt` |
+//! | What is listed of a policy that is accepted, and what is remarked? | `listing.rt`, `parties.rt` | `specs/Listing.antt` |
 //! | Which octets has a value that is written? | `encoding.rt`, `framing.rt` | `specs/Encodes.antt`, `specs/Framing.antt` |
 //! | Which value does a text write, and why none? | `written.rt` | `specs/ValueTexts.antt` |
 //! | Which cases does a text say, and which come out as they should? | `cases.rt`, `testing.rt` | `specs/Cases.antt`, `specs/Testing.antt` |
@@ -19,21 +17,17 @@ mod cases;
 mod checking;
 mod comparing;
 mod differing;
-mod digesting;
 mod encoding;
 mod framing;
 mod listing;
 mod no_value;
 mod parties;
 mod reached;
-mod strictness;
 mod summary;
 mod testing;
 mod written;
 
-pub use checking::check;
+pub use checking::{Checking, check};
 pub use comparing::{Comparing, compare};
-pub use digesting::check_digest;
 pub use encoding::{Encoding, encode};
-pub use strictness::check_strictly;
 pub use testing::{Trial, test};

@@ -9,9 +9,9 @@ use Rattle.guard_frames.specs.Outcomes.{FrameGoes, Outcome, going, staying, fram
 use Rattle.guard_frames.specs.Added.{Added}
 use Rattle.guard_frames.specs.Guarding.{text_out, Adds, AllAdd}
 use Rattle.guard_frames.specs.OfPolicy.{decision_of}
-use Rattle.guard_frames.specs.Runs.{RunsAll}
+use Rattle.guard_frames.specs.Runs.{RunsAll, RunsToEnd}
 use Rattle.guard_frames.specs.RunsTexts.{RunsTexts}
-use Rattle.guard_frames.specs.Headline.{MayGo, Guards, Headline}
+use Rattle.guard_frames.specs.Headline.{MayGo, Guards, IsGuarded, Headline}
 use Rattle.guard_frames.proofs.GoesExactly.{goes_exactly}
 
 goes_of : (p : AbstractPolicy) (frame : List ℕ) → MayGo p frame → FrameGoes (decision_of p) frame
@@ -72,12 +72,16 @@ guards p n [] reports e = (refl, e)
 guards p n (o ∷ os) reports (line, lines, e, adds, more) =
     one_more p n o os line lines reports e adds (guards p (later n 1) os lines more)
 
-pub headline : (modules : List (List ℕ)) (text read : List ℕ) (Ended : Type 0) (totals : Totals) (added : Added)
-    → RunsTexts modules text read Ended (Ok totals) added → Headline modules text read added
-headline modules text read Ended totals added h p say =
-    let run : RunsAll (decision_of p) read added (λ rest. rest ≡ []) = (h.under p say).0.all in (
+pub guarded : (p : AbstractPolicy) (read : List ℕ) (totals : Totals) (added : Added)
+    → RunsToEnd (decision_of p) read totals added → IsGuarded p read added
+guarded p read totals added h =
+    let run : RunsAll (decision_of p) read added (λ rest. rest ≡ []) = h.all in (
       frames_of run.outcomes,
       subst (λ rest. ConsistsOf read (frames_of run.outcomes) rest) run.last run.split,
       subst (λ out. Guards p 1 (frames_of run.outcomes) out added.reports) (sym run.out)
           (guards p 1 run.outcomes added.reports run.reports),
     )
+
+pub headline : (modules : List (List ℕ)) (text read : List ℕ) (Ended : Type 0) (totals : Totals) (added : Added)
+    → RunsTexts modules text read Ended (Ok totals) added → Headline modules text read added
+headline modules text read Ended totals added h p say = guarded p read totals added (h.under p say).0

@@ -56,7 +56,11 @@ Guards p n (frame ∷ frames) out reports =
     ⊎ ((MayGo p frame → ⊥) × (line : List ℕ) × (lines : List ℕ) × IsLineOf p n frame line × (reports ≡ line ++ lines)
     × Guards p (later n 1) frames out lines)
 
--- Whatever policy the texts say, what was read is frames and nothing more, which come out or are reported under it.
-abbrev pub Headline : List (List ℕ) → List ℕ → List ℕ → Added → Type 0
-Headline modules text read added = (p : AbstractPolicy) → SayPolicy modules text p →
+-- What was read is frames and nothing more, which come out or are reported under this policy.
+abbrev pub IsGuarded : AbstractPolicy → List ℕ → Added → Type 0
+IsGuarded p read added =
     (frames : List (List ℕ)) × ConsistsOf read frames [] × Guards p 1 frames added.out added.reports
+
+-- Whatever policy the texts say, what was read is guarded under it.
+abbrev pub Headline : List (List ℕ) → List ℕ → List ℕ → Added → Type 0
+Headline modules text read added = (p : AbstractPolicy) → SayPolicy modules text p → IsGuarded p read added

@@ -9,10 +9,11 @@ ghost use Rattle.guard_frames.specs.Answering.{pass_line, AllAnswer};
 ghost use Rattle.guard_frames.specs.Bodies.{AbstractBody, IsBody, body_in};
 ghost use Rattle.guard_frames.specs.Added.{Added};
 ghost use Rattle.guard_frames.specs.Frames.{ConsistsOf};
-ghost use Rattle.guard_frames.specs.Headline.{Headline};
-ghost use Rattle.guard_frames.specs.OfPolicy.{route_of};
+ghost use Rattle.guard_frames.specs.Headline.{Headline, IsGuarded};
+ghost use Rattle.guard_frames.specs.OfPolicy.{decision_of, route_of};
 ghost use Rattle.guard_frames.specs.Outcomes.{FrameGoes, Outcome, frames_of};
 ghost use Rattle.guard_frames.specs.Guarding.{Adds, AllAdd};
+ghost use Rattle.guard_frames.specs.Runs.{RunsToEnd};
 ghost use Rattle.guard_frames.specs.RunsTexts.{RunsTexts};
 ghost use Rattle.guard_frames.specs.declared.totals.Totals.{Totals};
 ghost use Rattle.guard_frames.specs.LinkView.{new_link};
@@ -31,6 +32,12 @@ pub fn law_headline<S: Source>(source: &S)
     ensures { (modules : List (List ℕ)) (text read : List ℕ) (totals : Totals) (added : Added) →
         RunsTexts modules text read (IsAtEnd (S.tells source.now)) (Ok totals) added →
         Headline modules text read added }
+{}
+
+/// The headline under a policy, of what `run` and `decide_link` promise where they end without a fault.
+pub fn law_guarded()
+    ensures { (p : AbstractPolicy) (read : List ℕ) (totals : Totals) (added : Added) →
+        RunsToEnd (decision_of p) read totals added → IsGuarded p read added }
 {}
 
 /// How a stream was cut into pieces doesn't matter: the frames of two pieces joined are those of the first, and then

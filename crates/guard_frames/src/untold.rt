@@ -43,9 +43,9 @@ impl Untold {
     }
 
     /// One more frame follows so many, which end here, and goes by the rule of this number. Where that is the rule of
-    /// these, it is one of them, and nothing changes: it is counted with all frames. Else the watch is told of these, and
-    /// the new frame is the first of others. Conditions: those of `tell`. It is called for each frame that goes, and most
-    /// have the rule of the frame before.
+    /// these, it is one of them, and nothing changes: it is counted with all frames. Else the watch is told of these,
+    /// and the new frame is the first of others. Conditions: those of `tell`. It is called for each frame that goes,
+    /// and most have the rule of the frame before.
     #[inline(always)]
     pub(crate) fn add_one<W: Watch>(
         &mut self,

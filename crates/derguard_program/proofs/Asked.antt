@@ -244,7 +244,7 @@ check_asks words e =
     let rows = rows_filled built_check [] words false [] e check_fills in
     let policy = given_next _ _ (check_none built_check [] words false [] e) in
     let path = given_value (codes "policy") (rows_after built_check.rules [] words) rows policy.0 in
-    (check path.0 (flag_of (codes "explain") (rows_after built_check.rules [] words)) (flag_of (codes "strict") (rows_after built_check.rules [] words)) (flag_of (codes "digest") (rows_after built_check.rules [] words)), (refl, path.1, refl, refl, refl))
+    (check (record { policy = path.0; explain = flag_of (codes "explain") (rows_after built_check.rules [] words); strict = flag_of (codes "strict") (rows_after built_check.rules [] words); digest = flag_of (codes "digest") (rows_after built_check.rules [] words) }), (refl, path.1, refl, refl, refl))
 
 show_asks : (words : List Text) → level_fault built_show [] nothing_held words false [] ≡ [] → Requests built_show words
 show_asks words e =

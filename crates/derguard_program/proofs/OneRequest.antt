@@ -82,7 +82,7 @@ module _ (rows : List Row) where
   request_at : ℕ → ℕ → AbstractRequest
   request_at letter second =
       if nat_eq second 111 then compare comparing_at
-      else if nat_eq letter 99 then check (value_of (codes "policy")) (flag_of (codes "explain") rows) (flag_of (codes "strict") rows) (flag_of (codes "digest") rows)
+      else if nat_eq letter 99 then check (record { policy = value_of (codes "policy"); explain = flag_of (codes "explain") rows; strict = flag_of (codes "strict") rows; digest = flag_of (codes "digest") rows })
       else if nat_eq letter 100 then decide decision_at
       else if nat_eq letter 115 then show showing_at
       else if nat_eq letter 101 then encode encoding_at
@@ -102,9 +102,9 @@ module _ (rows : List Row) where
   is_request_at : (name : Text) (r : AbstractRequest) → IsCommand name rows r → r ≡ request_at (slice_index name 0) (slice_index name 1)
   unfolding request_at
   is_request_at name first h = absurd h
-  is_request_at name (check path explain strict digest) h =
-      let p = is_value (codes "policy") path h.1 in
-      (λ i. check (p i) (h.2 i) (h.3 i) (h.4 i)) ∙ named_at name (codes "check") h.0
+  is_request_at name (check asked) h =
+      let p = is_value (codes "policy") asked.policy h.1 in
+      (λ i. check (record { policy = p i; explain = h.2 i; strict = h.3 i; digest = h.4 i })) ∙ named_at name (codes "check") h.0
   is_request_at name (decide q) h =
       let p = is_value (codes "policy") q.policy h.1 in
       let f = sym h.2 in

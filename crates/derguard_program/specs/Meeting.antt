@@ -9,7 +9,6 @@ use Rattle.guard_files.specs.declared.fault.Fault.{Fault}
 use Rattle.guard_files.specs.Files.{Told}
 use Rattle.guard_files.specs.Answers.{AbstractAnswer, Gives}
 use Rattle.guard_files.specs.Devices.{Input, Device, IsUnread, IsUntouched}
-use Rattle.guard_files.specs.Explaining.{IsNoPolicyWith}
 use Rattle.guard_files.specs.Writing.{Writes, TellsLine, TellsText, TellsNoMemory}
 use Rattle.guard_streams.specs.Asking.{AsksStream}
 use Rattle.guard_streams.specs.Counting.{CountsStream}
@@ -21,11 +20,9 @@ use Rattle.guard_streams.specs.Stream.{GuardsStream}
 use Rattle.guard_messages.specs.FirstRun.{IsFirst, IsNoFirst}
 use Rattle.guard_messages.specs.Deciding.{Decides, ShowsAsked}
 use Rattle.guard_messages.specs.Questions.{AbstractQuestion}
-use Rattle.guard_authors.specs.Checked.{IsChecked}
+use Rattle.guard_authors.specs.Checked.{Checks}
 use Rattle.guard_authors.specs.Comparing.{Compares}
-use Rattle.guard_authors.specs.Digested.{IsDigested}
 use Rattle.guard_authors.specs.Encodes.{Encodes}
-use Rattle.guard_authors.specs.Strictness.{ChecksStrictly}
 use Rattle.guard_authors.specs.Testing.{Tests}
 use Rattle.derguard_program.specs.Requests.{AbstractRequest, first, check, decide, show, encode, test, compare, run, ask, mux}
 use Rattle.derguard_program.specs.Words.{Asks, joined, the_app, version}
@@ -34,20 +31,6 @@ use Rattle.derguard_program.specs.AsJson.{ComesAsJson}
 -- Such an answer is written, or such a fault is reported, with what explains it; nothing is read.
 abbrev pub Answers : (AbstractAnswer → Type 0) → (Fault → List ℕ → Type 0) → Input → Device → Device → ℕ → Type 0
 Answers IsAnswer IsFault input out err status = IsUnread input × Gives IsAnswer IsFault out err status
-
--- what is reported where `--digest` doesn't stand alone
-abbrev pub not_alone : List ℕ
-not_alone =
-    codes "error: the argument '--digest' cannot be used with '--explain' or '--strict'\n\nFor more information, try '--help'."
-
--- by whether more is asked of the policy than the number of its texts
-abbrev pub GivesDigest : Bool → Told → List ℕ → Device → Device → ℕ → Type 0
-GivesDigest false told path out err status =
-    Gives (IsDigested told path) (IsNoPolicyWith false told path) out err status
-GivesDigest true told path out err status = IsUntouched out × TellsText not_alone 2 err status
-
-abbrev pub AnswersDigest : Bool → Told → List ℕ → Input → Device → Device → ℕ → Type 0
-AnswersDigest more told path input out err status = IsUnread input × GivesDigest more told path out err status
 
 -- what is reported where `--json` of `show` doesn't stand alone
 abbrev pub json_not_alone : List ℕ
@@ -66,10 +49,7 @@ ShowsOne true told q input out err status =
 -- what is shown, read, written and reported, and the status, by the request
 abbrev pub Meets : Told → Display → AbstractRequest → Input → Device → Device → ℕ → Type 0
 Meets told shows first = Answers IsFirst IsNoFirst
-Meets told shows (check path explain strict true) = AnswersDigest (explain || strict) told path
-Meets told shows (check path explain true false) = ChecksStrictly told path explain
-Meets told shows (check path explain false false) =
-    Answers (IsChecked explain told path) (IsNoPolicyWith explain told path)
+Meets told shows (check asked) = Checks told asked
 Meets told shows (decide q) = Decides told q
 Meets told shows (show q) = ShowsOne (asks_more_than_json q) told q
 Meets told shows (encode asked) = Encodes told asked
@@ -88,7 +68,7 @@ Meets told shows (mux path verbose (Some place)) = CountsLinks verbose place tol
 -- standard output of the request is lines, and not frames, records or a value
 abbrev pub answers_lines : AbstractRequest → Bool
 answers_lines first = true
-answers_lines (check path explain strict digest) = true
+answers_lines (check asked) = true
 answers_lines (decide q) = true
 answers_lines (show q) = false
 answers_lines (encode asked) = false

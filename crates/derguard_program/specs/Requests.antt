@@ -1,6 +1,7 @@
 -- What a request asks for.
 use Rattle.std.specs.Prelude.{ℕ, Bool, List, Option, option_map}
 use Rattle.guard_messages.specs.Questions.{AbstractQuestion, question_view}
+use Rattle.guard_authors.specs.Checked.{AbstractChecking, checking_view}
 use Rattle.guard_authors.specs.Comparing.{AbstractComparing, comparing_view}
 use Rattle.guard_authors.specs.Encodes.{AbstractEncoding, encoding_view}
 use Rattle.guard_authors.specs.Testing.{AbstractTrial, trial_view}
@@ -10,9 +11,8 @@ use Rattle.derguard_program.specs.declared.request.Request.TheVariants as code
 pub data AbstractRequest : Type 0 where
   -- the messages that are built in
   first : AbstractRequest
-  -- of the policy at this path; whether a fault is to be explained, whether remarks count, and whether the number of the
-  -- texts is to be shown
-  check : List ℕ → Bool → Bool → Bool → AbstractRequest
+  -- whether a policy and its modules are accepted
+  check : AbstractChecking → AbstractRequest
   -- what becomes of one message
   decide : AbstractQuestion → AbstractRequest
   -- the value of one message
@@ -33,7 +33,7 @@ pub data AbstractRequest : Type 0 where
 
 abbrev pub request_view : Request → AbstractRequest
 request_view code.First = first
-request_view (code.Check policy explain strict digest) = check policy.now explain strict digest
+request_view (code.Check asked) = check (checking_view asked)
 request_view (code.Decide q) = decide (question_view q)
 request_view (code.Show q) = show (question_view q)
 request_view (code.Encode e) = encode (encoding_view e)

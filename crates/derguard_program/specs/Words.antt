@@ -116,9 +116,10 @@ flag_of id rows = option_map_or (λ value. bytes_eq value (codes "true")) (first
 -- what a command with these values asks for
 abbrev pub IsCommand : Text → List Row → AbstractRequest → Type 0
 IsCommand name rows first = ⊥
-IsCommand name rows (check path explain strict digest) =
-    (name ≡ codes "check") × (first_of (codes "policy") rows ≡ Some path) × (explain ≡ flag_of (codes "explain") rows)
-    × (strict ≡ flag_of (codes "strict") rows) × (digest ≡ flag_of (codes "digest") rows)
+IsCommand name rows (check asked) =
+    (name ≡ codes "check") × (first_of (codes "policy") rows ≡ Some asked.policy)
+    × (asked.explain ≡ flag_of (codes "explain") rows) × (asked.strict ≡ flag_of (codes "strict") rows)
+    × (asked.digest ≡ flag_of (codes "digest") rows)
 IsCommand name rows (decide q) =
     (name ≡ codes "decide") × (first_of (codes "policy") rows ≡ Some q.policy) × (first_of (codes "from") rows ≡ q.from)
     × (first_of (codes "to") rows ≡ q.to) × (first_of (codes "message") rows ≡ q.message)

@@ -1,12 +1,12 @@
 //! The program over any files, source and sinks.
-ghost use Rattle.std.specs.Prelude.{◌≡◌, ◌≤◌, ◌||◌, ◌∷◌, [], length, map, option_map, string_bytes, true, false, IfOk, IfErr};
+ghost use Rattle.std.specs.Prelude.{◌≡◌, ◌≤◌, ◌∷◌, [], length, map, option_map, string_bytes, true, false, IfOk, IfErr};
 ghost use Rattle.guard_files.specs.Devices.{source_of, device_of, IsUntouched};
 ghost use Rattle.guard_files.specs.Writing.{TellsNoMemory};
 ghost use Rattle.guard_streams.specs.Counting.{display_of};
 ghost use Rattle.guard_streams.specs.Shown.{Display};
 ghost use Rattle.guard_messages.specs.Questions.{question_view};
 ghost use Rattle.derguard_program.specs.Requests.{request_view, first, show, run, mux};
-ghost use Rattle.derguard_program.specs.Meeting.{GivesDigest, Meets, MeetsBy, Programs, Shows, answers_lines, asks_more_than_json, is_help, version_line};
+ghost use Rattle.derguard_program.specs.Meeting.{Meets, MeetsBy, Programs, Shows, answers_lines, asks_more_than_json, is_help, version_line};
 ghost use Rattle.clap.specs.Words.{kind_of};
 ghost use Rattle.clap.specs.declared.error.kind.ErrorKind.TheVariants.{DisplayVersion, OutOfMemory};
 
@@ -15,7 +15,7 @@ use crate::request::Request;
 use crate::words::{VERSION, request_in};
 use clap::Error;
 use clap::error::ErrorKind;
-use guard_authors::{check, check_digest, check_strictly, compare, encode, test};
+use guard_authors::{check, compare, encode, test};
 use guard_files::{Files, give, tell_no_memory, tell_text, write};
 use guard_frames::{Sink, Source};
 use guard_json::JsonLines;
@@ -24,10 +24,6 @@ use guard_streams::{
     Board, Counters, Says, ask, mux, mux_counting, mux_verbosely, run, run_counting, run_verbosely,
 };
 use std::alloc::{AllocError, Global};
-
-const NOT_ALONE: &str =
-    "error: the argument '--digest' cannot be used with '--explain' or '--strict'\n\nFor more information, try \
-        '--help'.";
 
 const JSON_NOT_ALONE: &str =
     "error: the argument '--json' cannot be used with '--explain' or '--capture'\n\nFor more information, try \
@@ -178,21 +174,7 @@ pub fn meet<F: Files, S: Source, O: Sink, E: Sink, T: Says, B: Board>(
 {
     match request {
         Request::First => give(alloc, first_run(alloc), out, err),
-        Request::Check {
-            policy,
-            explain,
-            strict,
-            digest,
-        } => {
-            if *digest {
-                let more = asks_more(*explain, *strict);
-                give_digest(alloc, policy, more, files, out, err)
-            } else if *strict {
-                check_strictly(alloc, policy, *explain, files, out, err)
-            } else {
-                give(alloc, check(alloc, policy, *explain, files), out, err)
-            }
-        }
+        Request::Check(asked) => check(alloc, asked, files, out, err),
         Request::Decide(question) => decide_asked(alloc, question, files, input, out, err),
         Request::Show(question) => show_one(alloc, question, files, input, out, err),
         Request::Encode(asked) => encode(alloc, asked, files, input, out, err),
@@ -213,32 +195,6 @@ pub fn meet<F: Files, S: Source, O: Sink, E: Sink, T: Says, B: Board>(
         } => guard_links(
             alloc, policy, *verbose, *counts, files, input, out, err, system, counters,
         ),
-    }
-}
-
-/// Whether more is asked of a policy than the number of its texts.
-fn asks_more(explain: bool, strict: bool) -> bool
-    ensures { result ≡ (explain || strict) }
-{
-    explain || strict
-}
-
-/// Says whether the policy is accepted, and the number of its texts; of which nothing else is asked.
-fn give_digest<F: Files, O: Sink, E: Sink>(
-    alloc: Global,
-    policy: &str,
-    more: bool,
-    files: &mut F,
-    out: &mut O,
-    err: &mut E,
-) -> u8
-    ensures { GivesDigest more (F.told files.old) policy.now (device_of O.taken O.has_failed out.old out.new)
-        (device_of E.taken E.has_failed err.old err.new) result }
-{
-    if more {
-        tell_text(alloc, NOT_ALONE, 2, err)
-    } else {
-        give(alloc, check_digest(alloc, policy, files), out, err)
     }
 }
 

@@ -1,5 +1,5 @@
 //! What the words of the command line ask for.
-use guard_authors::{Comparing, Encoding, Trial};
+use guard_authors::{Checking, Comparing, Encoding, Trial};
 use guard_messages::Question;
 
 /// The words as they were given. A policy is named by its path.
@@ -7,14 +7,8 @@ use guard_messages::Question;
 pub enum Request<'a> {
     /// No words: the messages that are built in.
     First,
-    /// Whether a policy and its modules are accepted. A fault may be asked to be explained, remarks to count, and the
-    /// number of the texts to be shown.
-    Check {
-        policy: &'a str,
-        explain: bool,
-        strict: bool,
-        digest: bool,
-    },
+    /// Whether a policy and its modules are accepted.
+    Check(Checking<'a>),
     /// What becomes of one message.
     Decide(Question<'a>),
     /// The value of one message.

@@ -20,7 +20,7 @@ use crate::help::{
 };
 use crate::request::Request;
 use clap::{Arg, ArgAction, ArgMatches, Command, Error};
-use guard_authors::{Comparing, Encoding, Trial};
+use guard_authors::{Checking, Comparing, Encoding, Trial};
 use guard_messages::Question;
 use std::alloc::{AllocError, Global};
 
@@ -56,12 +56,12 @@ fn request_of<'a>(matches: &ArgMatches<'a>) -> Request<'a>
         → IsCommand name rows request → request_view result ≡ request }
 {
     match matches.subcommand() {
-        Some(("check", found)) => Request::Check {
+        Some(("check", found)) => Request::Check(Checking {
             policy: text(found, "policy"),
             explain: flag(found, "explain"),
             strict: flag(found, "strict"),
             digest: flag(found, "digest"),
-        },
+        }),
         Some(("show", found)) => Request::Show(question_to_show(found)),
         Some(("encode", found)) => Request::Encode(encoding_of(found)),
         Some(("test", found)) => Request::Test(trial_of(found)),

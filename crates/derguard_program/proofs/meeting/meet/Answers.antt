@@ -1,12 +1,10 @@
-use Rattle.std.proofs.Common.{Bool, false, refl, subst, sym}
+use Rattle.std.proofs.Common.{refl, subst, sym}
 use Rattle.guard_files.specs.Devices.{input_of, device}
-use Rattle.guard_files.specs.Explaining.{IsNoPolicyWith}
 use Rattle.guard_streams.specs.Counting.{display_of}
 use Rattle.guard_messages.specs.FirstRun.{IsFirst, IsNoFirst}
-use Rattle.guard_authors.specs.Checked.{IsChecked}
 use Rattle.derguard_program.specs.declared.request.Request.{Request}
-use Rattle.derguard_program.specs.Meeting.{GivesDigest, Meets}
-use Rattle.derguard_program.specs.Requests.{request_view, check}
+use Rattle.derguard_program.specs.Meeting.{Meets}
+use Rattle.derguard_program.specs.Requests.{request_view}
 use Rattle.derguard_program.proofs.Meetings.{given}
 use Rattle.derguard_program.proofs.meeting.meet.Goals as goal
 
@@ -20,44 +18,14 @@ returns-in-First g c =
     subst (λ (r : Request). Meets told shows (request_view r) input out err c.give.result) (sym c.in-First.is)
     (given IsFirst IsNoFirst input out err c.give.result c.first_run.result (refl, refl) c.first_run.ensures.first c.first_run.ensures.none c.give.ensures.written c.give.ensures.told)
 
-pub returns-then-digest : goal.returns-then-digest
-returns-then-digest g c =
+pub returns-in-Check : goal.returns-in-Check
+returns-in-Check g c =
     let told = g.F.Files.told c.args.files.now in
     let shows = display_of g.B.Board.shown c.args.counters.now c.args.counters.now in
     let input = input_of (g.S.Source.tells c.args.input.now) (g.S.Source.tells c.args.input.now) (g.S.Source.takes c.args.input.now) (g.S.Source.takes c.args.input.now) (g.S.Source.has_failed c.args.input.now) in
-    let out = device (g.O.Sink.taken c.args.out.now) (g.O.Sink.taken c.give_digest.new.out) (g.O.Sink.has_failed c.give_digest.new.out) in
-    let err = device (g.E.Sink.taken c.args.err.now) (g.E.Sink.taken c.give_digest.new.err) (g.E.Sink.has_failed c.give_digest.new.err) in
-    subst (λ (r : Request). Meets told shows (request_view r) input out err c.give_digest.result) (sym c.in-Check.is)
-    (subst (λ (b : Bool). Meets told shows (check c.in-Check.policy.now c.in-Check.explain c.in-Check.strict b) input out err c.give_digest.result) (sym c.if-digest.true) (
-      (refl, refl),
-      subst (λ (m : Bool). GivesDigest m told c.in-Check.policy.now out err c.give_digest.result) c.asks_more-more.ensures c.give_digest.ensures,
-    ))
-
-pub returns-then-strict : goal.returns-then-strict
-returns-then-strict g c =
-    let told = g.F.Files.told c.args.files.now in
-    let shows = display_of g.B.Board.shown c.args.counters.now c.args.counters.now in
-    let input = input_of (g.S.Source.tells c.args.input.now) (g.S.Source.tells c.args.input.now) (g.S.Source.takes c.args.input.now) (g.S.Source.takes c.args.input.now) (g.S.Source.has_failed c.args.input.now) in
-    let out = device (g.O.Sink.taken c.args.out.now) (g.O.Sink.taken c.check_strictly.new.out) (g.O.Sink.has_failed c.check_strictly.new.out) in
-    let err = device (g.E.Sink.taken c.args.err.now) (g.E.Sink.taken c.check_strictly.new.err) (g.E.Sink.has_failed c.check_strictly.new.err) in
-    subst (λ (r : Request). Meets told shows (request_view r) input out err c.check_strictly.result) (sym c.in-Check.is)
-    (subst (λ (b : Bool). Meets told shows (check c.in-Check.policy.now c.in-Check.explain c.in-Check.strict b) input out err c.check_strictly.result) (sym c.if-digest.false)
-    (subst (λ (b : Bool). Meets told shows (check c.in-Check.policy.now c.in-Check.explain b false) input out err c.check_strictly.result) (sym c.if-strict.true)
-    ((refl, refl), c.check_strictly.ensures)))
-
-pub returns-else-strict : goal.returns-else-strict
-returns-else-strict g c =
-    let told = g.F.Files.told c.args.files.now in
-    let shows = display_of g.B.Board.shown c.args.counters.now c.args.counters.now in
-    let input = input_of (g.S.Source.tells c.args.input.now) (g.S.Source.tells c.args.input.now) (g.S.Source.takes c.args.input.now) (g.S.Source.takes c.args.input.now) (g.S.Source.has_failed c.args.input.now) in
-    let out = device (g.O.Sink.taken c.args.out.now) (g.O.Sink.taken c.give-else-strict.new.out) (g.O.Sink.has_failed c.give-else-strict.new.out) in
-    let err = device (g.E.Sink.taken c.args.err.now) (g.E.Sink.taken c.give-else-strict.new.err) (g.E.Sink.has_failed c.give-else-strict.new.err) in
-    let path = c.in-Check.policy.now in
-    let explain = c.in-Check.explain in
-    subst (λ (r : Request). Meets told shows (request_view r) input out err c.give-else-strict.result) (sym c.in-Check.is)
-    (subst (λ (b : Bool). Meets told shows (check path explain c.in-Check.strict b) input out err c.give-else-strict.result) (sym c.if-digest.false)
-    (subst (λ (b : Bool). Meets told shows (check path explain b false) input out err c.give-else-strict.result) (sym c.if-strict.false)
-    (given (IsChecked explain told path) (IsNoPolicyWith explain told path) input out err c.give-else-strict.result c.check.result (refl, refl) c.check.ensures.checked c.check.ensures.none c.give-else-strict.ensures.written c.give-else-strict.ensures.told)))
+    let out = device (g.O.Sink.taken c.args.out.now) (g.O.Sink.taken c.check.new.out) (g.O.Sink.has_failed c.check.new.out) in
+    let err = device (g.E.Sink.taken c.args.err.now) (g.E.Sink.taken c.check.new.err) (g.E.Sink.has_failed c.check.new.err) in
+    subst (λ (r : Request). Meets told shows (request_view r) input out err c.check.result) (sym c.in-Check.is) ((refl, refl), c.check.ensures)
 
 pub returns-in-Decide : goal.returns-in-Decide
 returns-in-Decide g c =

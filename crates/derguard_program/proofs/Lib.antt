@@ -8,4 +8,5 @@ pub mod Meetings
 pub mod RecordsRead
 pub mod OwnRecords
 pub mod Statuses
+pub mod RunHeadline
 pub mod ByJson

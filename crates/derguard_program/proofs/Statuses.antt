@@ -1,5 +1,5 @@
 -- The status that comes of many links.
-use Rattle.std.proofs.Common.{◌≡◌, ◌∙◌, ◌≤◌, max, inl, inr, ℕ, List, [], ◌∷◌, ◌++◌, ap, refl, sym, length, arith}
+use Rattle.std.proofs.Common.{◌≡◌, ◌∙◌, ◌≤◌, max, inl, inr, ℕ, Bool, true, false, List, [], ◌∷◌, ◌++◌, ap, refl, sym, subst, length, arith}
 use Rattle.std.specs.Prelude.{Option, Some, None, Result, Ok, Err}
 use Rattle.std.proofs.lemmas.Option.{none-some}
 use Rattle.std.specs.Io.KnownBytes.{Appends}
@@ -18,12 +18,15 @@ use Rattle.guard_files.specs.Faults.{fault_status}
 use Rattle.guard_files.specs.Files.{Told}
 use Rattle.guard_files.specs.Records.{Record}
 use Rattle.guard_files.specs.Records.Record.{piece, end, reload}
-use Rattle.guard_files.specs.Writing.{IsFaultLine, TellsOctets, Tells}
+use Rattle.guard_files.specs.Writing.{IsFaultLine, TellsOctets, TellsWith}
 use Rattle.guard_streams.specs.AtFault.{IsFaultNote}
-use Rattle.guard_streams.specs.Muxing.{GuardsLinks, TellsStop}
+use Rattle.guard_streams.specs.Muxing.{EndsGuarded, Finishes, GuardsLinks, TellsGuarded, TellsStop, TellsStopWith}
 use Rattle.guard_streams.specs.Passing.{marked, fault_line}
 use Rattle.guard_streams.specs.declared.seen.Seen.{Seen}
+use Rattle.guard_streams.specs.Shown.{Shown, Display}
+use Rattle.guard_streams.specs.Stream.{Opens, TellsNone}
 use Rattle.guard_streams.specs.Tallying.{IsSeen}
+use Rattle.guard_streams.specs.Verbose.{TellsNotes}
 use Rattle.guard_streams.specs.Turns.{AbstractMux, Written, Happens, PassesOn, InTurn, all_err, status_of, link_status, renewed_note, renewed_seen}
 use Rattle.guard_streams.proofs.Turning.{all_err-append, status_of-append}
 
@@ -49,9 +52,17 @@ octets_most : (octets : List ℕ) (k status : ℕ) (err : Device) → k ≤ 3 �
 octets_most octets k status err most (inl (all, same)) = omega (arith, same, most)
 octets_most octets k status err most (inr (part, same)) = omega arith
 
-told_most : (f : Fault) (err : Device) (status : ℕ) → Tells f err status → status ≤ 3
-told_most f err status (inl (text, is, told)) = octets_most _ (fault_status f) status err (fault_most f) told
-told_most f err status (inr told) = octets_most _ 3 status err (omega arith) told
+with_most : (f : Fault) (note : List ℕ) (err : Device) (status : ℕ) → TellsWith f note err status → status ≤ 3
+with_most f note err status (inl (text, is, told)) = octets_most _ (fault_status f) status err (fault_most f) told
+with_most f note err status (inr told) = octets_most _ 3 status err (omega arith) told
+
+none_most : (verbose : Bool) (f : Fault) (err : Device) (status : ℕ) → TellsNone verbose f err status → status ≤ 3
+none_most true f err status (line, is, told) = with_most f line err status told
+none_most false f err status told = with_most f [] err status told
+
+notes_most : (octets : List ℕ) (k status : ℕ) (err : Device) → k ≤ 3 → TellsNotes octets k err status → status ≤ 3
+notes_most octets k status err most (inl told) = octets_most octets k status err most told
+notes_most octets k status err most (inr told) = octets_most _ 3 status err (omega arith) told
 
 stop_is : (s : Stop) (err : Device) (status : ℕ) → TellsStop s err status → status ≡ 3
 stop_is BadRecord err status (inl (all, same)) = same
@@ -160,39 +171,89 @@ turns_quiet path [] old new ws h quiet = ap (λ (m : AbstractMux). m.seen) h.1 �
 turns_quiet path (r ∷ rs) old new ws h quiet =
     turns_quiet path rs h.2 new h.1 h.5 (happens_quiet path r old h.2 h.0 h.4 quiet)
 
--- ---- the whole stream
+-- ---- what is said at the end
 
-pub links_most : (told : Told) (path : List ℕ) (input : Input) (out err : Device) (status : ℕ)
-    → GuardsLinks told path input out err status → status ≤ 3
-links_most told path input out err status (inl h) = told_most h.0 err status h.4
-links_most told path input out err status (inr (p, later, read, is, inl h)) =
-    let first = turns_most path h.all.records _ h.all.last h.all.written h.all.in_turn in
-    let last = turns_most path _ h.all.last h.after h.closed h.ends in
-    let both = status_of-append h.all.written h.closed in
-    let all = h.greatest in
-    omega (arith, all, both, first, last)
-links_most told path input out err status (inr (p, later, read, is, inr h)) = let three =
-    stop_is h.0 _ status h.3 in omega (arith, three)
+stop_most : (seen : Option Seen) (s : Stop) (err : Device) (status : ℕ) → TellsStopWith seen s err status → status ≤ 3
+stop_most None s err status told = let three = stop_is s err status told in omega (arith, three)
+stop_most (Some seen) BadRecord err status told = notes_most _ 3 status err (omega arith) told
+stop_most (Some seen) ReadFailed err status (said, is, told) = with_most _ _ err status told
+stop_most (Some seen) WriteFailed err status (said, is, told) = with_most _ _ err status told
+stop_most (Some seen) ErrorFailed err status (same, is) = omega (arith, is)
+
+guarded_most : (seen : Option Seen) (greatest : ℕ) (err : Device) (status : ℕ) → greatest ≤ 3
+    → TellsGuarded (Ok tt) seen greatest err status → status ≤ 3
+guarded_most None greatest err status most (same, is) = omega (arith, is, most)
+guarded_most (Some seen) greatest err status most told = notes_most _ greatest status err most told
 
 octets_zero : (octets : List ℕ) (k status : ℕ) (err : Device) → (k ≡ 0 → ⊥) → TellsOctets octets k err status
     → status ≡ 0 → ⊥
 octets_zero octets k status err some (inl (all, same)) none = some (sym same ∙ none)
 octets_zero octets k status err some (inr (part, same)) none = omega arith
 
-told_zero : (f : Fault) (err : Device) (status : ℕ) → Tells f err status → status ≡ 0 → ⊥
-told_zero f err status (inl (text, is, told)) none = octets_zero _ (fault_status f) status err (fault_some f) told none
-told_zero f err status (inr told) none = octets_zero _ 3 status err (λ e. omega arith) told none
+with_zero : (f : Fault) (note : List ℕ) (err : Device) (status : ℕ) → TellsWith f note err status → status ≡ 0 → ⊥
+with_zero f note err status (inl (text, is, told)) none = octets_zero _ (fault_status f) status err (fault_some f) told none
+with_zero f note err status (inr told) none = octets_zero _ 3 status err (λ e. omega arith) told none
 
-pub links_silent : (told : Told) (path : List ℕ) (input : Input) (out err : Device)
-    → GuardsLinks told path input out err 0 → Appends err.before err.after []
-links_silent told path input out err (inl h) = absurd (told_zero h.0 err 0 h.4 refl)
-links_silent told path input out err (inr (p, later, read, is, inl h)) =
+stop_zero : (seen : Option Seen) (s : Stop) (err : Device) (status : ℕ) → TellsStopWith seen s err status → status ≡ 0 → ⊥
+stop_zero None s err status told none = let three = stop_is s err status told in omega (arith, three, none)
+stop_zero (Some seen) BadRecord err status (inl told) none = octets_zero _ 3 status err (λ e. omega arith) told none
+stop_zero (Some seen) BadRecord err status (inr told) none = octets_zero _ 3 status err (λ e. omega arith) told none
+stop_zero (Some seen) ReadFailed err status (said, is, told) none = with_zero _ _ err status told none
+stop_zero (Some seen) WriteFailed err status (said, is, told) none = with_zero _ _ err status told none
+stop_zero (Some seen) ErrorFailed err status (same, is) none = omega (arith, is, none)
+
+-- ---- the whole stream
+
+finishes_most : (path : List ℕ) (first : AbstractMux) (input : Input) (out err : Device) (greatest : ℕ)
+    → Finishes path first input out err greatest → greatest ≤ 3
+finishes_most path first input out err greatest h =
+    let first = turns_most path h.all.records _ h.all.last h.all.written h.all.in_turn in
+    let last = turns_most path _ h.all.last h.after h.closed h.ends in
     let both = status_of-append h.all.written h.closed in
     let all = h.greatest in
-    let first = turns_silent path h.all.records _ h.all.last h.all.written h.all.in_turn refl (omega (arith, all, both)) in
-    let quiet = turns_quiet path h.all.records _ h.all.last h.all.written h.all.in_turn refl in
-    let last = turns_silent path _ h.all.last h.after h.closed h.ends quiet (omega (arith, all, both)) in
-    Appends_is err.before err.after (all_err (h.all.written ++ h.closed)) []
-    (all_err-append h.all.written h.closed ∙ ap (λ (s : List ℕ). s ++ all_err h.closed) first ∙ last) h.told
-links_silent told path input out err (inr (p, later, read, is, inr h)) =
-    absurd (let three = stop_is h.0 _ 0 h.3 in omega (arith, three))
+    omega (arith, all, both, first, last)
+
+ends_most : (result : Result (Unit {0}) Stop) (path : List ℕ) (place : Option (List ℕ)) (first : AbstractMux) (input : Input)
+    (out err : Device) (reported : Option (List ℕ)) (status : ℕ) (last : Shown) (display : Display)
+    → EndsGuarded result path place first input out err reported status last display → status ≤ 3
+ends_most (Ok done) path place first input out err reported status last display (greatest, f, shows, told) =
+    guarded_most f.after.seen greatest _ status (finishes_most path first input out _ greatest f) told
+ends_most (Err s) path place first input out err reported status last display (h, shows, told) =
+    stop_most _ s _ status told
+
+opens_most : (verbose : Bool) (digest : List ℕ) (Nothing : Type 0) (err : Device) (status : ℕ) (So : Device → Type 0)
+    → ((behind : Device) → So behind → status ≤ 3) → Opens verbose digest Nothing err status So → status ≤ 3
+opens_most true digest Nothing err status So most (inl (begun, said, so)) = most _ so
+opens_most true digest Nothing err status So most (inr (nothing, failed, is, part)) = omega (arith, is)
+opens_most false digest Nothing err status So most so = most err so
+
+pub links_most : (verbose : Bool) (place : Option (List ℕ)) (told : Told) (path : List ℕ) (shows : Display) (input : Input)
+    (out err : Device) (status : ℕ) → GuardsLinks verbose place told path shows input out err status → status ≤ 3
+links_most verbose place told path shows input out err status (inl h) = none_most verbose h.0 err status h.5
+links_most verbose place told path shows input out err status (inr (p, digest, later, is, since, h)) =
+    opens_most verbose digest _ err status _ (λ behind so. ends_most so.result path place _ input out _ so.reported status _ _ so.ends) h
+
+ends_silent : (result : Result (Unit {0}) Stop) (path : List ℕ) (place : Option (List ℕ)) (first : AbstractMux) (input : Input)
+    (out err : Device) (reported : Option (List ℕ)) (last : Shown) (display : Display) → first.seen ≡ None
+    → EndsGuarded result path place first input out err reported 0 last display → Appends err.before err.after []
+ends_silent (Ok done) path place first input out err reported last display quiet (greatest, f, shows, told) =
+    let still = turns_quiet path f.all.records _ f.all.last f.all.written f.all.in_turn quiet in
+    let said = subst (λ (s : Option Seen). TellsGuarded (Ok tt) s greatest (record err { before = reported }) 0)
+    (turns_quiet path _ f.all.last f.after f.closed f.ends still) told in
+    let both = status_of-append f.all.written f.closed in
+    let all = f.greatest in
+    let none = said.1 in
+    let front = turns_silent path f.all.records _ f.all.last f.all.written f.all.in_turn quiet (omega (arith, all, both, none)) in
+    let back = turns_silent path _ f.all.last f.after f.closed f.ends still (omega (arith, all, both, none)) in
+    subst (λ (s : Option (List ℕ)). Appends err.before s []) (sym said.0)
+    (Appends_is err.before reported (all_err (f.all.written ++ f.closed)) []
+    (all_err-append f.all.written f.closed ∙ ap (λ (s : List ℕ). s ++ all_err f.closed) front ∙ back) f.told)
+ends_silent (Err s) path place first input out err reported last display quiet (h, shows, told) =
+    absurd (stop_zero _ s _ 0 told refl)
+
+pub links_silent : (told : Told) (path : List ℕ) (shows : Display) (input : Input) (out err : Device)
+    → GuardsLinks false None told path shows input out err 0 → Appends err.before err.after []
+links_silent told path shows input out err (inl h) = absurd (with_zero h.0 [] err 0 h.5 refl)
+links_silent told path shows input out err (inr (p, digest, later, is, since, h)) =
+    subst (λ (s : Option (List ℕ)). Appends s err.after []) h.noted
+    (ends_silent h.result path None _ input out (record err { before = h.said }) h.reported _ _ refl h.ends)

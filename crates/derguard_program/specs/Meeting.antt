@@ -1,6 +1,6 @@
 -- What it is to meet a request, by what is read, what goes out, and the status. Of the commands this is the page to read
 -- first.
-use Rattle.std.specs.Prelude.{◌≡◌, ◌⊎◌, ℕ, Bool, ◌&&◌, ◌||◌, true, false, List, ◌++◌, codes, Some, None}
+use Rattle.std.specs.Prelude.{◌≡◌, ◌⊎◌, ℕ, Bool, ◌&&◌, ◌||◌, true, false, List, ◌++◌, codes}
 use Rattle.clap.specs.declared.error.kind.ErrorKind.{ErrorKind}
 use Rattle.clap.specs.declared.error.kind.ErrorKind.TheVariants as code
 use Rattle.clap.specs.declared.error.kind.ErrorKind.TheVariants.{InvalidValue, UnknownArgument, InvalidSubcommand, NoEquals, ValueValidation, TooManyValues, TooFewValues, WrongNumberOfValues, ArgumentConflict, MissingRequiredArgument, MissingSubcommand, DisplayHelp, DisplayHelpOnMissingArgumentOrSubcommand, DisplayVersion, Io, Format}
@@ -11,10 +11,7 @@ use Rattle.guard_files.specs.Answers.{AbstractAnswer, Gives}
 use Rattle.guard_files.specs.Devices.{Input, Device, IsUnread, IsUntouched}
 use Rattle.guard_files.specs.Writing.{Writes, TellsLine, TellsText, TellsNoMemory}
 use Rattle.guard_streams.specs.Asking.{AsksStream}
-use Rattle.guard_streams.specs.Counting.{CountsStream}
-use Rattle.guard_streams.specs.CountingLinks.{CountsLinks}
-use Rattle.guard_streams.specs.Muxing.{GuardsLinks, WatchesLinks}
-use Rattle.guard_streams.specs.Watching.{WatchesStream}
+use Rattle.guard_streams.specs.Muxing.{GuardsLinks}
 use Rattle.guard_streams.specs.Shown.{Display}
 use Rattle.guard_streams.specs.Stream.{GuardsStream}
 use Rattle.guard_messages.specs.FirstRun.{IsFirst, IsNoFirst}
@@ -55,13 +52,9 @@ Meets told shows (show q) = ShowsOne (asks_more_than_json q) told q
 Meets told shows (encode asked) = Encodes told asked
 Meets told shows (test asked) = Tests told asked
 Meets told shows (compare asked) = Compares told asked
-Meets told shows (run path false None) = GuardsStream told path
-Meets told shows (run path true None) = WatchesStream told path
-Meets told shows (run path verbose (Some place)) = CountsStream verbose place told path shows
+Meets told shows (run path verbose place) = GuardsStream verbose place told path shows
 Meets told shows (ask path) = AsksStream told path
-Meets told shows (mux path false None) = GuardsLinks told path
-Meets told shows (mux path true None) = WatchesLinks told path
-Meets told shows (mux path verbose (Some place)) = CountsLinks verbose place told path shows
+Meets told shows (mux path verbose place) = GuardsLinks verbose place told path shows
 
 -- ---- lines as JSON
 

@@ -1,5 +1,5 @@
 //! Laws of the definitions. The functions do nothing when they run.
-ghost use Rattle.std.specs.Prelude.{◌≡◌, ◌<◌, ◌≤◌, ℕ, Bool, List, [], Option, Some, IsTrue, length};
+ghost use Rattle.std.specs.Prelude.{◌≡◌, ◌<◌, ◌≤◌, ℕ, Bool, false, List, [], Option, Some, None, IsTrue, length};
 ghost use Rattle.std.specs.Io.KnownBytes.{Appends};
 ghost use Rattle.clap.specs.Words.{Text, fault_of};
 ghost use Rattle.guard_files.specs.Devices.{Input, Device};
@@ -9,10 +9,13 @@ ghost use Rattle.guard_files.specs.Records.{Record, AreRecords, HasNoRecord};
 ghost use Rattle.guard_streams.specs.Counters.{AbstractCounted};
 ghost use Rattle.guard_streams.specs.Muxing.{GuardsLinks, new_mux};
 ghost use Rattle.guard_streams.specs.OwnRecords.{AreTurns};
+ghost use Rattle.guard_streams.specs.Shown.{Display};
+ghost use Rattle.guard_streams.specs.Stream.{GuardsStream};
 ghost use Rattle.guard_streams.specs.Turns.{AbstractMux, Written, InTurn};
 ghost use Rattle.guard_streams.specs.declared.seen.Seen.{Seen};
 ghost use Rattle.guard_authors.specs.Encodes.{IsEncoding};
 ghost use Rattle.derguard_program.specs.Requests.{AbstractRequest};
+ghost use Rattle.derguard_program.specs.RunHeadline.{KeepsHeadline};
 ghost use Rattle.derguard_program.specs.Words.{Asks, joined, the_app};
 ghost use Rattle.guard_der.specs.Der.{der};
 ghost use Rattle.guard_der.specs.Fits.{fits};
@@ -29,7 +32,7 @@ ghost use Rattle.guard_report.specs.Shown.{value_shown};
 ghost use Rattle.guard_values.specs.Meanings.{Meaning};
 ghost use Rattle.reads_back.specs.Names.{HasNames, is_seen};
 
-use guard_frames::laws::law_own_stream;
+use guard_frames::laws::{law_guarded, law_own_stream};
 use reads_back::laws::{law_one_value_of_text, law_shown_reads_back};
 
 /// Words in which nothing is wrong ask for a request, with or without lines that are JSON, and for one alone.
@@ -40,6 +43,22 @@ pub fn law_one_request()
         → Asks words other also → (request ≡ other) × (json ≡ also) }
 {}
 
+/// The headline, of the program's own call: where the status of `run` says that nothing failed, the texts at the path
+/// say a policy, and what was read is frames, of which those come out that may go, in order and octet by octet, and each
+/// other one is reported. Where neither notes nor counters are asked for, standard error takes nothing else.
+pub fn law_headline_of_run()
+    ensures run { (verbose : Bool) (place : Option (List ℕ)) (told : Told) (path : List ℕ) (shows : Display)
+        (input : Input) (out err : Device) (status : ℕ) →
+        GuardsStream verbose place told path shows input out err status → status ≤ 1 →
+        (begun : Option (List ℕ)) × (reported : Option (List ℕ))
+        × KeepsHeadline told path input (out.before, out.after) (begun, reported) }
+    ensures plain { (told : Told) (path : List ℕ) (shows : Display) (input : Input) (out err : Device) (status : ℕ) →
+        GuardsStream false None told path shows input out err status → status ≤ 1 →
+        KeepsHeadline told path input (out.before, out.after) (err.before, err.after) }
+{
+    law_guarded();
+}
+
 /// A stream has one reading as records and a rest with which no record begins.
 pub fn law_one_reading()
     ensures exists { (stream : List ℕ) → (records : List Record) × (rest : List ℕ) × AreRecords stream records rest
@@ -49,12 +68,14 @@ pub fn law_one_reading()
         (records ≡ others) × (rest ≡ last) }
 {}
 
-/// Whatever comes of a stream of records, the status is 3 at most; and where it is 0 nothing is reported.
+/// Whatever comes of a stream of records, the status is 3 at most; and where it is 0, and neither notes nor counters
+/// are asked for, nothing is reported.
 pub fn law_status_of_links()
-    ensures most { (told : Told) (path : List ℕ) (input : Input) (out err : Device) (status : ℕ) →
-        GuardsLinks told path input out err status → status ≤ 3 }
-    ensures silent { (told : Told) (path : List ℕ) (input : Input) (out err : Device) →
-        GuardsLinks told path input out err 0 → Appends err.before err.after [] }
+    ensures most { (verbose : Bool) (place : Option (List ℕ)) (told : Told) (path : List ℕ) (shows : Display)
+        (input : Input) (out err : Device) (status : ℕ) →
+        GuardsLinks verbose place told path shows input out err status → status ≤ 3 }
+    ensures silent { (told : Told) (path : List ℕ) (shows : Display) (input : Input) (out err : Device) →
+        GuardsLinks false None told path shows input out err 0 → Appends err.before err.after [] }
 {}
 
 /// Whatever else comes in the stream of records, what is written of one of its sixteen links is what that link's own

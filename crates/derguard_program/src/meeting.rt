@@ -1,11 +1,11 @@
 //! The program over any files, source and sinks.
-ghost use Rattle.std.specs.Prelude.{◌≡◌, ◌≤◌, ◌∷◌, [], length, map, option_map, string_bytes, true, false, IfOk, IfErr};
+ghost use Rattle.std.specs.Prelude.{◌≡◌, ◌≤◌, ◌∷◌, [], length, map, string_bytes, true, false, IfOk};
 ghost use Rattle.guard_files.specs.Devices.{source_of, device_of, IsUntouched};
 ghost use Rattle.guard_files.specs.Writing.{TellsNoMemory};
 ghost use Rattle.guard_streams.specs.Counting.{display_of};
 ghost use Rattle.guard_streams.specs.Shown.{Display};
 ghost use Rattle.guard_messages.specs.Questions.{question_view};
-ghost use Rattle.derguard_program.specs.Requests.{request_view, first, show, run, mux};
+ghost use Rattle.derguard_program.specs.Requests.{request_view, first, show};
 ghost use Rattle.derguard_program.specs.Meeting.{Meets, MeetsBy, Programs, Shows, answers_lines, asks_more_than_json, is_help, version_line};
 ghost use Rattle.clap.specs.Words.{kind_of};
 ghost use Rattle.clap.specs.declared.error.kind.ErrorKind.TheVariants.{DisplayVersion, OutOfMemory};
@@ -20,9 +20,7 @@ use guard_files::{Files, give, tell_no_memory, tell_text, write};
 use guard_frames::{Sink, Source};
 use guard_json::JsonLines;
 use guard_messages::{Question, decide_asked, first_run, show_asked};
-use guard_streams::{
-    Board, Counters, Says, ask, mux, mux_counting, mux_verbosely, run, run_counting, run_verbosely,
-};
+use guard_streams::{Board, Counters, Says, ask, mux, run};
 use std::alloc::{AllocError, Global};
 
 const JSON_NOT_ALONE: &str =
@@ -184,7 +182,7 @@ pub fn meet<F: Files, S: Source, O: Sink, E: Sink, T: Says, B: Board>(
             policy,
             verbose,
             counts,
-        } => guard_stream(
+        } => run(
             alloc, policy, *verbose, *counts, files, input, out, err, system, counters,
         ),
         Request::Ask { policy } => ask(alloc, policy, files, input, out, err),
@@ -192,7 +190,7 @@ pub fn meet<F: Files, S: Source, O: Sink, E: Sink, T: Says, B: Board>(
             policy,
             verbose,
             counts,
-        } => guard_links(
+        } => mux(
             alloc, policy, *verbose, *counts, files, input, out, err, system, counters,
         ),
     }
@@ -224,66 +222,6 @@ fn asks_more_than_json(question: &Question) -> bool
     ensures { result ≡ asks_more_than_json (question_view question.now) }
 {
     question.json && (question.explain || question.capture)
-}
-
-/// Guards the stream that comes in, with notes and with counters, where they are asked for.
-fn guard_stream<F: Files, S: Source, O: Sink, E: Sink, T: Says, B: Board>(
-    alloc: Global,
-    policy: &str,
-    verbose: bool,
-    counts: Option<&str>,
-    files: &mut F,
-    input: &mut S,
-    out: &mut O,
-    err: &mut E,
-    system: &T,
-    counters: &mut Counters<B>,
-) -> u8
-    ensures { Meets (F.told files.old) (display_of B.shown counters.old counters.new)
-        (run policy.now verbose (option_map (λ path. path.now) counts.entry))
-        (source_of S.tells S.takes S.has_failed input.old input.new)
-        (device_of O.taken O.has_failed out.old out.new)
-        (device_of E.taken E.has_failed err.old err.new) result }
-{
-    if let Some(place) = counts {
-        run_counting(
-            alloc, policy, place, verbose, files, input, out, err, system, counters,
-        )
-    } else if verbose {
-        run_verbosely(alloc, policy, files, input, out, err, system)
-    } else {
-        run(alloc, policy, files, input, out, err)
-    }
-}
-
-/// Guards the links of the records that come in, with notes and with counters, where they are asked for.
-fn guard_links<F: Files, S: Source, O: Sink, E: Sink, T: Says, B: Board>(
-    alloc: Global,
-    policy: &str,
-    verbose: bool,
-    counts: Option<&str>,
-    files: &mut F,
-    input: &mut S,
-    out: &mut O,
-    err: &mut E,
-    system: &T,
-    counters: &mut Counters<B>,
-) -> u8
-    ensures { Meets (F.told files.old) (display_of B.shown counters.old counters.new)
-        (mux policy.now verbose (option_map (λ path. path.now) counts.entry))
-        (source_of S.tells S.takes S.has_failed input.old input.new)
-        (device_of O.taken O.has_failed out.old out.new)
-        (device_of E.taken E.has_failed err.old err.new) result }
-{
-    if let Some(place) = counts {
-        mux_counting(
-            alloc, policy, place, verbose, files, input, out, err, system, counters,
-        )
-    } else if verbose {
-        mux_verbosely(alloc, policy, files, input, out, err, system)
-    } else {
-        mux(alloc, policy, files, input, out, err)
-    }
 }
 
 /// Shows what `clap` says of the words: help and the version on standard output, with status 0, and what is wrong with

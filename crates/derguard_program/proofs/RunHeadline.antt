@@ -9,35 +9,17 @@ use Rattle.guard_frames.specs.Runs.{RunsToEnd}
 use Rattle.guard_frames.specs.declared.running.RunFault.{RunFault}
 use Rattle.guard_frames.specs.declared.totals.Totals.{Totals}
 use Rattle.guard_files.specs.declared.fault.Fault.{Fault}
-use Rattle.guard_files.specs.declared.fault.Fault.TheVariants.{BadHex, CannotRead, TooLarge, Schema, Policy, Run, NoMemory}
+use Rattle.guard_files.specs.declared.fault.Fault.TheVariants.{Run}
 use Rattle.guard_files.specs.Devices.{Input, Device}
-use Rattle.guard_files.specs.Faults.{fault_status}
 use Rattle.guard_files.specs.Files.{Told}
-use Rattle.guard_files.specs.Writing.{TellsOctets, TellsWith}
 use Rattle.guard_streams.specs.Shown.{Display}
 use Rattle.guard_streams.specs.Stream.{GuardsStream, GuardsToEnd, GuardsUnder, Opens, TellsEnd, TellsNone}
 use Rattle.guard_streams.specs.declared.counts.Counts.{Counts}
 use Rattle.guard_streams.specs.declared.seen.Seen.{Seen}
 use Rattle.derguard_program.specs.RunHeadline.{KeepsHeadline}
+use Rattle.derguard_program.proofs.Statuses.{with_least}
 
--- ---- a fault has a status of 2 or 3
-
-fault_least : (f : Fault) → 2 ≤ fault_status f
-fault_least BadHex = omega arith
-fault_least (CannotRead file obstacle) = omega arith
-fault_least (TooLarge file) = omega arith
-fault_least (Schema f) = omega arith
-fault_least (Policy f) = omega arith
-fault_least (Run f) = omega arith
-fault_least NoMemory = omega arith
-
-octets_least : (octets : List ℕ) (k status : ℕ) (err : Device) → 2 ≤ k → TellsOctets octets k err status → 2 ≤ status
-octets_least octets k status err least (inl (all, same)) = omega (arith, same, least)
-octets_least octets k status err least (inr (part, same)) = omega (arith, same)
-
-with_least : (f : Fault) (note : List ℕ) (err : Device) (status : ℕ) → TellsWith f note err status → 2 ≤ status
-with_least f note err status (inl (text, is, told)) = octets_least _ (fault_status f) status err (fault_least f) told
-with_least f note err status (inr told) = octets_least _ 3 status err (omega arith) told
+-- ---- a fault has a status of at least 2
 
 none_least : (verbose : Bool) (f : Fault) (err : Device) (status : ℕ) → TellsNone verbose f err status → 2 ≤ status
 none_least true f err status (line, is, told) = with_least f line err status told

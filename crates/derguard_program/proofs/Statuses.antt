@@ -5,6 +5,7 @@ use Rattle.std.proofs.lemmas.Option.{none-some}
 use Rattle.std.specs.Io.KnownBytes.{Appends}
 use Rattle.guard_policy.specs.Policies.{AbstractPolicy}
 use Rattle.guard_frames.specs.declared.link.LinkFault.{LinkFault}
+use Rattle.guard_frames.specs.declared.running.RunFault.TheVariants as run
 use Rattle.guard_frames.specs.Added.{Added}
 use Rattle.guard_frames.specs.Gateways.{AbstractGateway, AbstractEvent}
 use Rattle.guard_frames.specs.LinkView.{AbstractLink}
@@ -26,7 +27,7 @@ use Rattle.guard_streams.specs.declared.seen.Seen.{Seen}
 use Rattle.guard_streams.specs.Shown.{Shown, Display}
 use Rattle.guard_streams.specs.Stream.{Opens, TellsNone}
 use Rattle.guard_streams.specs.Tallying.{IsSeen}
-use Rattle.guard_streams.specs.Verbose.{TellsNotes}
+use Rattle.guard_streams.specs.Verbose.{TellsNotes, fault_lines}
 use Rattle.guard_streams.specs.Turns.{AbstractMux, Written, Happens, PassesOn, InTurn, all_err, status_of, link_status, renewed_note, renewed_seen}
 use Rattle.guard_streams.proofs.Turning.{all_err-append, status_of-append}
 
@@ -39,14 +40,22 @@ fault_most (Policy f) = omega arith
 fault_most (Run f) = omega arith
 fault_most NoMemory = omega arith
 
-fault_some : (f : Fault) → fault_status f ≡ 0 → ⊥
-fault_some BadHex e = omega arith
-fault_some (CannotRead file obstacle) e = omega arith
-fault_some (TooLarge file) e = omega arith
-fault_some (Schema f) e = omega arith
-fault_some (Policy f) e = omega arith
-fault_some (Run f) e = omega arith
-fault_some NoMemory e = omega arith
+fault_least : (f : Fault) → 2 ≤ fault_status f
+fault_least BadHex = omega arith
+fault_least (CannotRead file obstacle) = omega arith
+fault_least (TooLarge file) = omega arith
+fault_least (Schema f) = omega arith
+fault_least (Policy f) = omega arith
+fault_least (Run f) = omega arith
+fault_least NoMemory = omega arith
+
+octets_least : (octets : List ℕ) (k status : ℕ) (err : Device) → 2 ≤ k → TellsOctets octets k err status → 2 ≤ status
+octets_least octets k status err least (inl (all, same)) = omega (arith, same, least)
+octets_least octets k status err least (inr (part, same)) = omega (arith, same)
+
+pub with_least : (f : Fault) (note : List ℕ) (err : Device) (status : ℕ) → TellsWith f note err status → 2 ≤ status
+with_least f note err status (inl (text, is, told)) = octets_least _ (fault_status f) status err (fault_least f) told
+with_least f note err status (inr told) = octets_least _ 3 status err (omega arith) told
 
 octets_most : (octets : List ℕ) (k status : ℕ) (err : Device) → k ≤ 3 → TellsOctets octets k err status → status ≤ 3
 octets_most octets k status err most (inl (all, same)) = omega (arith, same, most)
@@ -110,7 +119,8 @@ line_most f line status (inl (text, is, same, greatest)) = let most = fault_most
 line_most f line status (inr (same, greatest)) = omega arith
 
 line_some : (f : Fault) (line : List ℕ) (status : ℕ) → IsFaultLine f line status → status ≡ 0 → ⊥
-line_some f line status (inl (text, is, same, greatest)) none = fault_some f (sym greatest ∙ none)
+line_some f line status (inl (text, is, same, greatest)) none =
+    let least = fault_least f in omega (arith, least, greatest, none)
 line_some f line status (inr (same, greatest)) none = omega arith
 
 happens_most : (path : List ℕ) (r : Record) (old new : AbstractMux) (w : Written) → Happens path old r w new
@@ -176,8 +186,10 @@ turns_quiet path (r ∷ rs) old new ws h quiet =
 stop_most : (seen : Option Seen) (s : Stop) (err : Device) (status : ℕ) → TellsStopWith seen s err status → status ≤ 3
 stop_most None s err status told = let three = stop_is s err status told in omega (arith, three)
 stop_most (Some seen) BadRecord err status told = notes_most _ 3 status err (omega arith) told
-stop_most (Some seen) ReadFailed err status (said, is, told) = with_most _ _ err status told
-stop_most (Some seen) WriteFailed err status (said, is, told) = with_most _ _ err status told
+stop_most (Some seen) ReadFailed err status (said, is, told) =
+    with_most (Run run.ReadFailed) (fault_lines run.ReadFailed said seen) err status told
+stop_most (Some seen) WriteFailed err status (said, is, told) =
+    with_most (Run run.WriteFailed) (fault_lines run.WriteFailed said seen) err status told
 stop_most (Some seen) ErrorFailed err status (same, is) = omega (arith, is)
 
 guarded_most : (seen : Option Seen) (greatest : ℕ) (err : Device) (status : ℕ) → greatest ≤ 3
@@ -185,21 +197,16 @@ guarded_most : (seen : Option Seen) (greatest : ℕ) (err : Device) (status : �
 guarded_most None greatest err status most (same, is) = omega (arith, is, most)
 guarded_most (Some seen) greatest err status most told = notes_most _ greatest status err most told
 
-octets_zero : (octets : List ℕ) (k status : ℕ) (err : Device) → (k ≡ 0 → ⊥) → TellsOctets octets k err status
-    → status ≡ 0 → ⊥
-octets_zero octets k status err some (inl (all, same)) none = some (sym same ∙ none)
-octets_zero octets k status err some (inr (part, same)) none = omega arith
-
-with_zero : (f : Fault) (note : List ℕ) (err : Device) (status : ℕ) → TellsWith f note err status → status ≡ 0 → ⊥
-with_zero f note err status (inl (text, is, told)) none = octets_zero _ (fault_status f) status err (fault_some f) told none
-with_zero f note err status (inr told) none = octets_zero _ 3 status err (λ e. omega arith) told none
-
 stop_zero : (seen : Option Seen) (s : Stop) (err : Device) (status : ℕ) → TellsStopWith seen s err status → status ≡ 0 → ⊥
 stop_zero None s err status told none = let three = stop_is s err status told in omega (arith, three, none)
-stop_zero (Some seen) BadRecord err status (inl told) none = octets_zero _ 3 status err (λ e. omega arith) told none
-stop_zero (Some seen) BadRecord err status (inr told) none = octets_zero _ 3 status err (λ e. omega arith) told none
-stop_zero (Some seen) ReadFailed err status (said, is, told) none = with_zero _ _ err status told none
-stop_zero (Some seen) WriteFailed err status (said, is, told) none = with_zero _ _ err status told none
+stop_zero (Some seen) BadRecord err status (inl told) none =
+    let least = octets_least _ 3 status err (omega arith) told in omega (arith, least, none)
+stop_zero (Some seen) BadRecord err status (inr told) none =
+    let least = octets_least _ 3 status err (omega arith) told in omega (arith, least, none)
+stop_zero (Some seen) ReadFailed err status (said, is, told) none =
+    let least = with_least (Run run.ReadFailed) (fault_lines run.ReadFailed said seen) err status told in omega (arith, least, none)
+stop_zero (Some seen) WriteFailed err status (said, is, told) none =
+    let least = with_least (Run run.WriteFailed) (fault_lines run.WriteFailed said seen) err status told in omega (arith, least, none)
 stop_zero (Some seen) ErrorFailed err status (same, is) none = omega (arith, is, none)
 
 -- ---- the whole stream
@@ -253,7 +260,7 @@ ends_silent (Err s) path place first input out err reported last display quiet (
 
 pub links_silent : (told : Told) (path : List ℕ) (shows : Display) (input : Input) (out err : Device)
     → GuardsLinks false None told path shows input out err 0 → Appends err.before err.after []
-links_silent told path shows input out err (inl h) = absurd (with_zero h.0 [] err 0 h.5 refl)
+links_silent told path shows input out err (inl h) = let least = with_least h.0 [] err 0 h.5 in absurd (omega (arith, least))
 links_silent told path shows input out err (inr (p, digest, later, is, since, h)) =
     subst (λ (s : Option (List ℕ)). Appends s err.after []) h.noted
     (ends_silent h.result path None _ input out (record err { before = h.said }) h.reported _ _ refl h.ends)

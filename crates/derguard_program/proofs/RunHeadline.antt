@@ -1,5 +1,7 @@
 -- A run whose status says that there was no fault keeps the headline.
-use Rattle.std.proofs.Common.{◌≡◌, ◌≤◌, inl, inr, ℕ, Bool, true, false, List, Option, Some, None, Result, Ok, Err, sym, subst, arith}
+use Rattle.std.proofs.Common.{◌≡◌, ◌≤◌, inl, inr, ℕ, Bool, true, false, List, [], ◌++◌, Option, Some, None, Result, Ok, Err, sym, subst, arith}
+use Rattle.std.specs.Io.KnownBytes.{Appends}
+use Rattle.std.proofs.KnownBytes.{Appends-nil, Appends-trans}
 use Rattle.guard_policy.specs.Policies.{AbstractPolicy}
 use Rattle.guard_frames.specs.Added.{Added, Octets, Moves}
 use Rattle.guard_frames.specs.Headline.{IsGuarded}
@@ -13,10 +15,10 @@ use Rattle.guard_files.specs.declared.fault.Fault.TheVariants.{Run}
 use Rattle.guard_files.specs.Devices.{Input, Device}
 use Rattle.guard_files.specs.Files.{Told}
 use Rattle.guard_streams.specs.Shown.{Display}
-use Rattle.guard_streams.specs.Stream.{GuardsStream, GuardsToEnd, GuardsUnder, Opens, TellsEnd, TellsNone}
+use Rattle.guard_streams.specs.Stream.{GuardsStream, GuardsToEnd, GuardsUnder, IsNoted, Opens, TellsEnd, TellsNone}
 use Rattle.guard_streams.specs.declared.counts.Counts.{Counts}
 use Rattle.guard_streams.specs.declared.seen.Seen.{Seen}
-use Rattle.derguard_program.specs.RunHeadline.{KeepsHeadline}
+use Rattle.derguard_program.specs.RunHeadline.{KeepsHeadline, KeepsBetween}
 use Rattle.derguard_program.proofs.Statuses.{with_least}
 
 -- ---- a fault has a status of at least 2
@@ -61,25 +63,57 @@ module _ (law : (p : AbstractPolicy) (read : List ℕ) (totals : Totals) (added 
       ended verbose h.result p digest place input (out.before, out.after) (h.begun, h.reported) _ h.link h.counts
       h.is_first display _ _ status h.guards h.told low
 
+  -- what notes add before the reports, and behind them
   opened : (verbose : Bool) (place : Option (List ℕ)) (p : AbstractPolicy) (digest : List ℕ) (display : Display)
       (input : Input) (out err : Device) (status : ℕ) (Nothing : Type 0)
       → Opens verbose digest Nothing err status
       (λ behind. GuardsToEnd verbose place p digest display input out behind status) → status ≤ 1
-      → (behind : Device) × GuardsToEnd verbose place p digest display input out behind status
-  opened true place p digest display input out err status Nothing (inl (begun, appends, so)) low = (record err { before = begun }, so)
+      → (begun : Option (List ℕ)) × (first : List ℕ) × Appends err.before begun first
+      × GuardsToEnd verbose place p digest display input out (record err { before = begun }) status
+  opened true place p digest display input out err status Nothing (inl (begun, said, so)) low = (begun, _, said, so)
   opened true place p digest display input out err status Nothing (inr (nothing, failed, is, part)) low = absurd (omega (arith, is, low))
-  opened false place p digest display input out err status Nothing so low = (err, so)
+  opened false place p digest display input out err status Nothing so low = (err.before, [], Appends-nil err.before, so)
+
+  unchanged : (a b : Option (List ℕ)) → b ≡ a → Appends a b []
+  unchanged a b same = subst (λ (x : Option (List ℕ)). Appends a x []) (sym same) (Appends-nil a)
+
+  note_first : (place : Option (List ℕ)) (is : Bool) (a b : Option (List ℕ)) → IsNoted place is a b
+      → (note : List ℕ) × Appends a b note
+  note_first None is a b same = ([], unchanged a b same)
+  note_first (Some path) true a b same = ([], unchanged a b same)
+  note_first (Some path) false a b (inl same) = ([], unchanged a b same)
+  note_first (Some path) false a b (inr (inl said)) = (_, said)
+  note_first (Some path) false a b (inr (inr (part, proper, said))) = (part, said)
+
+  notes_last : (verbose : Bool) (result : Result (Unit {0}) RunFault) (s : Seen) (err : Device) (status : ℕ)
+      → TellsEnd verbose result s err status → status ≤ 1 → (last : List ℕ) × Appends err.before err.after last
+  notes_last true (Ok done) s err status (inl (inl (all, is))) low = (_, all)
+  notes_last true (Ok done) s err status (inl (inr (part, is))) low = absurd (omega (arith, is, low))
+  notes_last true (Ok done) s err status (inr (inl (all, is))) low = absurd (omega (arith, is, low))
+  notes_last true (Ok done) s err status (inr (inr (part, is))) low = absurd (omega (arith, is, low))
+  notes_last false (Ok done) s err status (same, is) low = ([], unchanged err.before err.after same)
+  notes_last verbose (Err f) s err status told low =
+      let least = end_least verbose f s err status told in absurd (omega (arith, least, low))
 
   pub keeps : (verbose : Bool) (place : Option (List ℕ)) (told : Told) (path : List ℕ) (display : Display) (input : Input)
       (out err : Device) (status : ℕ) → GuardsStream verbose place told path display input out err status → status ≤ 1
-      → (begun : Option (List ℕ)) × (reported : Option (List ℕ))
-      × KeepsHeadline told path input (out.before, out.after) (begun, reported)
+      → KeepsBetween told path input out err
   keeps verbose place told path display input out err status (inl (f, none, unread, untouched, same, tells)) low =
       let least = none_least verbose f err status tells in absurd (omega (arith, least, low))
   keeps verbose place told path display input out err status (inr (p, digest, (text, modules, are, say, is), opens)) low =
       let o = opened verbose place p digest display input out err status _ opens low in
-      let moves = to_end verbose place p digest display input out o.0 status o.1 low in
-      (o.1.begun, o.1.reported, (text, modules, p, are, say, moves))
+      let h = o.3 in
+      let note = note_first place h.is_first o.0 h.begun h.noted in
+      let last = notes_last verbose h.result _ (record err { before = h.reported }) status h.told low in
+      let moves = to_end verbose place p digest display input out (record err { before = o.0 }) status h low in (
+        h.begun,
+        h.reported,
+        o.1 ++ note.0,
+        last.0,
+        Appends-trans err.before o.0 h.begun o.1 note.0 o.2 note.1,
+        (text, modules, p, are, say, moves),
+        last.1,
+      )
 
   plain_end : (p : AbstractPolicy) (digest : List ℕ) (display : Display) (input : Input) (out err : Device) (status : ℕ)
       (result : Result (Unit {0}) RunFault) (s : Seen) (reported : Option (List ℕ))

@@ -15,7 +15,7 @@ ghost use Rattle.guard_streams.specs.Turns.{AbstractMux, Written, InTurn};
 ghost use Rattle.guard_streams.specs.declared.seen.Seen.{Seen};
 ghost use Rattle.guard_authors.specs.Encodes.{IsEncoding};
 ghost use Rattle.derguard_program.specs.Requests.{AbstractRequest};
-ghost use Rattle.derguard_program.specs.RunHeadline.{KeepsHeadline};
+ghost use Rattle.derguard_program.specs.RunHeadline.{KeepsBetween, KeepsHeadline};
 ghost use Rattle.derguard_program.specs.Words.{Asks, joined, the_app};
 ghost use Rattle.guard_der.specs.Der.{der};
 ghost use Rattle.guard_der.specs.Fits.{fits};
@@ -45,13 +45,13 @@ pub fn law_one_request()
 
 /// The headline, of the program's own call: where the status of `run` says that nothing failed, the texts at the path
 /// say a policy, and what was read is frames, of which those come out that may go, in order and octet by octet, and each
-/// other one is reported. Where neither notes nor counters are asked for, standard error takes nothing else.
+/// other one is reported, with notes before and behind the reports where they are asked for. Where neither notes nor
+/// counters are, standard error takes nothing else.
 pub fn law_headline_of_run()
     ensures run { (verbose : Bool) (place : Option (List ℕ)) (told : Told) (path : List ℕ) (shows : Display)
         (input : Input) (out err : Device) (status : ℕ) →
         GuardsStream verbose place told path shows input out err status → status ≤ 1 →
-        (begun : Option (List ℕ)) × (reported : Option (List ℕ))
-        × KeepsHeadline told path input (out.before, out.after) (begun, reported) }
+        KeepsBetween told path input out err }
     ensures plain { (told : Told) (path : List ℕ) (shows : Display) (input : Input) (out err : Device) (status : ℕ) →
         GuardsStream false None told path shows input out err status → status ≤ 1 →
         KeepsHeadline told path input (out.before, out.after) (err.before, err.after) }

@@ -1,6 +1,7 @@
--- Lists of which no element is kept: what is read of their elements in turn, and that so long a list is refused.
+-- Lists of which no element is kept: what is read of their elements in turn, and that so long a list is refused, by the
+-- first fault of its elements where one denotes nothing.
 use Rattle.std.proofs.Common.{◌≡◌, inl, inr, ℕ, suc, ◌+◌, ◌-◌, ◌≤◌, ◌<◌, Bool, true, false, ◌&&◌, cond, List, [], ◌∷◌, ◌++◌, length, map, drop, get_or, Option, Some, None, Ok, Err, refl, sym, ap, subst, ◌∙◌, IsTrue, arith, append_assoc}
-use Rattle.std.specs.Prelude.{nat_le, nat_eq}
+use Rattle.std.specs.Prelude.{nat_le, nat_eq, slice_get, IfSome}
 use Rattle.std.specs.Option.{is_some}
 use Rattle.std.proofs.lemmas.Bool.{and_parts, and_from, le-leb, lt-leb, eqb-true}
 use Rattle.std.proofs.lemmas.List.{at_drop_more, at_drop_all, append-nil, length-append}
@@ -38,21 +39,25 @@ use Rattle.guard_syntax.specs.declared.tree.ValueForm.{ValueForm}
 use Rattle.guard_syntax.specs.declared.tree.ValueTree.{ValueTree}
 use Rattle.guard_syntax.specs.Trees.{WrittenValue, WrittenEntries, WrittenEntry, WrittenAssignment, value_node, no_entries, entry, entries_of}
 use Rattle.guard_syntax.specs.Views.{entry_view, value_view, value_form_view}
+use Rattle.guard_values.specs.declared.fault.ValueFault.{ValueFault}
 use Rattle.guard_values.specs.declared.fault.ValueFault.TheVariants as value_fault
 use Rattle.guard_values.specs.Denotes.{Says, EntriesSay, Denotes}
+use Rattle.guard_values.specs.Faults.{faults_of, faults_of_elements, faults_of_element_name, faults_of_count}
+use Rattle.guard_values.specs.FirstFault.{IsFirstFault}
 use Rattle.guard_values.specs.Meanings.{Meaning, AreFitting}
 use Rattle.guard_values.specs.inside.Reading.{room_without}
 use Rattle.guard_values.proofs.Braces.EntriesInTurn.{value_view_is, form_list}
 use Rattle.guard_values.proofs.Counting.CountedLists.{items_joined, last_counted}
 use Rattle.guard_values.proofs.Counting.CountedValues.{in_tags_counted}
 use Rattle.guard_values.proofs.Fitting.DenotedValuesFit.{says_fits}
+use Rattle.guard_values.proofs.OneAnswer.FaultOrValue.{says_faultless, first_excludes}
 use Rattle.guard_constraints.specs.Visible.{Visible}
 use Rattle.guard_schema.specs.Building.{Assigns, HasValue, KeepsLimit}
 use Rattle.guard_schema.specs.Counting.{held, value_nodes, nodes_of_items, all_held}
-use Rattle.guard_schema.specs.Faults.{AbstractFault, DefaultOutside, TooLarge, Outcome}
+use Rattle.guard_schema.specs.Faults.{AbstractFault, Value, DefaultOutside, TooLarge, Outcome}
 use Rattle.guard_schema.specs.Known.{Built, Known}
 use Rattle.guard_schema.specs.Outcomes.{Is, Then, RefusesBy}
-use Rattle.guard_schema.specs.inside.LongLists.{AreRead, ReadsAndHolds}
+use Rattle.guard_schema.specs.inside.LongLists.{AreRead, IsFirstOfElements, ReadsAndHolds}
 use Rattle.guard_schema.proofs.Sound.Shaped.{element_shaped}
 
 -- ---- elements in turn
@@ -71,19 +76,35 @@ every_last test [] v = and_true (test v)
 every_last test (w ∷ ws) v = ap (λ (b : Bool). test w && b) (every_last test ws v)
     ∙ and_grouped (test w) (every_item test (items_of ws)) (test v)
 
+-- the first fault of some is that of these and more
+first_then : (fs more : List ValueFault) (f : ValueFault) → slice_get fs 0 ≡ Some f → slice_get (fs ++ more) 0 ≡ Some f
+first_then [] more f e = absurd cc
+first_then (g ∷ fs) more f e = e
+
+first_between : (name fs more : List ValueFault) (f : ValueFault) → slice_get (name ++ (fs ++ [])) 0 ≡ Some f
+    → slice_get (name ++ (fs ++ more)) 0 ≡ Some f
+first_between [] fs more f e = first_then fs more f (subst (λ gs. slice_get gs 0 ≡ Some f) (append-nil fs) e)
+first_between (g ∷ name) fs more f e = e
+
 module _ (m : Meaning) (u : AbstractType) where
-  said_first : (e : WrittenEntry) (rest : WrittenEntries) (tree : WrittenValue) (v : AbstractValue)
-      (more : List AbstractValue) → e.name ≡ None → e.value ≡ tree → Says m u tree v → EntriesSay m u rest more
+  said_first : (e : WrittenEntry) (rest : WrittenEntries) (v : AbstractValue) (more : List AbstractValue)
+      → e.name ≡ None → Says m u e.value v → EntriesSay m u rest more
       → EntriesSay m u (entry e.site e.name e.value rest) (v ∷ more)
-  said_first e rest tree v more none is said others =
+  said_first e rest v more none said others =
       subst (λ name. EntriesSay m u (entry e.site name e.value rest) (v ∷ more)) (sym none)
-      (v, more, subst (λ w. Says m u w v) (sym is) said, others, refl)
+      (v, more, said, others, refl)
 
   module _ (entries : List EntryTree) where
     abbrev pub left : ℕ → WrittenEntries
     left i = entries_of (map entry_view (drop i entries))
 
-    -- The entries before this one are read: with values of those that are left they say all.
+    split : (i : ℕ) (e : EntryTree) → i < length entries → e ≡ get_or entries i e
+        → left i ≡ entry (entry_view e).site (entry_view e).name (entry_view e).value (left (i + 1))
+    split i e lt is =
+        at_drop_more (λ xs. entries_of (map entry_view xs)) entries i e lt
+        ∙ ap (λ (x : EntryTree). entry (entry_view x).site (entry_view x).name (entry_view x).value (left (i + 1))) (sym is)
+
+    -- The entries before this one are read: with values of those that are left they say all, and they have no fault.
     abbrev pub AreReadTo : ℕ → Bool → ℕ → Type 0
     AreReadTo i all room =
         (vs : List AbstractValue)
@@ -91,27 +112,45 @@ module _ (m : Meaning) (u : AbstractType) where
         → EntriesSay m u (entries_of (map entry_view entries)) (vs ++ more))
         × (all ≡ every_item (is_member u) (items_of vs))
         × (short_length (items_joined u vs) ≡ Some (longest_encoding - room)) × (length vs ≡ i)
+        × (faults_of_elements m u (left i) ≡ faults_of_elements m u (entries_of (map entry_view entries)))
 
-    pub one_read : (i room n : ℕ) (all after : Bool) (e : EntryTree) (tree : WrittenValue) (v : AbstractValue)
-        → i < length entries → e ≡ get_or entries i e → (entry_view e).name ≡ None → (entry_view e).value ≡ tree
-        → Says m u tree v → Some n ≡ short_length (der u v) → n ≤ room → room ≤ longest_encoding
+    pub one_read : (i room n : ℕ) (all after : Bool) (e : EntryTree) (v : AbstractValue)
+        → i < length entries → e ≡ get_or entries i e → (entry_view e).name ≡ None
+        → Says m u (entry_view e).value v → Some n ≡ short_length (der u v) → n ≤ room → room ≤ longest_encoding
         → after ≡ (all && is_member u v) → AreReadTo i all room → AreReadTo (i + 1) after (room - n)
-    one_read i room n all after e tree v lt is none alone said counted within low member h =
+    one_read i room n all after e v lt is none said counted within low member h =
         let w = entry_view e in
-        let here : left i ≡ entry w.site w.name w.value (left (i + 1)) =
-        at_drop_more (λ xs. entries_of (map entry_view xs)) entries i e lt
-        ∙ ap (λ (x : EntryTree). entry (entry_view x).site (entry_view x).name (entry_view x).value (left (i + 1))) (sym is) in
+        let here = split i e lt is in
         let took : room_without w.site room (short_length (der u v)) ≡ Ok (room - n) =
         ap (room_without w.site room) (sym counted)
-        ∙ ap (λ (b : Bool). cond b (Ok (room - n)) (Err (value_fault.TooLarge w.site))) (le-leb n room within) in (
+        ∙ ap (λ (b : Bool). cond b (Ok (room - n)) (Err (value_fault.TooLarge w.site))) (le-leb n room within) in
+        let faultless : faults_of_elements m u (entry w.site w.name w.value (left (i + 1)))
+        ≡ faults_of_elements m u (left (i + 1)) =
+        ap (λ name. faults_of_element_name w.site name ++ (faults_of m u w.value ++ faults_of_elements m u (left (i + 1)))) none
+        ∙ ap (λ fs. fs ++ faults_of_elements m u (left (i + 1))) (says_faultless m w.value u v said) in (
           h.0 ++ v ∷ [],
           λ more others.
               subst (EntriesSay m u (entries_of (map entry_view entries))) (sym (append_assoc h.0 (v ∷ []) more))
-              (h.1 (v ∷ more) (subst (λ es. EntriesSay m u es (v ∷ more)) (sym here) (said_first w (left (i + 1)) tree v more
-              none alone said others))),
+              (h.1 (v ∷ more) (subst (λ es. EntriesSay m u es (v ∷ more)) (sym here) (said_first w (left (i + 1)) v more
+              none said others))),
           member ∙ ap (λ (b : Bool). b && is_member u v) h.2 ∙ sym (every_last (is_member u) h.0 v),
           (last_counted u h.0 v w.site room (room - n) h.3 low took).0,
           length-append h.0 (v ∷ []) ∙ ap (λ (k : ℕ). k + 1) h.4,
+          sym (ap (faults_of_elements m u) here ∙ faultless) ∙ h.5,
+        )
+
+    -- the fault that is told of the next one
+    pub faulty_elements : (i room : ℕ) (all : Bool) (e : EntryTree) (told : Option ValueFault) → i < length entries
+        → e ≡ get_or entries i e → AreReadTo i all room
+        → IfSome told (IsFirstOfElements m u (entry (entry_view e).site (entry_view e).name (entry_view e).value no_entries))
+        → IfSome told (IsFirstOfElements m u (entries_of (map entry_view entries)))
+    faulty_elements i room all e None lt is h first = tt
+    faulty_elements i room all e (Some f) lt is h first =
+        let w = entry_view e in (
+          first.0,
+          subst (λ fs. slice_get fs 0 ≡ Some f) (sym (ap (faults_of_elements m u) (split i e lt is)) ∙ h.5)
+              (first_between (faults_of_element_name w.site w.name) (faults_of m u w.value)
+              (faults_of_elements m u (left (i + 1))) f first.1),
         )
 
     pub all_read : (i room : ℕ) (all : Bool) → i ≡ length entries → AreReadTo i all room
@@ -259,14 +298,44 @@ module _ (names : Visible) (fit : AreFitting names.values) (t : AbstractType) (t
     by true e = too_large before name e long
     by false e = one_outside before name e
 
--- such a list as the code has it
-pub record Listed (names : Visible) (ty : Ty) (element : Box Ty) (tree : ValueTree) (entries : Vec EntryTree)
-    (all : Bool) (octets : ℕ) : Type 0 where
-  pub fit : AreFitting names.values
+-- ---- refused by a fault of an element
+
+module _ (names : Visible) (t : AbstractType) (tags : List Tag) (u : AbstractType)
+    (is : t ≡ type_of tags (type.sequence_of u) no_constraints) (site : Site) (es : WrittenEntries)
+    (sound : IsTrue (is_sound t)) (f : ValueFault) (first : IsFirstOfElements names.values u es f) where
+  first_of_list : IsFirstFault names.values t (value_node site (written.list es)) f
+  first_of_list =
+      inl (subst (λ x. slice_get (faults_of names.values x (value_node site (written.list es))) 0 ≡ Some f) (sym is)
+      (first_then (faults_of_elements names.values u es) (faults_of_count site es) f first.1))
+
+  element_refused : (before : ℕ) (name : Site)
+      → ReadsAndHolds before name names t (value_node site (written.list es)) (Err (Value f))
+  element_refused before name = inr (
+    Value f,
+    inr (
+      Value f,
+      (
+        first.0,
+        first_of_list,
+        λ v d. first_excludes names.values (value_node site (written.list es)) t f v sound first_of_list d,
+      ),
+      refl,
+    ),
+    refl,
+  )
+
+-- ---- as the code has it
+
+pub record Listed (ty : Ty) (element : Box Ty) (tree : ValueTree) (entries : Vec EntryTree) : Type 0 where
   pub sound : IsTrue (is_sound (type_view ty))
   pub listed : (out-ValueTree tree).form ≡ variant.List entries
   pub kind : (out-Ty ty).kind ≡ SequenceOf element
   pub alone : (out-Ty ty).cons.items ≡ []
+
+-- such a list of which all elements are read
+pub record Counted (names : Visible) (ty : Ty) (element : Box Ty) (entries : Vec EntryTree) (all : Bool) (octets : ℕ)
+    : Type 0 where
+  pub fit : AreFitting names.values
   pub read : AreRead names.values (type_view element.value) (entries_of (map entry_view entries.items))
       (length entries.items) (all, octets)
   pub few : length entries.items ≤ 4294967295
@@ -274,27 +343,36 @@ pub record Listed (names : Visible) (ty : Ty) (element : Box Ty) (tree : ValueTr
   pub counted : whole ≡ length_in (out-Ty ty).tags.items (Some octets)
   pub short : is_some whole ≡ true
 
-module _ (names : Visible) (ty : Ty) (element : Box Ty) (tree : ValueTree) (entries : Vec EntryTree) (all : Bool)
-    (octets : ℕ) (l : Listed names ty element tree entries all octets) where
+module _ (names : Visible) (ty : Ty) (element : Box Ty) (tree : ValueTree) (entries : Vec EntryTree)
+    (l : Listed ty element tree entries) where
   type_is : type_view ty
       ≡ type_of (out-Ty ty).tags.items (type.sequence_of (type_view element.value)) no_constraints
   type_is = listed_type ty element l.kind l.alone
 
-  tree_is : value_view tree ≡ value_node (out-ValueTree tree).site
-      (written.list (entries_of (map entry_view entries.items)))
+  abbrev es : WrittenEntries
+  es = entries_of (map entry_view entries.items)
+
+  tree_is : value_view tree ≡ value_node (out-ValueTree tree).site (written.list es)
   tree_is = value_view_is tree
       ∙ ap (λ (f : ValueForm). value_node (out-ValueTree tree).site (value_form_view f)) l.listed
       ∙ ap (value_node (out-ValueTree tree).site) (form_list entries)
 
-  pub refused : 100000 ≤ length entries.items → (site : Site) (before : ℕ)
+  pub refused : (all : Bool) (octets : ℕ) → Counted names ty element entries all octets
+      → 100000 ≤ length entries.items → (site : Site) (before : ℕ)
       → ReadsAndHolds before site names (type_view ty) (value_view tree)
       (Err (cond all (TooLarge site) (DefaultOutside (out-ValueTree tree).site)))
-  refused long site before =
+  refused all octets c long site before =
       subst (λ w. ReadsAndHolds before site names (type_view ty) w (Err (cond all (TooLarge site) (DefaultOutside
-      (out-ValueTree tree).site)))) (sym tree_is) (one_refused names l.fit (type_view ty) (out-Ty ty).tags.items
-      (type_view element.value) type_is (out-ValueTree tree).site (entries_of (map entry_view entries.items))
-      (length entries.items) all octets l.sound l.read l.few (short_whole ty (type_view element.value) type_is octets
-      l.whole l.counted l.short) before site long)
+      (out-ValueTree tree).site)))) (sym tree_is) (one_refused names c.fit (type_view ty) (out-Ty ty).tags.items
+      (type_view element.value) type_is (out-ValueTree tree).site es (length entries.items) all octets l.sound c.read
+      c.few (short_whole ty (type_view element.value) type_is octets c.whole c.counted c.short) before site long)
+
+  pub faulty : (f : ValueFault) → IsFirstOfElements names.values (type_view element.value) es f → (site : Site)
+      (before : ℕ) → ReadsAndHolds before site names (type_view ty) (value_view tree) (Err (Value f))
+  faulty f first site before =
+      subst (λ w. ReadsAndHolds before site names (type_view ty) w (Err (Value f))) (sym tree_is)
+      (element_refused names (type_view ty) (out-Ty ty).tags.items (type_view element.value) type_is
+      (out-ValueTree tree).site es l.sound f first before site)
 
 -- ---- what the definition has then
 

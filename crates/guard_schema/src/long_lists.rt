@@ -1,30 +1,36 @@
 //! Assigned values that are lists of so many values with places for components that no schema may hold them. A value
 //! takes memory for each place, also where nothing is in it, so each element is read and dropped.
-ghost use Rattle.std.specs.Prelude.{◌≡◌, ◌≤◌, ℕ, length, map, Some, None, IsTrue, IfErr, IfSome, if◌then◌else◌};
+ghost use Rattle.std.specs.Prelude.{◌≡◌, ◌≤◌, ℕ, length, map, Some, None, IsTrue, IfOk, IfErr, IfSome, if◌then◌else◌};
 ghost use Rattle.guard_constraints.specs.Views.{visible_in};
 ghost use Rattle.guard_der.specs.Encoding.{longest_encoding};
+ghost use Rattle.guard_der.specs.Fits.{fits};
 ghost use Rattle.guard_der.specs.Sound.{is_sound};
 ghost use Rattle.guard_model.specs.TypeView.{type_view};
 ghost use Rattle.guard_schema.specs.Faults.{named, DefaultOutside, TooLarge};
 ghost use Rattle.guard_schema.specs.Outcomes.{RefusesBy};
 ghost use Rattle.guard_schema.specs.Pairs.{AreBuilt};
-ghost use Rattle.guard_schema.specs.inside.LongLists.{AreRead, ReadsAndHolds};
-ghost use Rattle.guard_syntax.specs.Trees.{entries_of};
+ghost use Rattle.guard_schema.specs.inside.LongLists.{AreRead, IsFirstOfElements, ReadsAndHolds};
+ghost use Rattle.guard_syntax.specs.Trees.{entry as before, entries_of, no_entries};
 ghost use Rattle.guard_syntax.specs.Views as trees;
+ghost use Rattle.guard_values.specs.declared.fault.ValueFault.TheVariants as value_fault;
+ghost use Rattle.guard_values.specs.Denotes.{Says};
+ghost use Rattle.guard_values.specs.Views as values;
 
 use crate::fault::SchemaFault;
 use guard_der::{LONGEST_ENCODING, encoded_length, length_in};
 use guard_eval::proper_member;
 use guard_model::{Comp, Kind, MOST_ITEMS, Presence, Site, Ty, Value};
 use guard_syntax::{EntryTree, ValueForm, ValueTree};
-use guard_values::{Scope, shared_value};
+use guard_values::{Scope, ValueFault, shared_value};
 use std::alloc::Global;
+use std::sync::Arc;
 
 /// So many elements and the list itself are more values than all definitions may hold.
 const LONG: usize = 100_000;
 
-/// Refuses a value assignment, whose name is at the site, where its value is a list that is longer than may be: S2 where
-/// an element is no member, else S3. Of other values nothing is said, nor of a list that denotes nothing.
+/// Refuses a value assignment, whose name is at the site, where its value is a list that is longer than may be: by the
+/// first fault of its elements where one denotes nothing, S2 where an element is no member, else S3. Of other values
+/// nothing is said, nor of a list whose encoding, or that of an element before its first fault, may be too long.
 pub fn check_length(
     alloc: Global,
     scope: Scope,
@@ -46,8 +52,10 @@ pub fn check_length(
     {
         return Ok(());
     }
-    let Some((are_members, octets)) = elements_read(alloc, scope, entries, element) else {
-        return Ok(());
+    let (are_members, octets) = match elements_read(alloc, scope, entries, element) {
+        Ok(read) => read,
+        Err(Some(fault)) => return Err(SchemaFault::Value(fault)),
+        Err(None) => return Ok(()),
     };
     if length_in(&ty.tags, octets).is_none() {
         return Ok(());
@@ -114,45 +122,78 @@ fn is_number(value: &Value) -> bool {
     }
 }
 
-/// Whether all elements are members of the type, and how many octets their encodings have. None where an element denotes
-/// nothing, where all have more octets than an encoding may have, and where there is no memory for one.
+/// Whether all elements are members of the type, and how many octets their encodings have.
+///
+/// Errors: the first fault of the elements, where one denotes nothing. None where all have more octets than an encoding
+/// may have, and where `element_value` says nothing.
 fn elements_read(
     alloc: Global,
     scope: Scope,
     entries: &[EntryTree],
     ty: &Ty,
-) -> Option<(bool, usize)>
+) -> Result<(bool, usize), Option<ValueFault>>
     requires sound { IsTrue (is_sound (type_view ty.now)) }
     requires known { AreBuilt scope.known.now }
-    ensures read { IfSome result (AreRead (visible_in scope.entry).values (type_view ty.now)
+    ensures read { IfOk result (AreRead (visible_in scope.entry).values (type_view ty.now)
         (entries_of (map trees.entry_view entries.now)) (length entries.now)) }
-    ensures bound { IfSome result (λ x. x.1 ≤ longest_encoding) }
+    ensures bound { IfOk result (λ x. x.1 ≤ longest_encoding) }
+    ensures first { IfErr result (λ o. IfSome o (IsFirstOfElements (visible_in scope.entry).values (type_view ty.now)
+        (entries_of (map trees.entry_view entries.now)))) }
 {
-    let Scope { names, known, id } = scope;
     let mut are_members = true;
     let mut room = LONGEST_ENCODING;
     for entry in entries {
-        let tree = unnamed(entry)?;
-        let Ok(value) = shared_value(alloc, names, known, id, ty, tree) else {
-            return None;
+        let value = element_value(alloc, scope, entry, ty)?;
+        let Some(length) = encoded_length(ty, &value) else {
+            return Err(None);
         };
-        let length = encoded_length(ty, &value)?;
         if length > room {
-            return None;
+            return Err(None);
         }
         room -= length;
         are_members = are_members && proper_member(ty, &value);
     }
-    Some((are_members, LONGEST_ENCODING - room))
+    Ok((are_members, LONGEST_ENCODING - room))
 }
 
-/// The value of an entry without a name.
-fn unnamed<'t, 'a>(entry: &'t EntryTree<'a>) -> Option<&'t ValueTree<'a>>
-    ensures { IfSome result (λ tree. ((trees.entry_view entry.now).name ≡ None)
-        × ((trees.entry_view entry.now).value ≡ trees.value_view tree.now)) }
+/// The value of an element.
+///
+/// Errors: its first fault, which is V1 at an entry with a name. None where its encoding may be what is too long, and
+/// where there is no memory for its value.
+fn element_value(
+    alloc: Global,
+    scope: Scope,
+    entry: &EntryTree,
+    ty: &Ty,
+) -> Result<Arc<Value>, Option<ValueFault>>
+    requires sound { IsTrue (is_sound (type_view ty.now)) }
+    requires known { AreBuilt scope.known.now }
+    ensures said { IfOk result (λ v. ((trees.entry_view entry.now).name ≡ None) × Says (visible_in scope.entry).values
+        (type_view ty.now) (trees.entry_view entry.now).value (values.shared_view v)) }
+    ensures fits { IfOk result (λ v. IsTrue (fits (type_view ty.now) (values.shared_view v))) }
+    ensures first { IfErr result (λ o. IfSome o (IsFirstOfElements (visible_in scope.entry).values (type_view ty.now)
+        (before (trees.entry_view entry.now).site (trees.entry_view entry.now).name (trees.entry_view entry.now).value
+        no_entries))) }
 {
-    match entry {
-        EntryTree::Alone(value) => Some(value),
-        EntryTree::Named(_, _) => None,
+    let tree = match entry {
+        EntryTree::Alone(tree) => tree,
+        EntryTree::Named(_, _) => return Err(Some(ValueFault::WrongNotation(entry.site()))),
+    };
+    let Scope { names, known, id } = scope;
+    match shared_value(alloc, names, known, id, ty, tree) {
+        Ok(value) => Ok(value),
+        Err(fault) => Err(told(fault, tree.site)),
+    }
+}
+
+/// The fault of an element at the site, where it comes before those of later elements: V8 there may be said of its
+/// encoding, and these are looked at last.
+fn told(fault: ValueFault, site: Site) -> Option<ValueFault>
+    ensures { IfSome result (λ f. (f ≡ fault) × (values.named f ≡ Some f) × (f ≡ value_fault.TooLarge site → ⊥)) }
+{
+    match fault {
+        ValueFault::OutOfMemory => None,
+        ValueFault::TooLarge(place) => { if place == site { None } else { Some(fault) } }
+        _ => Some(fault),
     }
 }

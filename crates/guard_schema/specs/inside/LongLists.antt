@@ -1,5 +1,5 @@
 -- Assigned lists of which no element is kept: what is found out about their elements, and how they are refused.
-use Rattle.std.specs.Prelude.{◌≡◌, ℕ, Bool, List, length, Some}
+use Rattle.std.specs.Prelude.{◌≡◌, ℕ, Bool, List, length, slice_get, Some}
 use Rattle.guard_model.specs.declared.site.Site.{Site}
 use Rattle.guard_model.specs.AbstractType as type
 use Rattle.guard_model.specs.AbstractType.{AbstractType}
@@ -10,11 +10,14 @@ use Rattle.guard_der.specs.Encoding.{short_length}
 use Rattle.guard_eval.specs.Elements.{every_item}
 use Rattle.guard_eval.specs.Member.{is_member}
 use Rattle.guard_syntax.specs.Trees.{WrittenValue, WrittenEntries}
+use Rattle.guard_values.specs.declared.fault.ValueFault.{ValueFault}
 use Rattle.guard_values.specs.Denotes.{EntriesSay}
+use Rattle.guard_values.specs.Faults.{faults_of_elements}
 use Rattle.guard_values.specs.Meanings.{Meaning}
+use Rattle.guard_values.specs.Views as value_views
 use Rattle.guard_constraints.specs.Visible.{Visible}
 use Rattle.guard_schema.specs.Building.{KeepsLimit}
-use Rattle.guard_schema.specs.Faults.{Outcome}
+use Rattle.guard_schema.specs.Faults.{Outcome, IsNamed}
 use Rattle.guard_schema.specs.Outcomes.{Then}
 use Rattle.guard_schema.specs.Readings.{ReadsMember}
 
@@ -25,6 +28,10 @@ AreRead m u es count x =
     (vs : List AbstractValue) × EntriesSay m u es vs × (x.0 ≡ every_item (is_member u) (items_of vs))
     × (short_length (contents_octets (type.sequence_of u) (value.items (items_of vs))) ≡ Some x.1)
     × (length vs ≡ count)
+
+-- the first fault of the entries for elements, encodings that are too long aside
+abbrev pub IsFirstOfElements : Meaning → AbstractType → WrittenEntries → ValueFault → Type 0
+IsFirstOfElements m u es f = IsNamed value_views.named f × (slice_get (faults_of_elements m u es) 0 ≡ Some f)
 
 -- the value that is assigned, a member of its type, and S3 with so much before it
 abbrev pub ReadsAndHolds : ℕ → Site → Visible → AbstractType → WrittenValue → Outcome (Unit {0}) → Type 0

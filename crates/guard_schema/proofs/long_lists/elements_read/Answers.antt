@@ -1,10 +1,10 @@
 use Rattle.std.proofs.Common.{◌≡◌, ◌≤◌, Bool, ◌&&◌, sym, ap, ◌∙◌, arith}
+use Rattle.std.proofs.lemmas.Result.{err_from_is_err_and}
 use Rattle.guard_model.specs.TypeView.{type_view}
 use Rattle.guard_eval.specs.Member.{is_member}
-use Rattle.guard_syntax.specs.Views as trees
 use Rattle.guard_values.specs.Views.{shared_view}
 use Rattle.guard_constraints.specs.Views.{visible_in}
-use Rattle.guard_schema.proofs.LongLists.{one_read, all_read}
+use Rattle.guard_schema.proofs.LongLists.{one_read, faulty_elements, all_read}
 use Rattle.guard_schema.proofs.long_lists.elements_read.Goals as goal
 use Rattle.guard_schema.proofs.long_lists.elements_read.Goals.{then-are_members, else-are_members}
 
@@ -12,8 +12,9 @@ pub loop-entry-preserved : goal.loop-entry-preserved
 loop-entry-preserved c =
     let m = (visible_in c.args.scope).values in
     let u = type_view c.args.ty.now in
-    let v = shared_view c.in-Ok.value in
-    let within : c.in_ok-length.length ≤ c.loop-entry.room = omega (arith, c.if-length-room.false) in
+    let v = shared_view c.in_ok-value.value in
+    let said = c.in_ok-value.ensures.said in
+    let within : c.in-Some.length ≤ c.loop-entry.room = omega (arith, c.if-length-room.false) in
     let member : c.if-are_members.are_members ≡ (c.loop-entry.are_members && is_member u v) =
     elim c.if-are_members.branch [
       | then-are_members w ↦ w.are_members-is ∙ rw w.deref-then-are_members.ensures at w.proper_member-are_members.ensures
@@ -21,13 +22,19 @@ loop-entry-preserved c =
       | else-are_members w ↦ w.are_members-is ∙ w.if-are_members.false ∙ ap (λ (b : Bool). b && is_member u v) (sym w.if-are_members.false)
     ] in
     record {
-      read = one_read m u c.args.entries.now c.loop-entry.entry-index c.loop-entry.room c.in_ok-length.length
-          c.loop-entry.are_members c.if-are_members.are_members c.entry-item.result (trees.value_view c.in_ok-tree.tree.now)
-          v c.loop-entry-test.true c.entry-item.is c.in_ok-tree.ensures.0 c.in_ok-tree.ensures.1
-          c.in-Ok.ensures.denoted.0 (rw c.deref.ensures at c.in_ok-length.ensures) within c.loop-entry.invariant.low member
-          c.loop-entry.invariant.read;
+      read = one_read m u c.args.entries.now c.loop-entry.entry-index c.loop-entry.room c.in-Some.length
+          c.loop-entry.are_members c.if-are_members.are_members c.entry-item.result v c.loop-entry-test.true
+          c.entry-item.is said.0 said.1 (sym c.in-Some.is ∙ rw c.deref.ensures at c.encoded_length.ensures) within
+          c.loop-entry.invariant.low member c.loop-entry.invariant.read;
       low = omega (arith, c.loop-entry.invariant.low);
     }
+
+pub returns-in_err-value-clause-first : goal.returns-in_err-value-clause-first
+returns-in_err-value-clause-first c =
+    let p = err_from_is_err_and c.from_residual.result c.from_residual.ensures.1 in
+    rw (p.1, p.2) (faulty_elements (visible_in c.args.scope).values (type_view c.args.ty.now) c.args.entries.now
+    c.loop-entry.entry-index c.loop-entry.room c.loop-entry.are_members c.entry-item.result c.in_err-value.field-0.0
+    c.loop-entry-test.true c.entry-item.is c.loop-entry.invariant.read c.in_err-value.ensures.first)
 
 pub returns-clause-read : goal.returns-clause-read
 returns-clause-read c = all_read (visible_in c.args.scope).values (type_view c.args.ty.now) c.args.entries.now

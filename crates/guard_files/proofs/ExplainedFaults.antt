@@ -2,7 +2,7 @@
 use Rattle.std.proofs.Common.{◌≡◌, ℕ, Bool, true, false, List, [], inl, inr, refl, subst, sym}
 use Rattle.guard_notes.specs.Sources.{AbstractSources, sources}
 use Rattle.guard_files.specs.declared.fault.Fault.{Fault}
-use Rattle.guard_files.specs.declared.fault.Fault.TheVariants.{BadHex, CannotRead, TooLarge, Schema, Policy, Run, NoMemory}
+use Rattle.guard_files.specs.declared.fault.Fault.TheVariants.{CannotRead, TooLarge, Schema, Policy, Run, NoMemory}
 use Rattle.guard_files.specs.Explaining.{AreTextsOf, IsExplained, IsExplanation, IsNoPolicyWith, IsRefused}
 use Rattle.guard_files.specs.Files.{Told, HasText}
 use Rattle.guard_files.specs.Reading.{IsNoPolicyAt, IsUnreadable, SayNothing, SayNoneLoaded}
@@ -26,7 +26,6 @@ module _ (told : Told) (path note : List ℕ) where
   unread (CannotRead file obstacle) h e = (policy_unread told path (CannotRead file obstacle) h, e)
   unread (TooLarge file) h e = (policy_unread told path (TooLarge file) h, e)
   unread NoMemory h e = (inr (inr refl), e)
-  unread BadHex h e = absurd h
   unread (Schema f) h e = absurd h
   unread (Policy f) h e = absurd h
   unread (Run f) h e = absurd h
@@ -41,7 +40,6 @@ module _ (told : Told) (path note : List ℕ) where
     beside (Policy f) before missing e = (text, has, missing, e)
     beside (CannotRead file obstacle) before missing e = (missing, e)
     beside (TooLarge file) before missing e = (missing, e)
-    beside BadHex before missing e = (missing, e)
     beside (Run f) before missing e = (missing, e)
     beside NoMemory before missing e = (missing, e)
 
@@ -55,7 +53,6 @@ module _ (told : Told) (path note : List ℕ) where
     said_none : (f : Fault) → SayNothing modules text f → IsExplanation (sources path files modules) text f note → IsExplained told path f note
     said_none (Schema f) none e = (text, files, modules, are, none, e)
     said_none (Policy f) none e = (text, are.0, inr (inl (text, modules, (are.0, (files, are.1, are.2)), none)), e)
-    said_none BadHex none e = absurd none
     said_none (CannotRead file obstacle) none e = absurd none
     said_none (TooLarge file) none e = absurd none
     said_none (Run f) none e = absurd none

@@ -9,7 +9,7 @@ use Rattle.guard_frames.specs.declared.texts.TextsFault.{TextsFault}
 use Rattle.guard_frames.specs.declared.texts.TextsFault.TheVariants as texts
 use Rattle.guard_frames.specs.Texts.{SayPolicy, SayNone}
 use Rattle.guard_files.specs.declared.fault.Fault.{Fault}
-use Rattle.guard_files.specs.declared.fault.Fault.TheVariants.{BadHex, CannotRead, TooLarge, Schema, Policy, Run, NoMemory}
+use Rattle.guard_files.specs.declared.fault.Fault.TheVariants.{CannotRead, TooLarge, Schema, Policy, Run, NoMemory}
 use Rattle.guard_files.specs.Faults.{StandsForPolicy, of_texts}
 use Rattle.guard_files.specs.Files.{Told, after_read, HasText}
 use Rattle.guard_files.specs.Reading.{folder, AreTexts, IsUnreadable, SayNothing, IsNoPolicyAt}
@@ -21,7 +21,6 @@ module _ (told : Told) (path : List ℕ) where
   policy_unread (CannotRead file obstacle) h = inl (inl h)
   policy_unread (TooLarge file) h = inl h
   policy_unread NoMemory h = inr (inr refl)
-  policy_unread BadHex h = absurd h
   policy_unread (Schema f) h = absurd h
   policy_unread (Policy f) h = absurd h
   policy_unread (Run f) h = absurd h
@@ -41,7 +40,6 @@ module _ (told : Told) (path : List ℕ) where
     modules_unread files listed (CannotRead file obstacle) h = inl (inr (text, files, has, listed, h))
     modules_unread files listed (TooLarge file) h = absurd h
     modules_unread files listed NoMemory h = inr (inr refl)
-    modules_unread files listed BadHex h = absurd h
     modules_unread files listed (Schema f) h = absurd h
     modules_unread files listed (Policy f) h = absurd h
     modules_unread files listed (Run f) h = absurd h

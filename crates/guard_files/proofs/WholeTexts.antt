@@ -3,7 +3,7 @@ use Rattle.std.proofs.Common.{◌≡◌, ◌∙◌, ◌<◌, ◌≤◌, ap, min,
 use Rattle.std.specs.Prelude.{Option, Some, None, option_map}
 use Rattle.std.proofs.lemmas.List.{take_all}
 use Rattle.guard_files.specs.declared.fault.Fault.{Fault}
-use Rattle.guard_files.specs.declared.fault.Fault.TheVariants.{BadHex, CannotRead, TooLarge, Schema, Policy, Run, NoMemory}
+use Rattle.guard_files.specs.declared.fault.Fault.TheVariants.{CannotRead, TooLarge, Schema, Policy, Run, NoMemory}
 use Rattle.guard_files.specs.Files.{Told, IsAsTold, HasFirst, HasText, IsLarger, IsTooLarge}
 use Rattle.guard_files.specs.Reading.{HasNoFront, IsUnreadable}
 
@@ -40,7 +40,6 @@ larger told path text h many = go (told 0 path) h.0
 pub unreadable : (told : Told) (path : List ℕ) (f : Fault) → HasNoFront told path f → IsUnreadable told path f
 unreadable told path (CannotRead file obstacle) h = h
 unreadable told path NoMemory h = h
-unreadable told path BadHex h = h
 unreadable told path (TooLarge file) h = absurd h
 unreadable told path (Schema f) h = h
 unreadable told path (Policy f) h = h

@@ -5,15 +5,12 @@ use Rattle.guard_policy.specs.Loads.{ListsFiles}
 use Rattle.guard_notes.specs.Explaining.{IsSchemaNote, IsPolicyNote}
 use Rattle.guard_notes.specs.Sources.{AbstractSources, sources}
 use Rattle.guard_files.specs.declared.fault.Fault.{Fault}
-use Rattle.guard_files.specs.declared.fault.Fault.TheVariants.{BadHex, CannotRead, TooLarge, Schema, Policy, Run, NoMemory}
+use Rattle.guard_files.specs.declared.fault.Fault.TheVariants.{CannotRead, TooLarge, Schema, Policy, Run, NoMemory}
 use Rattle.guard_files.specs.declared.files.Obstacle.{Obstacle}
 use Rattle.guard_files.specs.declared.files.Obstacle.TheVariants.{Untold, NoFile, LostLink, Folder, NotAllowed}
 use Rattle.guard_files.specs.Files.{Told, HasText, after_read}
 use Rattle.guard_files.specs.Reading.{HaveTexts, IsNoPolicyAt, SayNothing, folder}
 pub use Rattle.guard_files.specs.Writing.{TellsWith}
-
-abbrev pub hex_note : List ℕ
-hex_note = codes "  A message is written by pairs of hexadecimal digits, 0 to 9 and a to f. Mend the digits.\n"
 
 -- what stands in the way, where that is known
 abbrev pub obstacle_line : Obstacle → List ℕ
@@ -38,7 +35,6 @@ IsExplanation s text (Schema f) note = IsSchemaNote s f note
 IsExplanation s text (Policy f) note = IsPolicyNote s.path text f note
 IsExplanation s text (CannotRead file obstacle) note = note ≡ unread_note obstacle
 IsExplanation s text (TooLarge file) note = note ≡ large_note
-IsExplanation s text BadHex note = note ≡ hex_note
 IsExplanation s text (Run f) note = note ≡ []
 IsExplanation s text NoMemory note = note ≡ []
 
@@ -66,7 +62,6 @@ IsExplained told path (Policy f) note =
 IsExplained told path (CannotRead file obstacle) note =
     IsNoPolicyAt told path (CannotRead file obstacle) × (note ≡ unread_note obstacle)
 IsExplained told path (TooLarge file) note = IsNoPolicyAt told path (TooLarge file) × (note ≡ large_note)
-IsExplained told path BadHex note = IsNoPolicyAt told path BadHex × (note ≡ hex_note)
 IsExplained told path (Run f) note = IsNoPolicyAt told path (Run f) × (note ≡ [])
 IsExplained told path NoMemory note = IsNoPolicyAt told path NoMemory × (note ≡ [])
 

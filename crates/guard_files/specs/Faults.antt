@@ -6,11 +6,10 @@ use Rattle.guard_frames.specs.FaultTexts.{run_text}
 use Rattle.guard_frames.specs.declared.texts.TextsFault.{TextsFault}
 use Rattle.guard_frames.specs.declared.texts.TextsFault.TheVariants as texts
 use Rattle.guard_files.specs.declared.fault.Fault.{Fault}
-use Rattle.guard_files.specs.declared.fault.Fault.TheVariants.{BadHex, CannotRead, TooLarge, Schema, Policy, Run, NoMemory}
+use Rattle.guard_files.specs.declared.fault.Fault.TheVariants.{CannotRead, TooLarge, Schema, Policy, Run, NoMemory}
 
--- 2: digits, a file, a policy or modules are bad; 3: a stream or a device failed, or memory ran out
+-- 2: a file, a policy or modules are bad; 3: a stream or a device failed, or memory ran out
 abbrev pub fault_status : Fault → ℕ
-fault_status BadHex = 2
 fault_status (CannotRead file obstacle) = 2
 fault_status (TooLarge file) = 2
 fault_status (Schema f) = 2
@@ -20,7 +19,6 @@ fault_status NoMemory = 3
 
 -- What is reported of it. A fault of modules or of a policy prints as itself, which tests show.
 abbrev pub IsText : Fault → List ℕ → Type 0
-IsText BadHex text = text ≡ codes "bad hex"
 IsText (CannotRead file obstacle) text = text ≡ codes "cannot read " ++ string_bytes file
 IsText (TooLarge file) text = text ≡ codes "too large " ++ string_bytes file
 IsText (Schema f) text = Unit {0}

@@ -12,7 +12,7 @@ use Rattle.guard_policy.specs.PolicyFaults as policy
 use Rattle.guard_frames.specs.Texts.{SayPolicy, SayNone}
 use Rattle.guard_frames.specs.declared.texts.TextsFault.TheVariants as texts
 use Rattle.guard_files.specs.declared.fault.Fault.{Fault}
-use Rattle.guard_files.specs.declared.fault.Fault.TheVariants.{BadHex, CannotRead, TooLarge, Schema, Policy, Run, NoMemory}
+use Rattle.guard_files.specs.declared.fault.Fault.TheVariants.{CannotRead, TooLarge, Schema, Policy, Run, NoMemory}
 use Rattle.guard_files.specs.declared.loaded.Loaded.{Loaded}
 use Rattle.guard_files.specs.Files.{Told, after_read, HasFront, HasText, HasNone, IsTooLarge}
 
@@ -47,7 +47,6 @@ abbrev pub IsUnreadable : Told → List ℕ → Fault → Type 0
 IsUnreadable told path (CannotRead file obstacle) = HasNone told path × (string_bytes file ≡ path)
 IsUnreadable told path (TooLarge file) = IsTooLarge told path × (string_bytes file ≡ path)
 IsUnreadable told path NoMemory = Unit {0}
-IsUnreadable told path BadHex = ⊥
 IsUnreadable told path (Schema f) = ⊥
 IsUnreadable told path (Policy f) = ⊥
 IsUnreadable told path (Run f) = ⊥
@@ -60,7 +59,6 @@ AreMissing told path (CannotRead file obstacle) =
 AreMissing told path (TooLarge file) = IsTooLarge told path × (string_bytes file ≡ path)
 AreMissing told path (Policy f) =
     (text : List ℕ) × HasText told path text × IsSomeAnd (policy.named f) (ListsNoFiles text)
-AreMissing told path BadHex = ⊥
 AreMissing told path (Schema f) = ⊥
 AreMissing told path (Run f) = ⊥
 AreMissing told path NoMemory = ⊥
@@ -94,7 +92,6 @@ IsLoadedAt told path l =
 abbrev pub SayNothing : List (List ℕ) → List ℕ → Fault → Type 0
 SayNothing modules text (Schema f) = SayNone modules text (texts.Schema f)
 SayNothing modules text (Policy f) = SayNone modules text (texts.Policy f)
-SayNothing modules text BadHex = ⊥
 SayNothing modules text (CannotRead file obstacle) = ⊥
 SayNothing modules text (TooLarge file) = ⊥
 SayNothing modules text (Run f) = ⊥
@@ -115,7 +112,6 @@ SayNoneLoaded modules text f = SayNothing modules text f ⊎ (f ≡ NoMemory)
 abbrev pub NamesFile : (List ℕ → Type 0) → Fault → Type 0
 NamesFile IsPath (CannotRead file obstacle) = IsPath (string_bytes file)
 NamesFile IsPath NoMemory = Unit {0}
-NamesFile IsPath BadHex = ⊥
 NamesFile IsPath (TooLarge file) = ⊥
 NamesFile IsPath (Schema f) = ⊥
 NamesFile IsPath (Policy f) = ⊥

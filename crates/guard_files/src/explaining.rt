@@ -103,15 +103,11 @@ fn explanation(
         Fault::Policy(fault) => {
             explain_policy(alloc, sources.path, sources.modules, policy, fault)
         },
-        Fault::BadHex => sentence(
-            alloc,
-            "  A message is written by pairs of hexadecimal digits, 0 to 9 and a to f. Mend the digits.\n",
-        ),
         Fault::CannotRead(_, obstacle) => unread_note(alloc, *obstacle),
-        Fault::TooLarge(_) => sentence(
+        Fault::TooLarge(_) => Ok(String::from_str(
             alloc,
             "  A policy has 67,108,864 octets at most. Look whether this path leads to one.\n",
-        ),
+        )?),
         Fault::Run(_) | Fault::NoMemory => Ok(String::new(alloc)),
     }
 }
@@ -138,10 +134,4 @@ fn obstacle_line(obstacle: Obstacle) -> &'static str
             "  This user may not read the file, or not go through a folder on the way to it.\n"
         }
     }
-}
-
-fn sentence(alloc: Global, text: &str) -> Result<String, OutOfMemory>
-    ensures { IfOk result (λ note. string_bytes note ≡ text.now) }
-{
-    Ok(String::from_str(alloc, text)?)
 }

@@ -14,8 +14,6 @@ use std::alloc::{AllocError, AllocFailed, Global};
 /// Why a request isn't met. NoMemory may come in place of any answer, and no other variant means it.
 #[derive(Debug, Drop)]
 pub enum Fault {
-    /// The hexadecimal digits write no octets.
-    BadHex,
     /// The file at this path can't be read.
     CannotRead(String, Obstacle),
     /// The file at this path has more octets than a policy or a file of cases may have.
@@ -30,17 +28,13 @@ pub enum Fault {
 }
 
 impl Fault {
-    /// The status with which the program ends: 2 where digits, a file, modules or a policy are bad, 3 where a stream or
+    /// The status with which the program ends: 2 where a file, modules or a policy are bad, 3 where a stream or
     /// a device failed or memory ran out.
     pub fn status(&self) -> u8
         ensures { result ≡ fault_status self.now }
     {
         match self {
-            Fault::BadHex
-            | Fault::CannotRead(_, _)
-            | Fault::TooLarge(_)
-            | Fault::Schema(_)
-            | Fault::Policy(_) => 2,
+            Fault::CannotRead(_, _) | Fault::TooLarge(_) | Fault::Schema(_) | Fault::Policy(_) => 2,
             Fault::Run(_) | Fault::NoMemory => 3,
         }
     }
@@ -50,7 +44,6 @@ impl Fault {
         ensures { IfOk result (λ text. IsText self.now (string_bytes text)) }
     {
         match self {
-            Fault::BadHex => String::from_str(alloc, "bad hex"),
             Fault::CannotRead(path, _) => format!(in alloc; "cannot read {path}"),
             Fault::TooLarge(path) => format!(in alloc; "too large {path}"),
             Fault::Schema(fault) => format!(in alloc; "{fault}"),

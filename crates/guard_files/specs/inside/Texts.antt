@@ -1,7 +1,7 @@
 -- Why a file isn't read, as the parts of the code answer it.
 use Rattle.std.specs.Prelude.{ℕ, List}
 use Rattle.guard_files.specs.declared.fault.Fault.{Fault}
-use Rattle.guard_files.specs.declared.fault.Fault.TheVariants.{BadHex, CannotRead, TooLarge, Schema, Policy, Run, NoMemory}
+use Rattle.guard_files.specs.declared.fault.Fault.TheVariants.{CannotRead, TooLarge, Schema, Policy, Run, NoMemory}
 use Rattle.guard_files.specs.Files.{Told}
 use Rattle.guard_files.specs.Reading.{FirstMissing, NamesFile}
 
@@ -13,7 +13,6 @@ CannotAllBeRead told beside names = NamesFile (FirstMissing told beside names)
 -- it is found before any module is looked at, or memory ran out
 abbrev pub IsBeforeModules : Fault → Type 0
 IsBeforeModules (Schema f) = ⊥
-IsBeforeModules BadHex = Unit {0}
 IsBeforeModules (CannotRead file obstacle) = Unit {0}
 IsBeforeModules (TooLarge file) = Unit {0}
 IsBeforeModules (Policy f) = Unit {0}

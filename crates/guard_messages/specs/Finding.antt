@@ -6,11 +6,9 @@ use Rattle.guard_frames.specs.declared.running.RunFault.{RunFault}
 use Rattle.guard_frames.specs.declared.running.RunFault.TheVariants.{FrameTooLong, WriteFailed, TornFrame, ReadFailed, OutOfMemory}
 use Rattle.guard_files.specs.declared.fault.Fault.{Fault}
 use Rattle.guard_files.specs.declared.fault.Fault.TheVariants.{CannotRead, Run, NoMemory}
-use Rattle.guard_files.specs.declared.fault.Fault.TheVariants as fault
 use Rattle.guard_files.specs.declared.stop.Stop.{Stop}
 use Rattle.guard_files.specs.declared.stop.Stop.TheVariants as stop
 use Rattle.guard_files.specs.Devices.{Input, Device, IsUnread, IsUntouched}
-use Rattle.guard_files.specs.Explaining.{TellsWith, hex_note}
 use Rattle.guard_files.specs.Files.{Told, HasFront, HasNone, after_read}
 use Rattle.guard_files.specs.Intake.{IsRead, IsLost}
 use Rattle.guard_files.specs.Writing.{TellsLine, TellsText, Tells, Writes}
@@ -141,14 +139,15 @@ of_stop stop.ErrorFailed = Faulty (Run ReadFailed)
 
 -- ---- what comes of it
 
--- with what is to be done, where that is to be explained
-abbrev pub TellsBadHex : Bool → Device → ℕ → Type 0
-TellsBadHex false err status = Tells fault.BadHex err status
-TellsBadHex true err status = TellsWith fault.BadHex hex_note err status
+-- of digits that write none, with what is to be done where that is to be explained
+abbrev pub bad_hex : Bool → List ℕ
+bad_hex false = codes "bad hex"
+bad_hex true =
+    codes "bad hex\n  A message is written by pairs of hexadecimal digits, 0 to 9 and a to f. Mend the digits."
 
 -- what is reported, and the status
 abbrev pub TellsUnfound : Bool → Unfound → Device → ℕ → Type 0
-TellsUnfound explain BadHex err status = TellsBadHex explain err status
+TellsUnfound explain BadHex err status = TellsText (bad_hex explain) 2 err status
 TellsUnfound explain (Faulty f) err status = Tells f err status
 TellsUnfound explain TooLong err status = TellsText (codes "message too long") 2 err status
 TellsUnfound explain NoSuchLink err status = TellsText (codes "no such link") 2 err status

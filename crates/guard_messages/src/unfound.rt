@@ -2,17 +2,13 @@
 ghost use Rattle.std.specs.Prelude.{◌≡◌};
 ghost use Rattle.guard_files.specs.Devices.{device_of};
 ghost use Rattle.guard_files.specs.declared.fault.Fault.TheVariants.{NoMemory};
-ghost use Rattle.guard_messages.specs.Finding.{TellsBadHex, TellsUnfound, of_stop};
+ghost use Rattle.guard_messages.specs.Finding.{TellsUnfound, bad_hex, of_stop};
 ghost use Rattle.guard_messages.specs.declared.unfound.Unfound.TheVariants as unfound;
 
-use guard_files::{Fault, Stop, tell, tell_bad_record, tell_text, tell_with};
+use guard_files::{Fault, Stop, tell, tell_bad_record, tell_text};
 use guard_frames::{RunFault, Sink};
 use guard_model::OutOfMemory;
 use std::alloc::Global;
-
-/// What comes below the line of digits that write no octets.
-const HEX_NOTE: &str =
-    "  A message is written by pairs of hexadecimal digits, 0 to 9 and a to f. Mend the digits.\n";
 
 /// Why the octets of a message can't be had.
 #[derive(Debug, Drop)]
@@ -66,7 +62,7 @@ pub fn tell_unfound<E: Sink>(alloc: Global, explain: bool, reason: &Unfound, err
     ensures { TellsUnfound explain reason.now (device_of E.taken E.has_failed err.old err.new) result }
 {
     match reason {
-        Unfound::BadHex => tell_bad_hex(alloc, explain, err),
+        Unfound::BadHex => tell_text(alloc, bad_hex(explain), 2, err),
         Unfound::Faulty(fault) => tell(alloc, fault, err),
         Unfound::TooLong => tell_text(alloc, "message too long", 2, err),
         Unfound::NoSuchLink => tell_text(alloc, "no such link", 2, err),
@@ -75,12 +71,13 @@ pub fn tell_unfound<E: Sink>(alloc: Global, explain: bool, reason: &Unfound, err
     }
 }
 
-fn tell_bad_hex<E: Sink>(alloc: Global, explain: bool, err: &mut E) -> u8
-    ensures { TellsBadHex explain (device_of E.taken E.has_failed err.old err.new) result }
+/// What is reported of digits that write no octets, with what is to be done where that is to be explained.
+fn bad_hex(explain: bool) -> &'static str
+    ensures { result.now ≡ bad_hex explain }
 {
     if explain {
-        tell_with(alloc, &Fault::BadHex, HEX_NOTE, err)
+        "bad hex\n  A message is written by pairs of hexadecimal digits, 0 to 9 and a to f. Mend the digits."
     } else {
-        tell(alloc, &Fault::BadHex, err)
+        "bad hex"
     }
 }

@@ -4,7 +4,7 @@ use Rattle.std.specs.Prelude.{Result, Ok, Err, IfOk}
 use Rattle.guard_frames.specs.declared.running.RunFault.{RunFault}
 use Rattle.guard_frames.specs.declared.running.RunFault.TheVariants.{FrameTooLong, WriteFailed, TornFrame, ReadFailed, OutOfMemory}
 use Rattle.guard_files.specs.declared.fault.Fault.{Fault}
-use Rattle.guard_files.specs.declared.fault.Fault.TheVariants.{BadHex, CannotRead, TooLarge, Schema, Policy, Run, NoMemory}
+use Rattle.guard_files.specs.declared.fault.Fault.TheVariants.{CannotRead, TooLarge, Schema, Policy, Run, NoMemory}
 use Rattle.guard_streams.specs.Saying.{IsSaidOfRun, IsSaidOfFault}
 
 pub none_of_run : (f : RunFault) → IsSaidOfRun f []
@@ -17,7 +17,6 @@ none_of_run OutOfMemory = refl
 pub none_of_fault : (f : Fault) → IsSaidOfFault f []
 none_of_fault (CannotRead file obstacle) = inl refl
 none_of_fault (TooLarge file) = refl
-none_of_fault BadHex = refl
 none_of_fault (Schema f) = refl
 none_of_fault (Policy f) = refl
 none_of_fault (Run f) = refl

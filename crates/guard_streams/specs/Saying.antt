@@ -4,7 +4,7 @@ use Rattle.std.specs.Prelude.{◌≡◌, ◌<◌, ◌⊎◌, ℕ, List, [], ◌+
 use Rattle.guard_frames.specs.declared.running.RunFault.{RunFault}
 use Rattle.guard_frames.specs.declared.running.RunFault.TheVariants.{FrameTooLong, WriteFailed, TornFrame, ReadFailed, OutOfMemory}
 use Rattle.guard_files.specs.declared.fault.Fault.{Fault}
-use Rattle.guard_files.specs.declared.fault.Fault.TheVariants.{BadHex, CannotRead, TooLarge, Schema, Policy, Run, NoMemory}
+use Rattle.guard_files.specs.declared.fault.Fault.TheVariants.{CannotRead, TooLarge, Schema, Policy, Run, NoMemory}
 use Rattle.guard_files.specs.Devices.{Device}
 use Rattle.guard_files.specs.Explaining.{TellsWith}
 use Rattle.guard_streams.specs.declared.seen.Seen.{Seen}
@@ -33,7 +33,6 @@ IsSaidOfRun OutOfMemory line = line ≡ []
 abbrev pub IsSaidOfFault : Fault → List ℕ → Type 0
 IsSaidOfFault (CannotRead file obstacle) line = IsSaid (string_bytes file) line
 IsSaidOfFault (TooLarge file) line = line ≡ []
-IsSaidOfFault BadHex line = line ≡ []
 IsSaidOfFault (Schema f) line = line ≡ []
 IsSaidOfFault (Policy f) line = line ≡ []
 IsSaidOfFault (Run f) line = line ≡ []

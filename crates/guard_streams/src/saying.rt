@@ -50,8 +50,7 @@ pub fn said_of_fault<T: Says>(
 {
     match fault {
         Fault::CannotRead(path, _) => line_said(alloc, Failing::File, path, system),
-        Fault::BadHex
-        | Fault::TooLarge(_)
+        Fault::TooLarge(_)
         | Fault::Schema(_)
         | Fault::Policy(_)
         | Fault::Run(_)

@@ -10,6 +10,6 @@ returns-in-CannotRead g c =
     (λ line said. subst (λ (f : Fault). IsSaidOfFault f (string_bytes line)) (sym c.in-CannotRead.is)
     (subst (λ (s : List ℕ). IsSaid s (string_bytes line)) c.deref.ensures said))
 
-pub returns-in-BadHex : goal.returns-in-BadHex
-returns-in-BadHex g c =
+pub returns-in-TooLarge : goal.returns-in-TooLarge
+returns-in-TooLarge g c =
     subst (λ (s : List ℕ). IsSaidOfFault c.args.fault.now s) (sym c.new.ensures.bytes) (none_of_fault c.args.fault.now)

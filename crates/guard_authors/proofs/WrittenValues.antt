@@ -22,7 +22,7 @@ use Rattle.guard_values.specs.declared.fault.ValueFault.{ValueFault}
 use Rattle.guard_values.specs.declared.fault.ValueFault.TheVariants as values
 use Rattle.guard_values.specs.FirstFault.{IsFirstFault}
 use Rattle.guard_files.specs.declared.fault.Fault.{Fault}
-use Rattle.guard_files.specs.declared.fault.Fault.TheVariants.{BadHex, CannotRead, TooLarge, Schema, Policy, Run, NoMemory}
+use Rattle.guard_files.specs.declared.fault.Fault.TheVariants.{CannotRead, TooLarge, Schema, Policy, Run, NoMemory}
 use Rattle.guard_authors.specs.ValueTexts.{HaveNoTree, IsNoValue, IsWrittenAs, OfText}
 use Rattle.guard_authors.specs.inside.TextFaults.{IsLexFault, IsSyntaxFault, IsValueFault, syntax_refusal, value_refusal}
 
@@ -34,7 +34,6 @@ is_read_as m t text tree v w d = record { place = 1; tokens = w.tokens; lexed = 
 pub of_text_weaker : (A B : SchemaFault → Type 0) → ((g : SchemaFault) → A g → B g) → (f : Fault) → OfText A f → OfText B f
 of_text_weaker A B w (Schema g) h = w g h
 of_text_weaker A B w NoMemory h = tt
-of_text_weaker A B w BadHex h = absurd h
 of_text_weaker A B w (CannotRead file obstacle) h = absurd h
 of_text_weaker A B w (TooLarge file) h = absurd h
 of_text_weaker A B w (Policy f) h = absurd h

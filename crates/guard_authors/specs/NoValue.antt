@@ -10,7 +10,7 @@ use Rattle.guard_values.specs.declared.fault.ValueFault.TheVariants as value
 use Rattle.guard_schema.specs.declared.fault.SchemaFault.{SchemaFault}
 use Rattle.guard_schema.specs.declared.fault.SchemaFault.TheVariants as schema
 use Rattle.guard_files.specs.declared.fault.Fault.{Fault}
-use Rattle.guard_files.specs.declared.fault.Fault.TheVariants.{BadHex, CannotRead, TooLarge, Schema, Policy, Run, NoMemory}
+use Rattle.guard_files.specs.declared.fault.Fault.TheVariants.{CannotRead, TooLarge, Schema, Policy, Run, NoMemory}
 
 -- the number of the text, which is 1, the line and the column
 abbrev pub at_site : List ℕ → Site → List ℕ
@@ -63,7 +63,6 @@ schema_text schema.OutOfMemory = []
 
 abbrev pub no_value_text : Fault → List ℕ
 no_value_text (Schema f) = schema_text f
-no_value_text BadHex = []
 no_value_text (CannotRead file obstacle) = []
 no_value_text (TooLarge file) = []
 no_value_text (Policy f) = []

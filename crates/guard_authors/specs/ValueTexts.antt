@@ -17,7 +17,7 @@ use Rattle.guard_schema.specs.declared.fault.SchemaFault.TheVariants.{Lex, Synta
 use Rattle.guard_notes.specs.Notes.{schema_place}
 use Rattle.guard_notes.specs.Sources.{AbstractSources, sources, place_lines}
 use Rattle.guard_files.specs.declared.fault.Fault.{Fault}
-use Rattle.guard_files.specs.declared.fault.Fault.TheVariants.{BadHex, CannotRead, TooLarge, Schema, Policy, Run, NoMemory}
+use Rattle.guard_files.specs.declared.fault.Fault.TheVariants.{CannotRead, TooLarge, Schema, Policy, Run, NoMemory}
 use Rattle.guard_files.specs.Reading.{AbstractLoaded}
 
 -- What values names mean in a text that writes a value of a message: those that they mean in the module of its declared
@@ -56,7 +56,6 @@ IsNoValue m t text (TooLarge site) = ⊥
 abbrev pub OfText : (SchemaFault → Type 0) → Fault → Type 0
 OfText Is (Schema f) = Is f
 OfText Is NoMemory = Unit {0}
-OfText Is BadHex = ⊥
 OfText Is (CannotRead file obstacle) = ⊥
 OfText Is (TooLarge file) = ⊥
 OfText Is (Policy f) = ⊥
@@ -69,7 +68,6 @@ value_sources text = sources [] (codes "value" ∷ []) (text ∷ [])
 -- what comes after the line of such a fault: its place, and the line with a mark under the column
 abbrev pub value_note : List ℕ → Fault → List ℕ
 value_note text (Schema f) = option_map_or (place_lines (value_sources text)) (schema_place f) []
-value_note text BadHex = []
 value_note text (CannotRead file obstacle) = []
 value_note text (TooLarge file) = []
 value_note text (Policy f) = []

@@ -17,8 +17,7 @@ pub fn no_value_text(alloc: Global, fault: &Fault) -> Result<Vec<u8>, OutOfMemor
 {
     match fault {
         Fault::Schema(fault) => schema_text(alloc, fault),
-        Fault::BadHex
-        | Fault::CannotRead(_, _)
+        Fault::CannotRead(_, _)
         | Fault::TooLarge(_)
         | Fault::Policy(_)
         | Fault::Run(_)

@@ -11,7 +11,7 @@ use Rattle.guard_frames.specs.Gateways.{AbstractGateway, AbstractEvent}
 use Rattle.guard_frames.specs.LinkView.{AbstractLink}
 use Rattle.guard_frames.proofs.Appending.{Appends_is}
 use Rattle.guard_files.specs.declared.fault.Fault.{Fault}
-use Rattle.guard_files.specs.declared.fault.Fault.TheVariants.{BadHex, CannotRead, TooLarge, Schema, Policy, Run, NoMemory}
+use Rattle.guard_files.specs.declared.fault.Fault.TheVariants.{CannotRead, TooLarge, Schema, Policy, Run, NoMemory}
 use Rattle.guard_files.specs.declared.stop.Stop.{Stop}
 use Rattle.guard_files.specs.declared.stop.Stop.TheVariants.{BadRecord, ReadFailed, WriteFailed, ErrorFailed}
 use Rattle.guard_files.specs.Devices.{Input, Device}
@@ -32,7 +32,6 @@ use Rattle.guard_streams.specs.Turns.{AbstractMux, Written, Happens, PassesOn, I
 use Rattle.guard_streams.proofs.Turning.{all_err-append, status_of-append}
 
 fault_most : (f : Fault) → fault_status f ≤ 3
-fault_most BadHex = omega arith
 fault_most (CannotRead file obstacle) = omega arith
 fault_most (TooLarge file) = omega arith
 fault_most (Schema f) = omega arith
@@ -41,7 +40,6 @@ fault_most (Run f) = omega arith
 fault_most NoMemory = omega arith
 
 fault_least : (f : Fault) → 2 ≤ fault_status f
-fault_least BadHex = omega arith
 fault_least (CannotRead file obstacle) = omega arith
 fault_least (TooLarge file) = omega arith
 fault_least (Schema f) = omega arith

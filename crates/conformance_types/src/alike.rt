@@ -1,6 +1,6 @@
 //! `Value::same` and `Value::copy`, `Ty::same_base` and `Ty::copy`: the row above that is like a row, or `new` where
 //! none is. The copy of each is like it, and prints as it does itself.
-use conformance_notation::{Unread, read, type_of, typed_value_of};
+use crate::notation::{Unread, read, type_of, typed_value_of};
 use conformance_rows::{Layer, not_read, text_of, unknown};
 use guard_model::{Ty, Value};
 use std::alloc::{AllocError, Global};

@@ -1,6 +1,6 @@
 //! `is_within_limits`, and `check` with `find_clash`, which must agree: `distinct` where all tags differ that must,
 //! else the first clash.
-use conformance_notation::{read, type_of};
+use crate::notation::{read, type_of};
 use conformance_rows::{Layer, not_read, text_of, unknown};
 use guard_tagcheck::{Clash, check, find_clash, is_within_limits};
 use std::alloc::{AllocError, Global};

@@ -6,8 +6,8 @@ ghost use Rattle.guard_model.specs.ValueView.{value_view};
 ghost use Rattle.guard_der.specs.Fits.{fits};
 ghost use Rattle.guard_der.specs.Sound.{is_sound};
 
+use crate::notation::{read, value_of};
 use crate::type_row::set_type;
-use conformance_notation::{read, value_of};
 use conformance_rows::{Layer, not_read, text_of};
 use guard_der::{EncodeFault, decode, encode, encoded_length, fits, sound};
 use guard_model::{Ty, Value};

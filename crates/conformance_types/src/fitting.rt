@@ -1,6 +1,6 @@
 //! `fits`: whether a value, written with a type of its own, fits the type that is set.
+use crate::notation::{read, typed_value_of};
 use crate::type_row::set_type;
-use conformance_notation::{read, typed_value_of};
 use conformance_rows::{Layer, not_read, text_of};
 use guard_der::fits;
 use guard_model::Ty;

@@ -1,7 +1,7 @@
 //! Tries the calls on types and values that no text gives, on rows in the files of `data/`: tags, types that aren't
 //! sound, tags that clash, values that don't fit or are longer than a text, members of types whose defaults are none,
 //! and lists and texts on both sides of the length from which on members are found another way. How they are written
-//! there is said in `conformance_notation`. Whatever a text can say is tried in `conformance`.
+//! there is said in `notation.rt`. Whatever a text can say is tried in `conformance`.
 //!
 //! | rows | what answers them |
 //! |---|---|
@@ -18,6 +18,7 @@ mod clashes;
 mod encoding;
 mod fitting;
 mod members;
+mod notation;
 mod sound_types;
 mod tags;
 mod type_row;

@@ -5,8 +5,8 @@ ghost use Rattle.guard_model.specs.ValueView.{value_view};
 ghost use Rattle.guard_der.specs.Sound.{is_sound};
 ghost use Rattle.guard_der.specs.Fits.{fits};
 
+use crate::notation::{read, value_of};
 use crate::type_row::set_type;
-use conformance_notation::{read, value_of};
 use conformance_rows::{Layer, not_read, text_of};
 use guard_der::{fits, sound};
 use guard_eval::{first_violation, member, member_of};

@@ -1,6 +1,6 @@
 //! `sound`: whether a type is sound.
+use crate::notation::{read, type_of};
 use crate::type_row::soundness;
-use conformance_notation::{read, type_of};
 use conformance_rows::{Layer, not_read, text_of, unknown};
 use std::alloc::{AllocError, Global};
 

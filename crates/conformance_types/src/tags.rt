@@ -1,5 +1,5 @@
 //! `Tag::order`: how many of the tags above a row are less than its own, equal to it and greater.
-use conformance_notation::{read, tag_of};
+use crate::notation::{read, tag_of};
 use conformance_rows::{Layer, not_read, text_of, unknown};
 use guard_model::Tag;
 use std::alloc::{AllocError, Global};

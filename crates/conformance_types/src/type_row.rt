@@ -1,5 +1,5 @@
 //! The row `@type TYPE`, which sets the type of the rows below it.
-use conformance_notation::{read, type_of};
+use crate::notation::{read, type_of};
 use conformance_rows::{not_read, text_of, unknown};
 use guard_der::sound;
 use guard_model::Ty;

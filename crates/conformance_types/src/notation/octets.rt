@@ -1,5 +1,5 @@
 //! Octets in hexadecimal digits, and bits.
-use crate::unread::Unread;
+use crate::notation::unread::Unread;
 use conformance_rows::octets_in;
 use guard_model::Bits;
 use std::alloc::Global;

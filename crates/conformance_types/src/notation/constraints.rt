@@ -1,7 +1,7 @@
 //! Constraints.
-use crate::types::below;
-use crate::unread::Unread;
-use crate::words::Words;
+use crate::notation::types::below;
+use crate::notation::unread::Unread;
+use crate::notation::words::Words;
 use guard_model::{Comp, Cons, Kind, Limit, NamedList, Part, Rule, Site, Ty, Word};
 use std::alloc::Global;
 use std::sync::{Arc, ArcSlice};

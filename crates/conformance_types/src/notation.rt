@@ -23,8 +23,6 @@
 //! | values | `values.rt` |
 //! | hexadecimal digits and bits | `octets.rt` |
 //! | the words of a text | `words.rt` |
-#![tactic(auto)]
-
 mod constraints;
 mod octets;
 mod tags;

@@ -1,8 +1,8 @@
 //! Values of a type, whether or not they fit it.
-use crate::octets::{bits_of, bits_of_digits, octets_of};
-use crate::types::DEEPEST;
-use crate::unread::Unread;
-use crate::words::Words;
+use crate::notation::octets::{bits_of, bits_of_digits, octets_of};
+use crate::notation::types::DEEPEST;
+use crate::notation::unread::Unread;
+use crate::notation::words::Words;
 use guard_model::{Bits, Comp, Kind, Named, Presence, Ty, Value};
 use std::alloc::Global;
 use std::str;

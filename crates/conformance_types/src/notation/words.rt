@@ -1,5 +1,5 @@
 //! The words and marks of a text, one after another.
-use crate::unread::Unread;
+use crate::notation::unread::Unread;
 
 /// What is left of a text, without the space in front of it.
 #[derive(Clone, Copy)]

@@ -1,6 +1,6 @@
 //! Tags.
-use crate::unread::Unread;
-use crate::words::Words;
+use crate::notation::unread::Unread;
+use crate::notation::words::Words;
 use guard_model::{Class, Tag};
 
 /// A tag that is written in front of a type.

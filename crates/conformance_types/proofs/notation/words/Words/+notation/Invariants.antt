@@ -1,5 +1,5 @@
 use Rattle.std.proofs.Common.{◌+◌, ◌*◌}
-use Rattle.conformance_notation.proofs.words.Words.+notation.Given as goal
+use Rattle.conformance_types.proofs.notation.words.Words.+notation.Given as goal
 
 -- A type and a constraint hand down less depth than they were given; between them each call goes to a lower rank.
 abbrev pub decreases-base : goal.decreases-base

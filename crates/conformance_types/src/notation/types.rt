@@ -1,9 +1,9 @@
 //! Types.
 ghost use Rattle.std.specs.Prelude.{◌≡◌, ◌+◌, IfOk};
 
-use crate::tags::Prefix;
-use crate::unread::Unread;
-use crate::words::Words;
+use crate::notation::tags::Prefix;
+use crate::notation::unread::Unread;
+use crate::notation::words::Words;
 use guard_model::{CharKind, Class, Comp, Kind, Named, NamedList, Presence, Tag, Ty};
 use std::alloc::Global;
 use std::sync::{Arc, ArcSlice, ArcStr};

@@ -1,10 +1,11 @@
 //! Tables.
-ghost use Rattle.std.specs.Prelude.{◌≡◌, ◌≤◌, ◌&&◌, ◌∷◌, None, Some, All, length, map, slice_get};
+ghost use Rattle.std.specs.Prelude.{◌≡◌, ◌+◌, ◌≤◌, ◌&&◌, ◌∷◌, None, Some, All, length, map, slice_get};
 ghost use Rattle.std.specs.Prelude.{option_map, IsTrue, IfOk, OnOk, IfErr, IfSome};
 ghost use Rattle.guard_model.specs.TypeView.{type_view};
 ghost use Rattle.guard_der.specs.Sound.{is_sound};
 ghost use Rattle.guard_tables.specs.Alike.{AreConsistent};
 ghost use Rattle.guard_tables.specs.inside.SharedTypes.{types_at};
+ghost use Rattle.guard_tables.specs.Slots.{below};
 ghost use Rattle.guard_tables.specs.StandsFor.{StandsFor};
 ghost use Rattle.guard_tables.specs.Tables.{types_view, is_match, first_mismatch, first_fault, named, most_rules};
 
@@ -14,6 +15,7 @@ use crate::layout::lay_nodes;
 use crate::node_list::Nodes;
 use crate::nodes::has_crowded_node;
 use crate::sharing::{demands_of, share};
+use crate::slots::Slots;
 use guard_model::{OutOfMemory, Ty, are_same_tags};
 use std::alloc::Global;
 
@@ -26,6 +28,9 @@ const MOST_RULES: usize = 255;
 pub struct Table {
     types: KeptTypes,
     pub nodes: Nodes,
+    /// The slots of all its types, which each walk needs.
+    pub slots: Slots,
+    pub ghost all: { slots ≡ below (length (map type_view types.1) + 1) },
     pub ghost consistent: { AreConsistent (type_view types.0) (map type_view types.1) },
     pub ghost stands: { ∥ StandsFor nodes (type_view types.0) (map type_view types.1) ∥₁ },
 }
@@ -68,6 +73,7 @@ impl Table {
         Ok(Table {
             types: KeptTypes::new(copy, others, compiled.places),
             nodes: compiled.nodes,
+            slots: slots_of(rules.len()),
         })
     }
 
@@ -117,9 +123,18 @@ fn nodes_of<'a>(
     })
 }
 
+/// The slots of a declared type and of so many rules.
+fn slots_of(rules: usize) -> Slots
+    requires { rules ≤ most_rules }
+    ensures { result ≡ below (rules + 1) }
+{
+    Slots::below(rules as u16 + 1)
+}
+
 /// Ok where the types make a table; else their first fault.
 fn find_fault(alloc: Global, declared: &Ty, rules: &[&Ty]) -> Result<(), TableFault>
     ensures faultless { OnOk result (first_fault (type_view declared.now) (types_view rules.now) ≡ None) }
+    ensures few { OnOk result (length rules.now ≤ most_rules) }
     ensures refused { IfErr result
         (λ f. IfSome (named f) (λ fault. first_fault (type_view declared.now) (types_view rules.now) ≡ Some fault)) }
 {

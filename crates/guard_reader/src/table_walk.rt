@@ -8,7 +8,7 @@ ghost use Rattle.guard_tables.specs.TableView.{declared_of, table_types};
 
 use crate::marks::Marks;
 use crate::walking::failures;
-use guard_tables::{Slots, Table};
+use guard_tables::Table;
 
 /// Which of a table's types have the value whose DER encoding (X.690) the octets are; None where they encode no value
 /// of the declared type. No memory is taken.
@@ -21,8 +21,7 @@ pub fn walk(table: &Table, octets: &[u8]) -> Option<Marks>
         der (declared_of table.now) v ≡ Some octets.now → IsSome result }
 {
     let failed = failures(&table.nodes, octets)?;
-    let all = Slots::below(table.rules() as u16 + 1);
     Some(Marks {
-        members: all.without(&failed),
+        members: table.slots.without(&failed),
     })
 }

@@ -22,7 +22,6 @@ returns-clause-marks c =
     let given : Given t.nodes (declared_of t) (rules_of t) c.args.octets.now =
     record { stands = t.stands; sound = t.consistent.declared_sound; few = few_rules (declared_of t) (rules_of t) t.consistent; digits = are_digits 256 c.args.octets.now (λ i _. omega (arith, c.type_inv.octets i)) } in
     let failed : message_judged (root_of t.nodes) c.args.octets.now ≡ Some c.in_ok-failed.failed = sym c.failures.ensures ∙ c.in_ok-failed.was in
-    let count : c.rules.result + 1 ≡ length (declared_of t ∷ rules_of t) = omega (arith, c.rules.ensures.rules) in
-    let members : without (below (c.rules.result + 1)) c.in_ok-failed.failed ≡ c.without.result = ap (λ (m : Slots). without m c.in_ok-failed.failed) (sym c.below-all.ensures) ∙ sym c.without.ensures in
+    let members : without (below (length (rules_of t) + 1)) c.in_ok-failed.failed ≡ c.without.result = ap (λ (m : Slots). without m c.in_ok-failed.failed) (sym t.all) ∙ sym c.without.ensures in
     subst (λ (m : Slots). Members (declared_of t) (rules_of t) c.args.octets.now m) members
-    (members_found t.nodes (declared_of t) (rules_of t) c.args.octets.now given c.in_ok-failed.failed failed (c.rules.result + 1) count)
+    (members_found t.nodes (declared_of t) (rules_of t) c.args.octets.now given c.in_ok-failed.failed failed (length (rules_of t) + 1) (omega arith))

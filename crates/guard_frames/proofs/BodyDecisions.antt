@@ -1,22 +1,19 @@
 -- What a policy decides of a body, by the octets of its names or by the names.
-use Rattle.std.proofs.Common.{◌≡◌, ◌∙◌, ◌-◌, ◌≤◌, List, ℕ, ◌++◌, true, false, refl, ap, sym, subst, length, take, length-append, arith}
-use Rattle.std.specs.Prelude.{Some, None}
+use Rattle.std.proofs.Common.{◌≡◌, ◌∙◌, ◌-◌, ◌≤◌, List, ℕ, ◌++◌, true, false, ap, sym, subst, length, take, length-append, arith}
+use Rattle.std.specs.Prelude.{Some}
 use Rattle.std.proofs.lemmas.Bool.{false≢true}
 use Rattle.std.proofs.lemmas.List.{append_assoc}
 use Rattle.std.proofs.Math.Seq.{take-append_seam}
 use Rattle.guard_policy.specs.declared.passing.Passing.{Passing}
 use Rattle.guard_policy.specs.declared.passing.Passing.TheVariants as passing
-use Rattle.guard_policy.specs.declared.verdict.PlainReason.{PlainReason}
 use Rattle.guard_policy.specs.NamedRoutes.{with_length, IsGiven}
 use Rattle.guard_policy.specs.Policies.{AbstractPolicy, AbstractRoute, AbstractRule}
-use Rattle.guard_policy.specs.Decisions.{Goes}
-use Rattle.guard_policy.specs.Verdicts.{reason_view}
-use Rattle.guard_policy.specs.Told.{IsToldReason, Tells, is_going}
-use Rattle.guard_policy.proofs.Reasons.{if_some_map}
-use Rattle.guard_frames.specs.Bodies.{AbstractBody, IsBody, HasNames, named, parts_in, body_in, has_names}
-use Rattle.guard_frames.specs.OfPolicy.{route_of, decision_of, lets_of, reasons_of}
-use Rattle.guard_frames.specs.Outcomes.{Decision, IsDecided}
-use Rattle.guard_frames.proofs.HeaderLaws.{names_in, names_again, parts_take, same_parts, one_body, no_body}
+use Rattle.guard_policy.specs.Told.{Tells}
+use Rattle.guard_frames.specs.Bodies.{AbstractBody, IsBody, HasNames, named, parts_in, has_names}
+use Rattle.guard_frames.specs.OfPolicy.{route_of, decision_of, lets_of, reasons_of, decided}
+use Rattle.guard_frames.specs.Outcomes.{IsDecided}
+use Rattle.guard_frames.specs.declared.decision.Decided.{Decided}
+use Rattle.guard_frames.proofs.HeaderLaws.{names_in, names_again, parts_take, same_parts}
 
 -- ---- the names, and the message after them
 
@@ -43,14 +40,10 @@ names_before octets b e =
 
 -- ---- what is told of the body that the octets are
 
-decided_of : (p : AbstractPolicy) (octets : List ℕ) (b : AbstractBody) (told : Passing) → ((c : AbstractBody) → IsBody octets c → c ≡ b)
-    → (is_going told ≡ true → IsBody octets b) → Tells p (route_of b) b.message_octets told → IsDecided (decision_of p) (lets_of p) (reasons_of p) octets told
-decided_of p octets b (passing.Goes rule) one is by = (record { body = b; is = is refl; decided = by.0 }, (b, is refl, by))
-decided_of p octets b (passing.Stopped reason) one is stays = (
-  λ go. stays.0 (subst (λ (x : AbstractBody). Goes p (route_of x) x.message_octets) (one go.body go.is) go.decided),
-  if_some_map (λ r. IsToldReason p (route_of b) b.message_octets (reason_view r)) (λ r. (x : AbstractBody) → IsBody octets x → reasons_of p x r) reason
-      (λ r is_its x is_one. subst (λ (y : AbstractBody). reasons_of p y r) (sym (one x is_one)) is_its) stays.1,
-)
+decided_of : (p : AbstractPolicy) (octets : List ℕ) (b : AbstractBody) (told : Passing) → IsBody octets b → Tells p (route_of b) b.message_octets told
+    → IsDecided (decision_of p) (lets_of p) (reasons_of p) octets (decided told)
+decided_of p octets b (passing.Goes rule) is by = (record { body = b; is = is; decided = by.0 }, (b, is, by))
+decided_of p octets b (passing.Stopped reason) is stays = (b, is, stays.0, stays.1)
 
 -- ---- where some rule gives the names
 
@@ -68,29 +61,19 @@ given_body rules octets names message route whole given =
     ∙ append_assoc from (to ++ name) message ∙ ap (λ (rest : List ℕ). from ++ rest) (append_assoc to name message) in
     record { joined = joined; names = names_in (body_of route message) given.plain }
 
-pub decided_as_given : (p : AbstractPolicy) (octets names message : List ℕ) (told : Passing) → octets ≡ names ++ message →
-    ((route : AbstractRoute) × IsGiven p.rules names route × Tells p route message told) → IsDecided (decision_of p) (lets_of p) (reasons_of p) octets told
-decided_as_given p octets names message told whole (route, given, tells) =
-    let is = given_body p.rules octets names message route whole given in
-    decided_of p octets (body_of route message) told (λ c other. one_body octets c (body_of route message) other is) (λ going. is) tells
+pub decided_as_given : (p : AbstractPolicy) (octets names message : List ℕ) (told : Passing) (answer : Decided) → octets ≡ names ++ message →
+    ((route : AbstractRoute) × IsGiven p.rules names route × Tells p route message told) → answer ≡ decided told
+    → IsDecided (decision_of p) (lets_of p) (reasons_of p) octets answer
+decided_as_given p octets names message told answer whole (route, given, tells) is =
+    rw is (decided_of p octets (body_of route message) told (given_body p.rules octets names message route whole given) tells)
 
 -- ---- by the names
 
--- what is in their places is names, where the message goes
-pub decided_as_named : (p : AbstractPolicy) (octets : List ℕ) (b : AbstractBody) (told : Passing) → Some b ≡ parts_in octets
-    → (is_going told ≡ true → has_names b ≡ true) → Tells p (route_of b) b.message_octets told → IsDecided (decision_of p) (lets_of p) (reasons_of p) octets told
-decided_as_named p octets b told there named tells =
-    decided_of p octets b told (λ c is. same_parts octets b c there is)
-    (λ going. record { joined = parts_take octets b (sym there); names = names_in b (named going) }) tells
+pub decided_as_named : (p : AbstractPolicy) (octets : List ℕ) (b : AbstractBody) (told : Passing) (answer : Decided) → Some b ≡ parts_in octets → has_names b ≡ true
+    → Tells p (route_of b) b.message_octets told → answer ≡ decided told → IsDecided (decision_of p) (lets_of p) (reasons_of p) octets answer
+decided_as_named p octets b told answer there named tells is =
+    rw is (decided_of p octets b told (record { joined = parts_take octets b (sym there); names = names_in b named }) tells)
 
--- it isn't
-pub stays_misnamed : (d : Decision) (Lets : AbstractBody → ℕ → Type 0) (ReasonsOf : AbstractBody → PlainReason → Type 0) (octets : List ℕ) (b : AbstractBody) → Some b ≡ parts_in octets → has_names b ≡ false
-    → IsDecided d Lets ReasonsOf octets (passing.Stopped None)
-stays_misnamed d Lets ReasonsOf octets b there misnamed = (
-  λ go. false≢true (sym misnamed ∙ names_again b (subst HasNames (same_parts octets b go.body there go.is) go.is.names)),
-  tt,
-)
-
--- no other octets go
-pub stays_without : (d : Decision) (Lets : AbstractBody → ℕ → Type 0) (ReasonsOf : AbstractBody → PlainReason → Type 0) (octets : List ℕ) → None ≡ body_in octets → IsDecided d Lets ReasonsOf octets (passing.Stopped None)
-stays_without d Lets ReasonsOf octets none = (λ go. no_body octets none go.body go.is, tt)
+-- what is in their places isn't names
+pub misnamed : (octets : List ℕ) (b : AbstractBody) → Some b ≡ parts_in octets → has_names b ≡ false → (c : AbstractBody) → IsBody octets c → ⊥
+misnamed octets b there none c is = false≢true (sym none ∙ names_again b (subst HasNames (same_parts octets b c there is) is.names))

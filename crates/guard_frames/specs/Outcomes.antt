@@ -1,9 +1,11 @@
 -- What becomes of each frame of a stream: it goes out, or it stays.
 use Rattle.std.specs.Prelude.{ℕ, Bool, true, false, List, drop, map, IfSome}
-use Rattle.guard_policy.specs.declared.passing.Passing.{Passing}
-use Rattle.guard_policy.specs.declared.passing.Passing.TheVariants as passing
 use Rattle.guard_policy.specs.declared.verdict.PlainReason.{PlainReason}
 use Rattle.guard_frames.specs.Bodies.{AbstractBody, IsBody}
+use Rattle.guard_frames.specs.declared.decision.Decided.{Decided}
+use Rattle.guard_frames.specs.declared.decision.Decided.TheVariants.{Goes, Stays}
+use Rattle.guard_frames.specs.declared.decision.Known.{Known}
+use Rattle.guard_frames.specs.declared.decision.Known.TheVariants.{BadHeader, Named}
 
 -- What is decided of a body: whether it goes, and the report line, with the frame's number, of one that stays.
 pub record Decision : Type 1 where
@@ -20,14 +22,18 @@ pub record BodyGoes (d : Decision) (octets : List ℕ) : Type 0 where
 abbrev pub GoesBy : (AbstractBody → ℕ → Type 0) → List ℕ → ℕ → Type 0
 GoesBy Lets octets rule = (b : AbstractBody) × IsBody octets b × Lets b rule
 
--- What was decided of the octets of a body is right. Where the decision is to go, the octets go, by this rule. Where it is
--- to stay, they don't, and the reason that comes with the decision, if one does, is that of the body which the octets
--- make.
+-- What is known of octets that stay is so: they are no three names and a message; or they are, this body is decided to
+-- stay, and a reason that is told is that of the body.
+abbrev pub IsKnown : Decision → (AbstractBody → PlainReason → Type 0) → List ℕ → Known → Type 0
+IsKnown d ReasonsOf octets BadHeader = (b : AbstractBody) → IsBody octets b → ⊥
+IsKnown d ReasonsOf octets (Named reason) =
+    (b : AbstractBody) × IsBody octets b × (d.LetsGo b → ⊥) × IfSome reason (ReasonsOf b)
+
+-- What was decided of the octets of a body is right: they go, by this rule; or they stay, and what is known of them is so.
 abbrev pub IsDecided : Decision → (AbstractBody → ℕ → Type 0) → (AbstractBody → PlainReason → Type 0) → List ℕ →
-    Passing → Type 0
-IsDecided d Lets ReasonsOf octets (passing.Goes rule) = BodyGoes d octets × GoesBy Lets octets rule
-IsDecided d Lets ReasonsOf octets (passing.Stopped reason) =
-    (BodyGoes d octets → ⊥) × IfSome reason (λ r. (b : AbstractBody) → IsBody octets b → ReasonsOf b r)
+    Decided → Type 0
+IsDecided d Lets ReasonsOf octets (Goes rule) = BodyGoes d octets × GoesBy Lets octets rule
+IsDecided d Lets ReasonsOf octets (Stays known) = IsKnown d ReasonsOf octets known
 
 -- a frame goes where what follows its four octets of length goes
 abbrev pub FrameGoes : Decision → List ℕ → Type 0

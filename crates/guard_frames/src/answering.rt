@@ -10,12 +10,12 @@ ghost use Rattle.guard_frames.specs.Prefix.{IsProperPrefix};
 
 use crate::body::Body;
 use crate::cut::frame_of;
-use crate::decision::Decide;
+use crate::decision::{Decide, Decided};
 use crate::devices::{Failed, Sink, put_all};
-use crate::header::read_body;
+use crate::header::cut_body;
 use crate::report::{put_report, report_on};
 use crate::short_line::{ShortLine, append};
-use guard_policy::{LastRoute, Passing};
+use guard_policy::LastRoute;
 use itoa::Buffer;
 use std::alloc::Global;
 
@@ -45,16 +45,16 @@ pub fn answer<D: Decide, S: Sink>(
 {
     let frame = frame_of(frame);
     match policy.goes(frame.body, &mut LastRoute::none()) {
-        Passing::Goes(_) => {
-            let Some(body) = read_body(frame.body) else {
+        Decided::Goes(_) => {
+            let Some(body) = cut_body(frame.body) else {
                 unreachable!()
             };
             put_pass(answers, number, &body)?;
             Ok(true)
         }
-        Passing::Stopped(told) => {
+        Decided::Stays(known) => {
             let mut room = Vec::new(alloc);
-            let report = report_on(alloc, policy, number, &frame, told, &mut room);
+            let report = report_on(alloc, policy, number, &frame, known, &mut room);
             put_report(answers, number, &report)?;
             Ok(false)
         }

@@ -10,8 +10,26 @@ ghost use Rattle.guard_frames.specs.declared.why.Reason.{Reason};
 use crate::body::Body;
 use crate::why::Reason;
 use guard_model::OutOfMemory;
-use guard_policy::{LastRoute, Passing, PlainReason};
+use guard_policy::{LastRoute, PlainReason};
 use std::alloc::Global;
+
+/// What is decided of a frame.
+#[derive(Clone, Copy)]
+pub enum Decided {
+    /// It goes, by the rule of this number.
+    Goes(usize),
+    /// It stays, and this is known of it.
+    Stays(Known),
+}
+
+/// What is known of a frame that stays, before its report is made.
+#[derive(Clone, Copy)]
+pub enum Known {
+    /// Its body isn't three names and a message.
+    BadHeader,
+    /// Its body is three names and a message, and is decided to stay, for this reason where one is told.
+    Named(Option<PlainReason>),
+}
 
 /// Decides which bodies of frames go, and says of each other one why it stays.
 pub trait Decide {
@@ -28,10 +46,11 @@ pub trait Decide {
     ghost gives: { Self → Reason → List ℕ → Type 0 };
 
     /// Whether a frame goes, by the octets that follow its four octets of length: they are three names and a message,
-    /// and this body is decided to go. The rule is told by which one goes, and the reason of one that stays may be, for
-    /// `line`. No memory is taken. The place where the frame's route was found may be kept in `last`, so that the next
-    /// frame's is compared with that one first; no answer depends on it.
-    fn goes(&self, body: &[u8], last: &mut LastRoute) -> Passing
+    /// and this body is decided to go. The rule is told by which one goes. Of one that stays is told whether it has
+    /// three names, so that nobody asks again, and the reason may be, for `line`. No memory is taken. The place where
+    /// the frame's route was found may be kept in `last`, so that the next frame's is compared with that one first; no
+    /// answer depends on it.
+    fn goes(&self, body: &[u8], last: &mut LastRoute) -> Decided
         ensures { IsDecided (decides self.now) (lets self.now) (reasons_of self.now) body.now result };
 
     /// The report line of the frame of this number and with this body, with its line feed, and the reason that it

@@ -6,12 +6,12 @@ ghost use Rattle.guard_policy.specs.Verdicts.{verdict_view, reason_view, pass};
 ghost use Rattle.guard_policy.specs.declared.verdict.PlainReason.{PlainReason};
 ghost use Rattle.guard_report.specs.Lines.{line_octets};
 ghost use Rattle.guard_frames.specs.Bodies.{body_view};
-ghost use Rattle.guard_frames.specs.OfPolicy.{route_of, decision_of, lets_of, reasons_of, gives_of};
+ghost use Rattle.guard_frames.specs.OfPolicy.{route_of, decision_of, lets_of, reasons_of, gives_of, decided};
 ghost use Rattle.guard_frames.specs.Outcomes.{IsDecided};
 ghost use Rattle.guard_frames.specs.Reasons.{reason_of};
 
 use crate::body::Body;
-use crate::decision::Decide;
+use crate::decision::{Decide, Decided, Known};
 use crate::header::{cut_body, has_names};
 use crate::why::{Reason, reason_of};
 use guard_model::OutOfMemory;
@@ -28,9 +28,9 @@ impl Decide for Policy {
 
     ghost gives = { λ policy. gives_of (policy_view policy) };
 
-    fn goes(&self, octets: &[u8], last: &mut LastRoute) -> Passing {
+    fn goes(&self, octets: &[u8], last: &mut LastRoute) -> Decided {
         match self.passes_as_last(*last, octets) {
-            Some(told) => told,
+            Some(told) => decided(told),
             None => goes_as_read(self, octets, last),
         }
     }
@@ -82,25 +82,33 @@ fn line_of(
     Ok((line, reason_of(verdict)))
 }
 
-/// Whether a frame goes, whose names are read and looked up. Where no rule gives them, whether they are names is asked
-/// last, and not of a frame whose message stays: its report asks it.
-fn goes_as_read(policy: &Policy, octets: &[u8], last: &mut LastRoute) -> Passing
+/// What is decided of a frame that has three names, by what is told of its message.
+fn decided(told: Passing) -> Decided
+    ensures { result ≡ decided told }
+{
+    match told {
+        Passing::Goes(rule) => Decided::Goes(rule),
+        Passing::Stopped(reason) => Decided::Stays(Known::Named(reason)),
+    }
+}
+
+/// What is decided of a frame, whose names are read and looked up. Whether they are names is asked only where no rule
+/// gives them.
+fn goes_as_read(policy: &Policy, octets: &[u8], last: &mut LastRoute) -> Decided
     ensures { IsDecided (decision_of (policy_view policy.now)) (lets_of (policy_view policy.now))
         (reasons_of (policy_view policy.now)) octets.now result }
 {
     let Some(body) = cut_body(octets) else {
-        return Passing::Stopped(None);
+        return Decided::Stays(Known::BadHeader);
     };
     let names = &octets[..octets.len() - body.message_octets.len()];
     if let Some(told) = policy.passes_and_found(names, body.message_octets, last) {
-        return told;
+        return decided(told);
     }
-    let route = route_of(&body);
-    let told = policy.look_at(&route, body.message_octets);
-    if told.goes() && !has_names(&body) {
-        return Passing::Stopped(None);
+    if !has_names(&body) {
+        return Decided::Stays(Known::BadHeader);
     }
-    told
+    decided(policy.look_at(&route_of(&body), body.message_octets))
 }
 
 /// The route of a body: who sends what to whom, by the names in its header.

@@ -7,7 +7,7 @@ ghost use Rattle.guard_frames.specs.Reasons.{Noted};
 ghost use Rattle.guard_frames.specs.inside.Putting.{ArePut, IsBroken, SinkFailed};
 
 use crate::cut::{Cut, Rest, first_cut};
-use crate::decision::Decide;
+use crate::decision::{Decide, Decided};
 use crate::devices::Sink;
 use crate::report::{line_of, report_on};
 use crate::sending::{Broken, put_going};
@@ -17,7 +17,7 @@ use crate::unsent::Unsent;
 use crate::untold::Untold;
 use crate::waiting::Waiting;
 use crate::why::Watch;
-use guard_policy::{LastRoute, Passing};
+use guard_policy::LastRoute;
 use std::alloc::Global;
 
 /// How far the whole frames of some octets reach.
@@ -77,15 +77,15 @@ pub fn put_frames<D: Decide, O: Sink, R: Sink, W: Watch>(
             }
         };
         match policy.goes(frame.body, &mut last) {
-            Passing::Goes(rule) => {
+            Decided::Goes(rule) => {
                 waiting.put(reports)?;
                 untold.add_one(watch, rule, unsent.frames, end);
                 unsent.frames += 1;
                 end += frame.octets.len();
             }
-            Passing::Stopped(told) => {
+            Decided::Stays(known) => {
                 let number = unsent.totals_with().next_number();
-                let report = report_on(alloc, policy, number, &frame, told, &mut room);
+                let report = report_on(alloc, policy, number, &frame, known, &mut room);
                 untold.tell(watch, unsent.frames, end);
                 put_going(out, &octets[unsent.start..end], unsent.totals)?;
                 watch.stays(report.why());

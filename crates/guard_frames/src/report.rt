@@ -5,15 +5,15 @@ ghost use Rattle.std.specs.Io.KnownBytes.{Appends};
 ghost use Rattle.guard_frames.specs.Calls.{EndsLine, AsksLines};
 ghost use Rattle.guard_frames.specs.Prefix.{IsProperPrefix};
 ghost use Rattle.guard_frames.specs.inside.Judged.{IsReportOf, ReportEnds, ReportGives, report_line};
-ghost use Rattle.guard_frames.specs.Bodies.{AbstractBody, IsBody, HasNames, body_view};
+ghost use Rattle.guard_frames.specs.Bodies.{HasNames, body_view};
 ghost use Rattle.guard_frames.specs.Guarding.{Adds};
-ghost use Rattle.guard_frames.specs.Outcomes.{BodyGoes, staying};
+ghost use Rattle.guard_frames.specs.Outcomes.{IsKnown, staying};
 
 use crate::body::Body;
 use crate::cut::Frame;
-use crate::decision::Decide;
+use crate::decision::{Decide, Known};
 use crate::devices::{Failed, Sink, put_all};
-use crate::header::read_body;
+use crate::header::cut_body;
 use crate::short_line::{ShortLine, append};
 use crate::why::{Reason, Why};
 use guard_policy::PlainReason;
@@ -58,28 +58,31 @@ impl Report {
     }
 }
 
-/// What is reported of the frame of this number, which stays, for this reason where one is told. The line takes the
-/// room that is given, in whose place none is left. Conditions: the frame's body is what follows its first four octets,
-/// it doesn't go, and a reason that is told is that of the body.
+/// What is reported of the frame of this number, which stays, and of which this is known. The line takes the room that
+/// is given, in whose place none is left. Conditions: the frame's body is what follows its first four octets, and what is
+/// known is so.
 pub fn report_on<D: Decide>(
     alloc: Global,
     policy: &D,
     number: u64,
     frame: &Frame,
-    told: Option<PlainReason>,
+    known: Known,
     room: &mut Vec<u8>,
 ) -> Report
     requires body { frame.now.body.now ≡ drop 4 frame.now.octets.now }
-    requires stays { BodyGoes (D.decides policy.now) frame.now.body.now → ⊥ }
-    requires told { IfSome told (λ r. (b : AbstractBody) →
-        IsBody frame.now.body.now b → D.reasons_of policy.now b r) }
+    requires known { IsKnown (D.decides policy.now) (D.reasons_of policy.now) frame.now.body.now known }
     ensures adds { Adds (D.decides policy.now) number (staying frame.now.octets.now) (report_line number result) }
     ensures ends { ReportEnds result }
     ensures gives { ReportGives (D.gives policy.now) result }
 {
-    match read_body(frame.body) {
-        Some(body) => report_of(alloc, policy, number, &body, told, room),
-        None => Report::BadHeader,
+    match known {
+        Known::BadHeader => Report::BadHeader,
+        Known::Named(told) => {
+            let Some(body) = cut_body(frame.body) else {
+                unreachable!()
+            };
+            report_of(alloc, policy, number, &body, told, room)
+        }
     }
 }
 

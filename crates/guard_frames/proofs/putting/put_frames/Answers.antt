@@ -115,26 +115,26 @@ loop-frame-preserved-in-Goes g c =
 
 -- ---- a frame stays
 
-pub returns-in_err-put_going-in-Stopped-clause-failure : goal.returns-in_err-put_going-in-Stopped-clause-failure
-returns-in_err-put_going-in-Stopped-clause-failure g c =
+pub returns-in_err-put_going-in-Stays-clause-failure : goal.returns-in_err-put_going-in-Stays-clause-failure
+returns-in_err-put_going-in-Stays-clause-failure g c =
     let d = g.D.Decide.decides c.args.policy.now in
     let h = c.loop-frame.invariant in
-    let p = c.in_err-put_going-in-Stopped.ensures.part in
-    let e = err_from_is_err_and c.from_residual-in_err-put_going-in-Stopped.result c.from_residual-in_err-put_going-in-Stopped.ensures.1 in
+    let p = c.in_err-put_going-in-Stays.ensures.part in
+    let e = err_from_is_err_and c.from_residual-in_err-put_going-in-Stays.result c.from_residual-in_err-put_going-in-Stays.ensures.1 in
     rw (e.1, e.2) (
       sent_more h.0 p.0,
       broken_out d c.args.totals (totals_with c.loop-frame.unsent) c.loop-frame.unsent.totals _ c.args.octets.now c.loop-frame.waiting.lines.items p.0
           c.loop-frame.unsent.start c.loop-frame.end h.0
-          (λ (x : Added). Noted (g.D.Decide.gives c.args.policy.now) (g.D.Decide.lets c.args.policy.now) g.W.Watch.notes c.args.watch.now x c.tell-in-Stopped.new.watch)
-          h.1 p.1 p.3 (but_told _ _ _ _ _ _ _ _ _ _ _ h.5 c.tell-in-Stopped.ensures),
+          (λ (x : Added). Noted (g.D.Decide.gives c.args.policy.now) (g.D.Decide.lets c.args.policy.now) g.W.Watch.notes c.args.watch.now x c.tell-in-Stays.new.watch)
+          h.1 p.1 p.3 (but_told _ _ _ _ _ _ _ _ _ _ _ h.5 c.tell-in-Stays.ensures),
       both_sent _ _ _ _ _ h.0 p.0 h.2 p.2,
     )
 
 pub add-requires-clause-waiting : goal.add-requires-clause-waiting
 add-requires-clause-waiting g c = c.loop-frame.invariant.4
 
-pub returns-in_err-add-in-Stopped-clause-failure : goal.returns-in_err-add-in-Stopped-clause-failure
-returns-in_err-add-in-Stopped-clause-failure g c =
+pub returns-in_err-add-in-Stays-clause-failure : goal.returns-in_err-add-in-Stays-clause-failure
+returns-in_err-add-in-Stays-clause-failure g c =
     let d = g.D.Decide.decides c.args.policy.now in
     let h = c.loop-frame.invariant in
     let s = c.args.octets.now in
@@ -143,18 +143,18 @@ returns-in_err-add-in-Stopped-clause-failure g c =
     let waiting = take (c.loop-frame.end - c.loop-frame.unsent.start) (drop c.loop-frame.unsent.start s) in
     let adds = adds_line d c.next_number-number.result (next_number (totals_with c.loop-frame.unsent)) f.octets.now c.line_of.result.now c.report_on-report.result
     (c.next_number-number.ensures ∙ ap next_number c.totals_with.ensures) c.line_of.ensures.line c.report_on-report.ensures.adds in
-    let p = c.in_err-add-in-Stopped.ensures.part in
-    let e = err_from_is_err_and c.from_residual-in_err-add-in-Stopped.result c.from_residual-in_err-add-in-Stopped.ensures.1 in
+    let p = c.in_err-add-in-Stays.ensures.part in
+    let e = err_from_is_err_and c.from_residual-in_err-add-in-Stays.result c.from_residual-in_err-add-in-Stays.ensures.1 in
     rw (e.1, e.2) (
       reported_more (sent_more h.0 waiting) p.0,
       (
         line_breaks d c.args.totals (totals_with c.loop-frame.unsent) c.loop-frame.unsent.totals s f.octets.now c.loop-frame.waiting.lines.items c.line_of.result.now p.0 c.loop-frame.unsent.start c.loop-frame.end h.0 h.1 at adds p.1,
         reported_more (so_far_told h.0 s c.loop-frame.waiting.lines.items c.loop-frame.unsent.start c.loop-frame.end) c.line_of.result.now,
-        noted_staying _ (g.D.Decide.gives c.args.policy.now) (g.D.Decide.lets c.args.policy.now) g.W.Watch.notes c.args.watch.now c.tell-in-Stopped.new.watch c.stays.new.self
+        noted_staying _ (g.D.Decide.gives c.args.policy.now) (g.D.Decide.lets c.args.policy.now) g.W.Watch.notes c.args.watch.now c.tell-in-Stays.new.watch c.stays.new.self
             c.next_number-number.result c.report_on-report.result (so_far_told h.0 s c.loop-frame.waiting.lines.items c.loop-frame.unsent.start c.loop-frame.end)
-            c.line_of.result.now (but_told _ _ _ _ _ _ _ _ _ _ _ h.5 c.tell-in-Stopped.ensures) c.line_of.ensures.line c.report_on-report.ensures.gives (rw c.why.ensures at c.stays.ensures),
+            c.line_of.result.now (but_told _ _ _ _ _ _ _ _ _ _ _ h.5 c.tell-in-Stays.ensures) c.line_of.ensures.line c.report_on-report.ensures.gives (rw c.why.ensures at c.stays.ensures),
       ),
-      both_reported _ _ _ _ _ (sent_more h.0 waiting) p.0 (both_sent _ _ _ _ _ h.0 waiting h.2 c.in_ok-put_going-in-Stopped.ensures.all) p.2,
+      both_reported _ _ _ _ _ (sent_more h.0 waiting) p.0 (both_sent _ _ _ _ _ h.0 waiting h.2 c.in_ok-put_going-in-Stays.ensures.all) p.2,
     )
 
 pub loop-frame-preserved : goal.loop-frame-preserved
@@ -167,21 +167,21 @@ loop-frame-preserved g c =
     let waiting = take (c.loop-frame.end - c.loop-frame.unsent.start) (drop c.loop-frame.unsent.start s) in
     let adds = adds_line d c.next_number-number.result (next_number (totals_with c.loop-frame.unsent)) f.octets.now c.line_of.result.now c.report_on-report.result
     (c.next_number-number.ensures ∙ ap next_number c.totals_with.ensures) c.line_of.ensures.line c.report_on-report.ensures.adds in
-    let counts = c.after_staying.ensures ∙ ap after_staying c.totals_with-in-Stopped.ensures in
-    let q = c.in_ok-add-in-Stopped.ensures.all in (
+    let counts = c.after_staying.ensures ∙ ap after_staying c.totals_with-in-Stays.ensures in
+    let q = c.in_ok-add-in-Stays.ensures.all in (
       reported_more (sent_more h.0 waiting) q.0,
-      rw (c.none-unsent-in-Stopped.ensures, with_none_behind c.loop-frame.unsent c.after_staying.result (c.loop-frame.end + length f.octets.now) counts)
+      rw (c.none-unsent-in-Stays.ensures, with_none_behind c.loop-frame.unsent c.after_staying.result (c.loop-frame.end + length f.octets.now) counts)
           (stays_next d c.args.totals (totals_with c.loop-frame.unsent) c.loop-frame.unsent.totals c.after_staying.result s f.octets.now c.loop-frame.waiting.lines.items c.line_of.result.now q.0
           c.add.new.self.lines.items c.loop-frame.unsent.start c.loop-frame.end h.0 h.1 at adds counts q.1),
-      both_reported _ _ _ _ _ (sent_more h.0 waiting) q.0 (both_sent _ _ _ _ _ h.0 waiting h.2 c.in_ok-put_going-in-Stopped.ensures.all) q.2,
-      asks_trans _ _ _ h.3 c.in_ok-add-in-Stopped.ensures.lines,
-      c.in_ok-add-in-Stopped.ensures.waiting,
-      rw (c.none-unsent-in-Stopped.ensures, c.none-untold-in-Stopped.ensures) (but_none _ _ _ _ _ _ _ _ (subst (λ (x : Added). Noted (g.D.Decide.gives c.args.policy.now) (g.D.Decide.lets c.args.policy.now) g.W.Watch.notes c.args.watch.now x c.stays.new.self)
+      both_reported _ _ _ _ _ (sent_more h.0 waiting) q.0 (both_sent _ _ _ _ _ h.0 waiting h.2 c.in_ok-put_going-in-Stays.ensures.all) q.2,
+      asks_trans _ _ _ h.3 c.in_ok-add-in-Stays.ensures.lines,
+      c.in_ok-add-in-Stays.ensures.waiting,
+      rw (c.none-unsent-in-Stays.ensures, c.none-untold-in-Stays.ensures) (but_none _ _ _ _ _ _ _ _ (subst (λ (x : Added). Noted (g.D.Decide.gives c.args.policy.now) (g.D.Decide.lets c.args.policy.now) g.W.Watch.notes c.args.watch.now x c.stays.new.self)
           (told_staying s c.loop-frame.waiting.lines.items c.line_of.result.now q.0 c.add.new.self.lines.items c.loop-frame.unsent.start c.loop-frame.end
           (c.loop-frame.end + length f.octets.now) h.0 q.1)
-          (noted_staying _ (g.D.Decide.gives c.args.policy.now) (g.D.Decide.lets c.args.policy.now) g.W.Watch.notes c.args.watch.now c.tell-in-Stopped.new.watch c.stays.new.self
+          (noted_staying _ (g.D.Decide.gives c.args.policy.now) (g.D.Decide.lets c.args.policy.now) g.W.Watch.notes c.args.watch.now c.tell-in-Stays.new.watch c.stays.new.self
           c.next_number-number.result c.report_on-report.result (so_far_told h.0 s c.loop-frame.waiting.lines.items c.loop-frame.unsent.start c.loop-frame.end)
-          c.line_of.result.now (but_told _ _ _ _ _ _ _ _ _ _ _ h.5 c.tell-in-Stopped.ensures) c.line_of.ensures.line c.report_on-report.ensures.gives (rw c.why.ensures at c.stays.ensures)))),
+          c.line_of.result.now (but_told _ _ _ _ _ _ _ _ _ _ _ h.5 c.tell-in-Stays.ensures) c.line_of.ensures.line c.report_on-report.ensures.gives (rw c.why.ensures at c.stays.ensures)))),
     )
 
 -- ---- each call ends a line
@@ -201,12 +201,12 @@ pub returns-in_err-put-in-Goes-clause-lines : goal.returns-in_err-put-in-Goes-cl
 returns-in_err-put-in-Goes-clause-lines g c =
     asks_trans _ _ _ c.loop-frame.invariant.3 c.in_err-put-in-Goes.ensures.lines
 
-pub returns-in_err-put_going-in-Stopped-clause-lines : goal.returns-in_err-put_going-in-Stopped-clause-lines
-returns-in_err-put_going-in-Stopped-clause-lines g c = c.loop-frame.invariant.3
+pub returns-in_err-put_going-in-Stays-clause-lines : goal.returns-in_err-put_going-in-Stays-clause-lines
+returns-in_err-put_going-in-Stays-clause-lines g c = c.loop-frame.invariant.3
 
-pub returns-in_err-add-in-Stopped-clause-lines : goal.returns-in_err-add-in-Stopped-clause-lines
-returns-in_err-add-in-Stopped-clause-lines g c =
-    asks_trans _ _ _ c.loop-frame.invariant.3 c.in_err-add-in-Stopped.ensures.lines
+pub returns-in_err-add-in-Stays-clause-lines : goal.returns-in_err-add-in-Stays-clause-lines
+returns-in_err-add-in-Stays-clause-lines g c =
+    asks_trans _ _ _ c.loop-frame.invariant.3 c.in_err-add-in-Stays.ensures.lines
 
 -- ---- which sink failed
 
@@ -225,12 +225,12 @@ returns-in_err-put-in-Goes-clause-failed g c =
     let e = err_from_is_err_and c.from_residual-in_err-put-in-Goes.result c.from_residual-in_err-put-in-Goes.ensures.1 in
     rw (e.1, e.2) c.in_err-put-in-Goes.ensures.failed
 
-pub returns-in_err-put_going-in-Stopped-clause-failed : goal.returns-in_err-put_going-in-Stopped-clause-failed
-returns-in_err-put_going-in-Stopped-clause-failed g c =
-    let e = err_from_is_err_and c.from_residual-in_err-put_going-in-Stopped.result c.from_residual-in_err-put_going-in-Stopped.ensures.1 in
-    rw (e.1, e.2) c.in_err-put_going-in-Stopped.ensures.failed
+pub returns-in_err-put_going-in-Stays-clause-failed : goal.returns-in_err-put_going-in-Stays-clause-failed
+returns-in_err-put_going-in-Stays-clause-failed g c =
+    let e = err_from_is_err_and c.from_residual-in_err-put_going-in-Stays.result c.from_residual-in_err-put_going-in-Stays.ensures.1 in
+    rw (e.1, e.2) c.in_err-put_going-in-Stays.ensures.failed
 
-pub returns-in_err-add-in-Stopped-clause-failed : goal.returns-in_err-add-in-Stopped-clause-failed
-returns-in_err-add-in-Stopped-clause-failed g c =
-    let e = err_from_is_err_and c.from_residual-in_err-add-in-Stopped.result c.from_residual-in_err-add-in-Stopped.ensures.1 in
-    rw (e.1, e.2) c.in_err-add-in-Stopped.ensures.failed
+pub returns-in_err-add-in-Stays-clause-failed : goal.returns-in_err-add-in-Stays-clause-failed
+returns-in_err-add-in-Stays-clause-failed g c =
+    let e = err_from_is_err_and c.from_residual-in_err-add-in-Stays.result c.from_residual-in_err-add-in-Stays.ensures.1 in
+    rw (e.1, e.2) c.in_err-add-in-Stays.ensures.failed

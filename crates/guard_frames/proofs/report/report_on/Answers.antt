@@ -1,25 +1,36 @@
+use Rattle.std.proofs.Common.{subst}
 use Rattle.guard_frames.specs.Bodies.{body_view}
-use Rattle.guard_frames.proofs.Reporting.{names_are, stays_there, reason_there, stays_by_body, bad_by_body}
+use Rattle.guard_frames.specs.Outcomes.{IsKnown}
+use Rattle.guard_frames.proofs.Reporting.{known_there, not_without, stays_by_body}
 use Rattle.guard_frames.proofs.report.report_on.Goals as goal
 
+pub unreachable-requires : goal.unreachable-requires
+unreachable-requires g c =
+    let octets = c.args.frame.now.body.now in
+    let known = subst (IsKnown (g.D.Decide.decides c.args.policy.now) (g.D.Decide.reasons_of c.args.policy.now) octets) c.in-Named.is c.requires.known in
+    not_without octets known.0 known.1 c.in_default.ensures
+
 pub report_of-requires-clause-names : goal.report_of-requires-clause-names
-report_of-requires-clause-names g c = names_are c.args.frame.now.body.now (body_view c.in-Some.body) c.in-Some.ensures
+report_of-requires-clause-names g c =
+    let k = known_there (g.D.Decide.decides c.args.policy.now) (g.D.Decide.reasons_of c.args.policy.now) c.args.frame.now.body.now c.args.known (body_view c.in-Some.body) c.in-Named.told
+    c.in-Named.is c.requires.known c.in-Some.ensures in
+    k.0.names
 
 pub report_of-requires-clause-stays : goal.report_of-requires-clause-stays
 report_of-requires-clause-stays g c =
-    stays_there (g.D.Decide.decides c.args.policy.now) c.args.frame.now.body.now (body_view c.in-Some.body) c.requires.stays c.in-Some.ensures
+    let k = known_there (g.D.Decide.decides c.args.policy.now) (g.D.Decide.reasons_of c.args.policy.now) c.args.frame.now.body.now c.args.known (body_view c.in-Some.body) c.in-Named.told
+    c.in-Named.is c.requires.known c.in-Some.ensures in
+    k.1
 
 pub report_of-requires-clause-told : goal.report_of-requires-clause-told
 report_of-requires-clause-told g c =
-    reason_there (g.D.Decide.reasons_of c.args.policy.now) c.args.frame.now.body.now (body_view c.in-Some.body) c.args.told c.requires.told c.in-Some.ensures
+    let k = known_there (g.D.Decide.decides c.args.policy.now) (g.D.Decide.reasons_of c.args.policy.now) c.args.frame.now.body.now c.args.known (body_view c.in-Some.body) c.in-Named.told
+    c.in-Named.is c.requires.known c.in-Some.ensures in
+    k.2
 
 pub returns-in-Some-clause-adds : goal.returns-in-Some-clause-adds
 returns-in-Some-clause-adds g c =
-    let d = g.D.Decide.decides c.args.policy.now in
-    let octets = c.args.frame.now.body.now in
-    stays_by_body d c.args.number c.args.frame.now.octets.now octets (body_view c.in-Some.body) c.report_of.result c.requires.body c.in-Some.ensures
-    (stays_there d octets (body_view c.in-Some.body) c.requires.stays c.in-Some.ensures) c.report_of.ensures.reports
-
-pub returns-in-None-clause-adds : goal.returns-in-None-clause-adds
-returns-in-None-clause-adds g c =
-    bad_by_body (g.D.Decide.decides c.args.policy.now) c.args.number c.args.frame.now.octets.now c.args.frame.now.body.now c.requires.body c.in-None.ensures
+    let k = known_there (g.D.Decide.decides c.args.policy.now) (g.D.Decide.reasons_of c.args.policy.now) c.args.frame.now.body.now c.args.known (body_view c.in-Some.body) c.in-Named.told
+    c.in-Named.is c.requires.known c.in-Some.ensures in
+    stays_by_body (g.D.Decide.decides c.args.policy.now) c.args.number c.args.frame.now.octets.now c.args.frame.now.body.now (body_view c.in-Some.body) c.report_of.result
+    c.requires.body k.0 k.1 c.report_of.ensures.reports

@@ -4,7 +4,7 @@
 //! | question | code | definition |
 //! |---|---|---|
 //! | What is the text of a verdict, with its breach, site and rules? | `text.rt` (`verdict_text`) | `specs/Text.antt` |
-//! | What is the line of a frame's verdict? | `lines.rt` (`line`, `add_line`) | `specs/Lines.antt` |
+//! | What is the line of a frame's verdict? | `lines.rt` (`line`, `add_line`, `add_line_told`) | `specs/Lines.antt` |
 //! | How is a path written by the names of a type? | `path.rt` | `specs/Text.antt` |
 //! | What is written for a name that is missing? | `words.rt` | `specs/Text.antt` |
 //! | How is a value written? | `values.rt` | `specs/ValueText.antt` |
@@ -33,7 +33,7 @@ mod values;
 mod words;
 
 pub use layout::Layout;
-pub use lines::{add_line, add_route, line};
+pub use lines::{add_line, add_line_told, add_route, line};
 pub use parts::{part_text, type_at, value_at};
 pub use path::{component_at, element_type, part_type};
 pub use places::{header_there, inside_value};

@@ -1,13 +1,13 @@
 //! The line of a report.
-ghost use Rattle.std.specs.Prelude.{◌≡◌, ◌++◌, IfOk, OnOk};
+ghost use Rattle.std.specs.Prelude.{◌≡◌, ◌++◌, IfOk, IfSome, None, OnOk, codes, decimal};
 ghost use Rattle.guard_policy.specs.PolicyView.{policy_view, route_view};
-ghost use Rattle.guard_policy.specs.Verdicts.{verdict_view};
+ghost use Rattle.guard_policy.specs.Verdicts.{reason_view, verdict_view};
 ghost use Rattle.guard_report.specs.Lines.{line_octets, route_text};
 
-use super::text::add_verdict;
+use super::text::{add_reason, add_verdict};
 use super::words::{add, add_number};
 use guard_model::OutOfMemory;
-use guard_policy::{Policy, Route, Verdict};
+use guard_policy::{PlainReason, Policy, Route, Verdict};
 use std::alloc::Global;
 
 /// The octets for which a line has room from the start. Few lines have more, so that a buffer grows once.
@@ -43,14 +43,41 @@ pub fn add_line(
         ≡ line.old.items
         ++ line_octets (policy_view policy.now) (route_view route.now) number (verdict_view verdict.now)) }
 {
+    add_before_text(line, number, route)?;
+    add_verdict(line, verdict, route, policy)?;
+    add(line, b"\n")
+}
+
+/// Appends the line that `add_line` appends for the verdict with this reason, which needn't be made. OutOfMemory is the
+/// only error; a part of the line may have come to the buffer then. Condition: the reason has a verdict, so it isn't
+/// NotAllowed.
+pub fn add_line_told(
+    line: &mut Vec<u8>,
+    number: u64,
+    route: &Route,
+    reason: PlainReason,
+    policy: &Policy,
+) -> Result<(), OutOfMemory>
+    requires { reason_view reason ≡ None → ⊥ }
+    ensures { OnOk result (IfSome (reason_view reason) (λ w. line.new.items
+        ≡ line.old.items ++ line_octets (policy_view policy.now) (route_view route.now) number w)) }
+{
+    add_before_text(line, number, route)?;
+    add_reason(line, reason, policy)?;
+    add(line, b"\n")
+}
+
+/// Appends what a line has before the text of its verdict.
+fn add_before_text(line: &mut Vec<u8>, number: u64, route: &Route) -> Result<(), OutOfMemory>
+    ensures { OnOk result (line.new.items
+        ≡ line.old.items ++ decimal number ++ codes " " ++ route_text (route_view route.now) ++ codes " ") }
+{
     // Where there is no room for so many octets, there may be for fewer.
     let _ = line.reserve(USUAL_LENGTH);
     add_number(line, number)?;
     add(line, b" ")?;
     add_route(line, route)?;
-    add(line, b" ")?;
-    add_verdict(line, verdict, route, policy)?;
-    add(line, b"\n")
+    add(line, b" ")
 }
 
 /// Appends who sends what to whom: `FROM>TO` and the message's name. OutOfMemory is the only error; a part of it may

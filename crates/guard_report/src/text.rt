@@ -1,8 +1,9 @@
 //! The text of a verdict, as a report has it.
-ghost use Rattle.std.specs.Prelude.{◌≡◌, ◌++◌, OnOk, IfOk, codes, map, option_map};
+ghost use Rattle.std.specs.Prelude.{◌≡◌, ◌++◌, IfOk, IfSome, None, OnOk, codes, map, option_map};
+ghost use Rattle.guard_policy.specs.Policies.{AbstractRoute};
 ghost use Rattle.guard_policy.specs.PolicyView.{policy_view, route_view};
 ghost use Rattle.guard_eval.specs.Violations.{violation_view, shortfall_view};
-ghost use Rattle.guard_policy.specs.Verdicts.{verdict_view};
+ghost use Rattle.guard_policy.specs.Verdicts.{reason_view, verdict_view};
 ghost use Rattle.guard_der.specs.Views.{breach_view};
 ghost use Rattle.guard_report.specs.Text.{verdict_octets, breach_text, violation_text, site_text, rule_text};
 ghost use Rattle.guard_report.specs.Text.{shortfall_text, shortfalls_text};
@@ -12,7 +13,7 @@ use super::words::{add, add_name, add_number};
 use guard_der::Breach;
 use guard_eval::Violation;
 use guard_model::{OutOfMemory, Site};
-use guard_policy::{Policy, Route, Verdict};
+use guard_policy::{PlainReason, Policy, Route, Verdict};
 use std::alloc::Global;
 
 /// The text of a verdict on a message of the route, without a line feed: `pass`, or why the message stays, with the
@@ -62,6 +63,27 @@ pub fn add_verdict(
             add_shortfalls(text, shortfalls, route, policy)
         }
         Verdict::NoRule => add(text, b"no-rule"),
+    }
+}
+
+/// Appends the text of the verdict with this reason, which no route changes. Condition: the reason has a verdict.
+pub fn add_reason(
+    text: &mut Vec<u8>,
+    reason: PlainReason,
+    policy: &Policy,
+) -> Result<(), OutOfMemory>
+    requires { reason_view reason ≡ None → ⊥ }
+    ensures { OnOk result (IfSome (reason_view reason) (λ w. (route : AbstractRoute) → text.new.items
+        ≡ text.old.items ++ verdict_octets (policy_view policy.now) route w)) }
+{
+    match reason {
+        PlainReason::UnknownMessage => add(text, b"unknown-message"),
+        PlainReason::DeniedBy(rule) => {
+            add(text, b"denied-by ")?;
+            add_rule(text, rule, policy)
+        }
+        PlainReason::NotAllowed => unreachable!(),
+        PlainReason::NoRule => add(text, b"no-rule"),
     }
 }
 

@@ -1,9 +1,8 @@
 //! A policy decides which bodies go: those whose message goes.
 
-ghost use Rattle.std.specs.Prelude.{◌≡◌, Some, IfOk, IfSome};
+ghost use Rattle.std.specs.Prelude.{◌≡◌, IfOk, IfSome, None, Some};
 ghost use Rattle.guard_policy.specs.PolicyView.{policy_view, route_view};
 ghost use Rattle.guard_policy.specs.Verdicts.{verdict_view, reason_view, pass};
-ghost use Rattle.guard_policy.specs.declared.verdict.PlainReason.{PlainReason};
 ghost use Rattle.guard_report.specs.Lines.{line_octets};
 ghost use Rattle.guard_frames.specs.Bodies.{body_view};
 ghost use Rattle.guard_frames.specs.OfPolicy.{route_of, decision_of, lets_of, reasons_of, gives_of, decided};
@@ -13,10 +12,10 @@ ghost use Rattle.guard_frames.specs.Reasons.{reason_of};
 use crate::body::Body;
 use crate::decision::{Decide, Decided, Known};
 use crate::header::{cut_body, has_names};
-use crate::why::{Reason, reason_of};
+use crate::why::{Reason, reason_of, reason_told};
 use guard_model::OutOfMemory;
 use guard_policy::{LastRoute, Passing, PlainReason, Policy, Route, Verdict};
-use guard_report::add_line;
+use guard_report::{add_line, add_line_told};
 use std::alloc::Global;
 
 impl Decide for Policy {
@@ -44,23 +43,43 @@ impl Decide for Policy {
         told: Option<PlainReason>,
     ) -> Result<(Vec<u8>, Reason), OutOfMemory> {
         let route = route_of(body);
-        // A verdict is large: one that is told isn't handed up.
-        if let Some(verdict) = verdict_told(told) {
-            return line_of(room, number, &route, &verdict, self);
+        // A verdict is large: of a reason that is told none is made.
+        if let Some(reason) = told_whole(told) {
+            return line_told(room, number, &route, reason, self);
         }
         let verdict = self.reason_as_told(alloc, &route, body.message_octets, told)?;
         line_of(room, number, &route, &verdict, self)
     }
 }
 
-/// The verdict of a reason that is told; None where none is, and where violations belong to it.
-fn verdict_told(told: Option<PlainReason>) -> Option<Verdict>
-    ensures { IfSome result (λ w. (r : PlainReason) × (told ≡ Some r) × (Some (verdict_view w) ≡ reason_view r)) }
+/// The reason that is told, if it has a verdict; None where none is told, and where violations belong to it.
+fn told_whole(told: Option<PlainReason>) -> Option<PlainReason>
+    ensures { IfSome result (λ r. (told ≡ Some r) × (reason_view r ≡ None → ⊥)) }
 {
     match told {
-        Some(reason) => reason.verdict(),
-        None => None,
+        Some(PlainReason::NotAllowed) => None,
+        _ => told,
     }
+}
+
+/// The line of the verdict with this reason in this room, and the reason that it gives. Condition: the reason has a
+/// verdict.
+fn line_told(
+    room: Vec<u8>,
+    number: u64,
+    route: &Route,
+    reason: PlainReason,
+    policy: &Policy,
+) -> Result<(Vec<u8>, Reason), OutOfMemory>
+    requires { reason_view reason ≡ None → ⊥ }
+    ensures { IfOk result (λ said. IfSome (reason_view reason) (λ w.
+        (said.0.items ≡ line_octets (policy_view policy.now) (route_view route.now) number w)
+        × (reason_of w ≡ Some said.1))) }
+{
+    let mut line = room;
+    line.clear();
+    add_line_told(&mut line, number, route, reason, policy)?;
+    Ok((line, reason_told(reason)))
 }
 
 /// The line of a verdict in this room, and the reason that it gives. Condition: the verdict isn't to pass.

@@ -1,13 +1,13 @@
 //! Why frames stay, and who is told what becomes of each.
 
-ghost use Rattle.std.specs.Prelude.{◌≡◌, ◌<◌, Some};
-ghost use Rattle.guard_policy.specs.Verdicts.{verdict_view, pass};
+ghost use Rattle.std.specs.Prelude.{◌≡◌, ◌<◌, IfSome, Some};
+ghost use Rattle.guard_policy.specs.Verdicts.{verdict_view, reason_view, pass};
 ghost use Rattle.guard_frames.specs.Reasons.{reason_of, Told};
 ghost use Rattle.guard_frames.specs.Reasons.Told.{pauses, reads, goes, stays};
 ghost use Rattle.guard_frames.specs.declared.why.Why.{Why};
 
 use crate::totals::Totals;
-use guard_policy::Verdict;
+use guard_policy::{PlainReason, Verdict};
 
 /// The reason of a verdict that isn't to pass.
 #[derive(Clone, Copy, Debug, PartialEq, Eq)]
@@ -45,6 +45,18 @@ pub fn reason_of(verdict: &Verdict) -> Reason
         Verdict::DeniedBy(rule) => Reason::DeniedBy(*rule),
         Verdict::NotAllowed(_) => Reason::NotAllowed,
         Verdict::NoRule => Reason::NoRule,
+    }
+}
+
+/// The reason of the verdict with this reason.
+pub fn reason_told(reason: PlainReason) -> Reason
+    ensures { IfSome (reason_view reason) (λ w. reason_of w ≡ Some result) }
+{
+    match reason {
+        PlainReason::UnknownMessage => Reason::UnknownMessage,
+        PlainReason::DeniedBy(rule) => Reason::DeniedBy(rule),
+        PlainReason::NotAllowed => Reason::NotAllowed,
+        PlainReason::NoRule => Reason::NoRule,
     }
 }
 

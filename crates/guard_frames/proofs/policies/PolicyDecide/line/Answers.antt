@@ -1,5 +1,5 @@
-use Rattle.std.proofs.Common.{◌≡◌, List, ℕ, Option, Result, Some, ap, sym, subst, ◌∙◌}
-use Rattle.std.specs.Prelude.{IfOk, IfSome}
+use Rattle.std.proofs.Common.{◌≡◌, ◌++◌, List, ℕ, None, Option, Result, Some, ap, refl, sym, subst, ◌∙◌}
+use Rattle.std.specs.Prelude.{IfOk, IfSome, codes, decimal}
 use Rattle.guard_policy.specs.Policies.{AbstractPolicy, AbstractRoute}
 use Rattle.guard_policy.specs.PolicyView.{policy_view, route_view}
 use Rattle.guard_policy.specs.declared.verdict.PlainReason.{PlainReason}
@@ -8,8 +8,10 @@ use Rattle.guard_policy.specs.Decisions.{IsReason}
 use Rattle.guard_policy.specs.Told.{IsToldReason}
 use Rattle.guard_policy.proofs.Goes.{goes_from_passes}
 use Rattle.guard_policy.proofs.Reasons.{if_ok_map}
-use Rattle.guard_report.specs.Lines.{line_octets}
+use Rattle.guard_report.specs.Lines.{line_octets, route_text}
+use Rattle.guard_report.specs.Text.{verdict_octets}
 use Rattle.guard_frames.specs.Bodies.{AbstractBody, HasNames, body_view}
+use Rattle.guard_frames.specs.Calls.{EndsLine}
 use Rattle.guard_frames.specs.OfPolicy.{route_of, decision_of, gives_of}
 use Rattle.guard_frames.specs.Reasons.{reason_of}
 use Rattle.guard_frames.specs.declared.why.Reason.{Reason}
@@ -29,37 +31,49 @@ module _ {A E : Type 0} (items : A → List ℕ) (reason : A → Reason) (p : Ab
   gives names = if_ok_map IsLine (λ x. gives_of p (reason x) (items x)) said
       (λ x l. (n, b, w, names, is, l.1, l.0 ∙ ap (λ (y : AbstractRoute). line_octets p y n w) same)) lines
 
--- the verdict of a reason that is told is the reason
-told_is : (p : AbstractPolicy) (b : AbstractBody) (told : Option PlainReason) (w : AbstractVerdict)
-    → (r : PlainReason) × (told ≡ Some r) × (Some w ≡ reason_view r)
-    → IfSome told (λ x. IsToldReason p (route_of b) b.message_octets (reason_view x)) → IsReason p (route_of b) b.message_octets w
-told_is p b told w (r, is, whole) reason =
-    subst (λ (o : Option AbstractVerdict). IsToldReason p (route_of b) b.message_octets o) (sym whole)
-    (subst (λ (o : Option PlainReason). IfSome o (λ x. IsToldReason p (route_of b) b.message_octets (reason_view x))) is reason)
+verdict_line : {A E : Type 0} (P : AbstractVerdict → A → Type 0) (p : AbstractPolicy) (b : AbstractBody) (o : Option AbstractVerdict) (said : Result A E)
+    → (o ≡ None → ⊥) → IsToldReason p (route_of b) b.message_octets o → IfOk said (λ x. IfSome o (λ w. P w x))
+    → (w : AbstractVerdict) × IsReason p (route_of b) b.message_octets w × IfOk said (P w)
+verdict_line P p b None said whole reason lines = absurd (whole refl)
+verdict_line P p b (Some w) said whole reason lines = (w, reason, lines)
 
-pub line_of-requires : goal.line_of-requires
-line_of-requires c = λ passes.
-    let p = policy_view c.args.self.now in
-    let b = body_view c.args.body.now in
-    c.requires.stays (goes_from_passes p (route_of b) b.message_octets
-    (subst (λ (w : AbstractVerdict). IsReason p (route_of b) b.message_octets w) passes
-    (told_is p b c.args.told (verdict_view c.in-Some.verdict) c.in-Some.ensures c.requires.told)))
+-- a reason that is told and has a verdict: that one is the reason, and what holds with it
+told_line : {A E : Type 0} (P : AbstractVerdict → A → Type 0) (p : AbstractPolicy) (b : AbstractBody) (told : Option PlainReason) (r : PlainReason) (said : Result A E)
+    → (told ≡ Some r) × (reason_view r ≡ None → ⊥) → IfSome told (λ x. IsToldReason p (route_of b) b.message_octets (reason_view x))
+    → IfOk said (λ x. IfSome (reason_view r) (λ w. P w x))
+    → (w : AbstractVerdict) × IsReason p (route_of b) b.message_octets w × IfOk said (P w)
+told_line P p b told r said found reason lines = verdict_line P p b (reason_view r) said found.1 (subst (λ (o : Option PlainReason). IfSome o (λ x. IsToldReason p (route_of b) b.message_octets (reason_view x))) found.0 reason) lines
+
+ends_so : (p : AbstractPolicy) (r : AbstractRoute) (n : ℕ) (w : AbstractVerdict) → EndsLine (line_octets p r n w)
+ends_so p r n w = record { front = decimal n ++ codes " " ++ route_text r ++ codes " " ++ verdict_octets p r w; ends = refl }
 
 pub returns-in-Some-clause-reports : goal.returns-in-Some-clause-reports
 returns-in-Some-clause-reports c =
     let p = policy_view c.args.self.now in
     let b = body_view c.args.body.now in
-    let w = verdict_view c.in-Some.verdict in
-    reports (λ x. x.0.items) (λ x. x.1) p b (route_view c.route_of-route.result) c.args.number w c.line_of.result c.route_of-route.ensures
-    (told_is p b c.args.told w c.in-Some.ensures c.requires.told) c.line_of.ensures
+    let r = route_view c.route_of-route.result in
+    let line = told_line (λ w x. (x.0.items ≡ line_octets p r c.args.number w) × (reason_of w ≡ Some x.1)) p b c.args.told c.in-Some.reason c.line_told.result
+    c.in-Some.ensures c.requires.told c.line_told.ensures in
+    reports (λ x. x.0.items) (λ x. x.1) p b r c.args.number line.0 c.line_told.result c.route_of-route.ensures line.1 line.2
+
+pub returns-in-Some-clause-ends : goal.returns-in-Some-clause-ends
+returns-in-Some-clause-ends c =
+    let p = policy_view c.args.self.now in
+    let b = body_view c.args.body.now in
+    let r = route_view c.route_of-route.result in
+    let line = told_line (λ w x. (x.0.items ≡ line_octets p r c.args.number w) × (reason_of w ≡ Some x.1)) p b c.args.told c.in-Some.reason c.line_told.result
+    c.in-Some.ensures c.requires.told c.line_told.ensures in
+    if_ok_map (λ x. (x.0.items ≡ line_octets p r c.args.number line.0) × (reason_of line.0 ≡ Some x.1)) (λ x. EndsLine x.0.items) c.line_told.result
+    (λ x l. subst EndsLine (sym l.0) (ends_so p r c.args.number line.0)) line.2
 
 pub returns-in-Some-clause-gives : goal.returns-in-Some-clause-gives
 returns-in-Some-clause-gives c =
     let p = policy_view c.args.self.now in
     let b = body_view c.args.body.now in
-    let w = verdict_view c.in-Some.verdict in
-    gives (λ x. x.0.items) (λ x. x.1) p b (route_view c.route_of-route.result) c.args.number w c.line_of.result c.route_of-route.ensures
-    (told_is p b c.args.told w c.in-Some.ensures c.requires.told) c.line_of.ensures c.requires.names
+    let r = route_view c.route_of-route.result in
+    let line = told_line (λ w x. (x.0.items ≡ line_octets p r c.args.number w) × (reason_of w ≡ Some x.1)) p b c.args.told c.in-Some.reason c.line_told.result
+    c.in-Some.ensures c.requires.told c.line_told.ensures in
+    gives (λ x. x.0.items) (λ x. x.1) p b r c.args.number line.0 c.line_told.result c.route_of-route.ensures line.1 line.2 c.requires.names
 
 pub reason_as_told-requires : goal.reason_as_told-requires
 reason_as_told-requires c =
@@ -67,8 +81,8 @@ reason_as_told-requires c =
     subst (λ (r : AbstractRoute). IfSome c.args.told (λ x. IsToldReason (policy_view c.args.self.now) r b.message_octets (reason_view x)))
     (sym c.route_of-route.ensures) c.requires.told
 
-pub line_of-requires-2 : goal.line_of-requires-2
-line_of-requires-2 c = λ passes.
+pub line_of-requires : goal.line_of-requires
+line_of-requires c = λ passes.
     let p = policy_view c.args.self.now in
     let b = body_view c.args.body.now in
     c.requires.stays (goes_from_passes p (route_of b) b.message_octets
@@ -80,13 +94,13 @@ returns-clause-reports c =
     let p = policy_view c.args.self.now in
     let b = body_view c.args.body.now in
     let w = verdict_view c.in_ok-verdict.verdict in
-    reports (λ x. x.0.items) (λ x. x.1) p b (route_view c.route_of-route.result) c.args.number w c.line_of-2.result c.route_of-route.ensures
-    (subst (λ (r : AbstractRoute). IsReason p r b.message_octets w) c.route_of-route.ensures c.in_ok-verdict.ensures) c.line_of-2.ensures
+    reports (λ x. x.0.items) (λ x. x.1) p b (route_view c.route_of-route.result) c.args.number w c.line_of.result c.route_of-route.ensures
+    (subst (λ (r : AbstractRoute). IsReason p r b.message_octets w) c.route_of-route.ensures c.in_ok-verdict.ensures) c.line_of.ensures
 
 pub returns-clause-gives : goal.returns-clause-gives
 returns-clause-gives c =
     let p = policy_view c.args.self.now in
     let b = body_view c.args.body.now in
     let w = verdict_view c.in_ok-verdict.verdict in
-    gives (λ x. x.0.items) (λ x. x.1) p b (route_view c.route_of-route.result) c.args.number w c.line_of-2.result c.route_of-route.ensures
-    (subst (λ (r : AbstractRoute). IsReason p r b.message_octets w) c.route_of-route.ensures c.in_ok-verdict.ensures) c.line_of-2.ensures c.requires.names
+    gives (λ x. x.0.items) (λ x. x.1) p b (route_view c.route_of-route.result) c.args.number w c.line_of.result c.route_of-route.ensures
+    (subst (λ (r : AbstractRoute). IsReason p r b.message_octets w) c.route_of-route.ensures c.in_ok-verdict.ensures) c.line_of.ensures c.requires.names

@@ -5,8 +5,8 @@ use Rattle.std.specs.Prelude.{Result, Ok, Err}
 use Rattle.std.proofs.lemmas.List.{append-nil}
 use Rattle.guard_frames.specs.declared.totals.Totals.{Totals}
 use Rattle.guard_frames.specs.declared.why.Reason.{Reason}
-use Rattle.guard_frames.specs.declared.report.Report.{Report}
-use Rattle.guard_frames.specs.declared.report.Report.TheVariants.{BadHeader, NoMemory, Line}
+use Rattle.guard_frames.specs.declared.why.Why.{Why}
+use Rattle.guard_frames.specs.declared.why.Why.TheVariants.{BadHeader, NoMemory, Decided}
 use Rattle.guard_frames.specs.declared.untold.Untold.{Untold}
 use Rattle.guard_frames.specs.declared.link.Closing.{Closing}
 use Rattle.guard_frames.specs.declared.link.Closing.TheVariants.{FrameTooLong, OutFailed, ReportsFailed, TornFrame}
@@ -15,7 +15,7 @@ use Rattle.guard_frames.specs.inside.Untold.{none_from, IsToldOf, IsOneMore}
 use Rattle.guard_frames.specs.Added.{Added, nothing, joined, sent_more, reported_more}
 use Rattle.guard_frames.specs.Bodies.{AbstractBody}
 use Rattle.guard_frames.specs.Frames.{IsFrame}
-use Rattle.guard_frames.specs.inside.Judged.{report_line, why_of, ReportGives}
+use Rattle.guard_frames.specs.inside.Judged.{report_line, ReportGives}
 use Rattle.guard_frames.specs.Outcomes.{Decision, GoesBy}
 use Rattle.guard_frames.specs.Reasons.{Says, Told, IsPaused, AreLetBy, Tells, IsTold, Noted}
 use Rattle.guard_frames.specs.Reasons.Told.{pauses, reads, goes, stays}
@@ -24,10 +24,10 @@ use Rattle.guard_frames.proofs.Elements.{All_none, All_more}
 use Rattle.guard_frames.proofs.Progress.{concat_more}
 
 -- the line of a report says why
-says_why : (Gives : Reason → List ℕ → Type 0) (n : ℕ) (r : Report) → ReportGives Gives r → Says Gives (why_of r) (report_line n r)
-says_why Gives n BadHeader h = (n, refl)
-says_why Gives n NoMemory h = (n, refl)
-says_why Gives n (Line line reason) h = h
+says_why : (Gives : Reason → List ℕ → Type 0) (n : ℕ) (why : Why) (line : List ℕ) → ReportGives Gives why line → Says Gives why (report_line n why line)
+says_why Gives n BadHeader line h = (n, refl)
+says_why Gives n NoMemory line h = (n, refl)
+says_why Gives n (Decided reason) line h = h
 
 -- ---- octets that are added
 
@@ -170,11 +170,11 @@ module _ (W : Type 0) (Gives : Reason → List ℕ → Type 0) (Lets : AbstractB
   })
 
   -- one more stays
-  pub noted_staying : (a b c : W) (n : ℕ) (r : Report) (x : Added) (line : List ℕ) → Noted Gives Lets notes a x b → line ≡ report_line n r → ReportGives Gives r
-      → notes b (stays (why_of r)) c → Noted Gives Lets notes a (reported_more x line) c
-  noted_staying a b c n r x line p is gives noted =
-      let says : Says Gives (why_of r) line = subst (Says Gives (why_of r)) (sym is) (says_why Gives n r gives) in
-      (stays (why_of r) ∷ p.0, (x, line, refl, says, p.1), (b, p.2, noted))
+  pub noted_staying : (a b c : W) (n : ℕ) (why : Why) (said : List ℕ) (x : Added) (line : List ℕ) → Noted Gives Lets notes a x b → line ≡ report_line n why said
+      → ReportGives Gives why said → notes b (stays why) c → Noted Gives Lets notes a (reported_more x line) c
+  noted_staying a b c n why said x line p is gives noted =
+      let says : Says Gives why line = subst (Says Gives why) (sym is) (says_why Gives n why said gives) in
+      (stays why ∷ p.0, (x, line, refl, says, p.1), (b, p.2, noted))
 
   -- what a piece adds, after what was added before it
   pub noted_by_on : (result : Result (Unit {0}) Closing) (a b c : W) (x y : Added) → Noted Gives Lets notes a x b →

@@ -8,8 +8,8 @@ use Rattle.guard_frames.specs.declared.decision.Known.{Known}
 use Rattle.guard_frames.specs.declared.decision.Known.TheVariants.{Named}
 use Rattle.guard_frames.specs.Guarding.{Adds}
 use Rattle.guard_frames.specs.inside.Judged.{IsReportOf, report_line}
-use Rattle.guard_frames.specs.declared.report.Report.{Report}
-use Rattle.guard_frames.specs.declared.report.Report.TheVariants.{BadHeader, NoMemory, Line}
+use Rattle.guard_frames.specs.declared.why.Why.{Why}
+use Rattle.guard_frames.specs.declared.why.Why.TheVariants.{BadHeader, NoMemory, Decided}
 use Rattle.guard_frames.proofs.HeaderLaws.{same_parts, no_parts, no_body}
 
 -- ---- the body that is known to stay is what is in the places of its names
@@ -29,20 +29,20 @@ not_without octets b is none = no_body octets (no_parts octets none) b is
 pub goes_as_body : (d : Decision) (frame octets : List ℕ) → octets ≡ drop 4 frame → BodyGoes d octets → FrameGoes d frame
 goes_as_body d frame octets same go = subst (BodyGoes d) same go
 
-reported : (d : Decision) (n : ℕ) (b : AbstractBody) (report : Report) → IsReportOf d n b report
-    → d.Reports n b (report_line n report) ⊎ (report_line n report ≡ decimal n ++ codes " no-memory\n")
-reported d n b (Line line reason) h = inl h
-reported d n b NoMemory h = inr refl
-reported d n b BadHeader h = absurd h
+reported : (d : Decision) (n : ℕ) (b : AbstractBody) (why : Why) (line : List ℕ) → IsReportOf d n b why line
+    → d.Reports n b (report_line n why line) ⊎ (report_line n why line ≡ decimal n ++ codes " no-memory\n")
+reported d n b (Decided reason) line h = inl h
+reported d n b NoMemory line h = inr refl
+reported d n b BadHeader line h = absurd h
 
-pub stays_by_body : (d : Decision) (n : ℕ) (frame octets : List ℕ) (b : AbstractBody) (report : Report) → octets ≡ drop 4 frame → IsBody octets b
-    → (d.LetsGo b → ⊥) → IsReportOf d n b report → Adds d n (staying frame) (report_line n report)
-stays_by_body d n frame octets b report same is decided h =
-    inr (inl (record { stays = refl; body = b; is = subst (λ (s : List ℕ). IsBody s b) same is; decided = decided; text = reported d n b report h }))
+pub stays_by_body : (d : Decision) (n : ℕ) (frame octets : List ℕ) (b : AbstractBody) (why : Why) (line : List ℕ) → octets ≡ drop 4 frame → IsBody octets b
+    → (d.LetsGo b → ⊥) → IsReportOf d n b why line → Adds d n (staying frame) (report_line n why line)
+stays_by_body d n frame octets b why line same is decided h =
+    inr (inl (record { stays = refl; body = b; is = subst (λ (s : List ℕ). IsBody s b) same is; decided = decided; text = reported d n b why line h }))
 
 -- what a frame adds, by its number and its line as they were counted and put together
-pub adds_line : (d : Decision) (n m : ℕ) (frame line : List ℕ) (r : Report) → n ≡ m → line ≡ report_line n r
-    → Adds d n (staying frame) (report_line n r) → Adds d m (staying frame) line
-adds_line d n m frame line r number is adds =
+pub adds_line : (d : Decision) (n m : ℕ) (frame line : List ℕ) (why : Why) (said : List ℕ) → n ≡ m → line ≡ report_line n why said
+    → Adds d n (staying frame) (report_line n why said) → Adds d m (staying frame) line
+adds_line d n m frame line why said number is adds =
     subst (λ (s : List ℕ). Adds d m (staying frame) s) (sym is)
-    (subst (λ (k : ℕ). Adds d k (staying frame) (report_line n r)) number adds)
+    (subst (λ (k : ℕ). Adds d k (staying frame) (report_line n why said)) number adds)

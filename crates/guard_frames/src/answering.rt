@@ -53,9 +53,9 @@ pub fn answer<D: Decide, S: Sink>(
             Ok(true)
         }
         Decided::Stays(known) => {
-            let mut room = Vec::new(alloc);
-            let report = report_on(alloc, policy, number, &frame, known, &mut room);
-            put_report(answers, number, &report)?;
+            let mut line = Vec::new(alloc);
+            let why = report_on(alloc, policy, number, &frame, known, &mut line);
+            put_report(answers, number, why, line.as_slice())?;
             Ok(false)
         }
     }

@@ -1,6 +1,6 @@
 //! What decides which messages go.
 
-ghost use Rattle.std.specs.Prelude.{ℕ, List, IfOk, IfSome};
+ghost use Rattle.std.specs.Prelude.{ℕ, List, IfOk, IfSome, OnOk};
 ghost use Rattle.guard_policy.specs.declared.verdict.PlainReason.{PlainReason};
 ghost use Rattle.guard_frames.specs.Bodies.{AbstractBody, body_view, HasNames};
 ghost use Rattle.guard_frames.specs.Calls.{EndsLine};
@@ -53,22 +53,23 @@ pub trait Decide {
     fn goes(&self, body: &[u8], last: &mut LastRoute) -> Decided
         ensures { IsDecided (decides self.now) (lets self.now) (reasons_of self.now) body.now result };
 
-    /// The report line of the frame of this number and with this body, with its line feed, and the reason that it
-    /// gives. The line takes the room of `room`, whose octets are dropped, so that one room serves many lines.
-    /// Conditions: the body has three names, it is decided to stay, and a reason that is given is the one that `goes`
-    /// told of it, so that no more is asked of its message than this reason leaves open. OutOfMemory is the only error.
+    /// Puts the report line of the frame of this number and with this body, with its line feed, in the place of what
+    /// `line` has, and answers the reason that it gives. One list serves many lines, and keeps its memory. Conditions:
+    /// the body has three names, it is decided to stay, and a reason that is given is the one that `goes` told of it, so
+    /// that no more is asked of its message than this reason leaves open. OutOfMemory is the only error, which leaves
+    /// some octets in `line`.
     fn line(
         &self,
         alloc: Global,
-        room: Vec<u8>,
+        line: &mut Vec<u8>,
         number: u64,
         body: &Body,
         told: Option<PlainReason>,
-    ) -> Result<(Vec<u8>, Reason), OutOfMemory>
+    ) -> Result<Reason, OutOfMemory>
         requires names { HasNames (body_view body.now) }
         requires stays { (decides self.now).LetsGo (body_view body.now) → ⊥ }
         requires told { IfSome told (reasons_of self.now (body_view body.now)) }
-        ensures reports { IfOk result (λ said. (decides self.now).Reports number (body_view body.now) said.0.items) }
-        ensures ends { IfOk result (λ said. EndsLine said.0.items) }
-        ensures gives { IfOk result (λ said. gives self.now said.1 said.0.items) };
+        ensures reports { OnOk result ((decides self.now).Reports number (body_view body.now) line.new.items) }
+        ensures ends { OnOk result (EndsLine line.new.items) }
+        ensures gives { IfOk result (λ reason. gives self.now reason line.new.items) };
 }

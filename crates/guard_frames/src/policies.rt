@@ -37,18 +37,18 @@ impl Decide for Policy {
     fn line(
         &self,
         alloc: Global,
-        room: Vec<u8>,
+        line: &mut Vec<u8>,
         number: u64,
         body: &Body,
         told: Option<PlainReason>,
-    ) -> Result<(Vec<u8>, Reason), OutOfMemory> {
+    ) -> Result<Reason, OutOfMemory> {
         let route = route_of(body);
         // A verdict is large: of a reason that is told none is made.
         if let Some(reason) = told_whole(told) {
-            return line_told(room, number, &route, reason, self);
+            return put_line_told(line, number, &route, reason, self);
         }
         let verdict = self.reason_as_told(alloc, &route, body.message_octets, told)?;
-        line_of(room, number, &route, &verdict, self)
+        put_line(line, number, &route, &verdict, self)
     }
 }
 
@@ -62,43 +62,42 @@ fn told_whole(told: Option<PlainReason>) -> Option<PlainReason>
     }
 }
 
-/// The line of the verdict with this reason in this room, and the reason that it gives. Condition: the reason has a
-/// verdict.
-fn line_told(
-    room: Vec<u8>,
+/// Puts the line of the verdict with this reason in the place of what `line` has, and answers the reason that it gives.
+/// Condition: the reason has a verdict.
+fn put_line_told(
+    line: &mut Vec<u8>,
     number: u64,
     route: &Route,
     reason: PlainReason,
     policy: &Policy,
-) -> Result<(Vec<u8>, Reason), OutOfMemory>
+) -> Result<Reason, OutOfMemory>
     requires { reason_view reason ≡ None → ⊥ }
     ensures { IfOk result (λ said. IfSome (reason_view reason) (λ w.
-        (said.0.items ≡ line_octets (policy_view policy.now) (route_view route.now) number w)
-        × (reason_of w ≡ Some said.1))) }
+        (line.new.items ≡ line_octets (policy_view policy.now) (route_view route.now) number w)
+        × (reason_of w ≡ Some said))) }
 {
-    let mut line = room;
     line.clear();
-    add_line_told(&mut line, number, route, reason, policy)?;
-    Ok((line, reason_told(reason)))
+    add_line_told(line, number, route, reason, policy)?;
+    Ok(reason_told(reason))
 }
 
-/// The line of a verdict in this room, and the reason that it gives. Condition: the verdict isn't to pass.
-fn line_of(
-    room: Vec<u8>,
+/// Puts the line of a verdict in the place of what `line` has, and answers the reason that it gives. Condition: the
+/// verdict isn't to pass.
+fn put_line(
+    line: &mut Vec<u8>,
     number: u64,
     route: &Route,
     verdict: &Verdict,
     policy: &Policy,
-) -> Result<(Vec<u8>, Reason), OutOfMemory>
+) -> Result<Reason, OutOfMemory>
     requires { verdict_view verdict.now ≡ pass → ⊥ }
-    ensures { IfOk result (λ said.
-        (said.0.items ≡ line_octets (policy_view policy.now) (route_view route.now) number (verdict_view verdict.now))
-        × (reason_of (verdict_view verdict.now) ≡ Some said.1)) }
+    ensures { IfOk result (λ reason.
+        (line.new.items ≡ line_octets (policy_view policy.now) (route_view route.now) number (verdict_view verdict.now))
+        × (reason_of (verdict_view verdict.now) ≡ Some reason)) }
 {
-    let mut line = room;
     line.clear();
-    add_line(&mut line, number, route, verdict, policy)?;
-    Ok((line, reason_of(verdict)))
+    add_line(line, number, route, verdict, policy)?;
+    Ok(reason_of(verdict))
 }
 
 /// What is decided of a frame that has three names, by what is told of its message.

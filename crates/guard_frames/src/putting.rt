@@ -64,7 +64,7 @@ pub fn put_frames<D: Decide, O: Sink, R: Sink, W: Watch>(
     let mut last = LastRoute::none();
     let mut waiting = Waiting::none(alloc);
     let mut short = ShortLine::new();
-    let mut room = Vec::new(alloc);
+    let mut line = Vec::new(alloc);
     loop {
         let frame = match first_cut(&octets[end..]) {
             Cut::Frame(frame) => frame,
@@ -85,12 +85,11 @@ pub fn put_frames<D: Decide, O: Sink, R: Sink, W: Watch>(
             }
             Decided::Stays(known) => {
                 let number = unsent.totals_with().next_number();
-                let report = report_on(alloc, policy, number, &frame, known, &mut room);
+                let why = report_on(alloc, policy, number, &frame, known, &mut line);
                 untold.tell(watch, unsent.frames, end);
                 put_going(out, &octets[unsent.start..end], unsent.totals)?;
-                watch.stays(report.why());
-                waiting.add(reports, line_of(number, &report, &mut short))?;
-                room = report.into_room(alloc);
+                watch.stays(why);
+                waiting.add(reports, line_of(number, why, line.as_slice(), &mut short))?;
                 end += frame.octets.len();
                 unsent = Unsent::none(unsent.totals_with().after_staying(), end);
                 untold = Untold::none(end);

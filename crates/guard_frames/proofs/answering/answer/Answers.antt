@@ -1,9 +1,9 @@
-use Rattle.std.proofs.Common.{refl, subst}
+use Rattle.std.proofs.Common.{sym, refl, subst}
 use Rattle.guard_frames.specs.Bodies.{body_view}
 use Rattle.guard_frames.specs.Outcomes.{going, staying}
 use Rattle.guard_frames.specs.Guarding.{Adds}
 use Rattle.guard_frames.specs.Answering.{pass_line}
-use Rattle.guard_frames.specs.inside.Judged.{report_line}
+use Rattle.guard_frames.specs.inside.Judged.{report_line, ReportEnds}
 use Rattle.guard_frames.proofs.LineOfFrame.{body_that_goes, passes_by, stays_by}
 use Rattle.guard_frames.proofs.NameSizes.{name_short}
 use Rattle.guard_frames.proofs.Reporting.{not_without}
@@ -54,13 +54,17 @@ returns-in_err-put_pass-in-Goes-clause-part g c =
       p.2,
     )
 
+pub put_report-requires : goal.put_report-requires
+put_report-requires g c = subst (ReportEnds c.report_on-why.result) (sym c.as_slice.ensures.value) c.report_on-why.ensures.ends
+
 pub returns-in_err-put_report-in-Stays-clause-part : goal.returns-in_err-put_report-in-Stays-clause-part
 returns-in_err-put_report-in-Stays-clause-part g c =
     let d = g.D.Decide.decides c.args.policy.now in
     let n = c.args.number in
-    let line = report_line n c.report_on-report.result in
+    let line = report_line n c.report_on-why.result c.as_slice.result.now in
     let adds : Adds d n (staying c.args.frame.now) line =
-    subst (λ f. Adds d n (staying f) line) c.frame_of-frame.ensures.whole c.report_on-report.ensures.adds in
+    subst (λ s. Adds d n (staying c.args.frame.now) (report_line n c.report_on-why.result s)) (sym c.as_slice.ensures.value)
+    (subst (λ f. Adds d n (staying f) (report_line n c.report_on-why.result c.report_on-why.new.line.items)) c.frame_of-frame.ensures.whole c.report_on-why.ensures.adds) in
     let p = c.in_err-put_report-in-Stays.ensures.part in
     on_err_of c.from_residual-in_err-put_report-in-Stays.result
     (staying c.args.frame.now, line, p.0, refl, stays_by d n c.args.frame.now line adds, p.1, p.2)
@@ -69,7 +73,8 @@ pub returns-in_ok-put_report-in-Stays-clause-all : goal.returns-in_ok-put_report
 returns-in_ok-put_report-in-Stays-clause-all g c =
     let d = g.D.Decide.decides c.args.policy.now in
     let n = c.args.number in
-    let line = report_line n c.report_on-report.result in
+    let line = report_line n c.report_on-why.result c.as_slice.result.now in
     let adds : Adds d n (staying c.args.frame.now) line =
-    subst (λ f. Adds d n (staying f) line) c.frame_of-frame.ensures.whole c.report_on-report.ensures.adds in
+    subst (λ s. Adds d n (staying c.args.frame.now) (report_line n c.report_on-why.result s)) (sym c.as_slice.ensures.value)
+    (subst (λ f. Adds d n (staying f) (report_line n c.report_on-why.result c.report_on-why.new.line.items)) c.frame_of-frame.ensures.whole c.report_on-why.ensures.adds) in
     (line, stays_by d n c.args.frame.now line adds, c.in_ok-put_report-in-Stays.ensures.all)

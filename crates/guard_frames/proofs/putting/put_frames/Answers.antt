@@ -2,6 +2,7 @@ use Rattle.std.proofs.Common.{◌+◌, ◌-◌, ◌∙◌, ap, sym, subst, take,
 use Rattle.std.proofs.lemmas.Result.{err_from_is_err_and}
 use Rattle.guard_frames.specs.Totals.{after_staying, next_number}
 use Rattle.guard_frames.specs.declared.unsent.Unsent.{Unsent}
+use Rattle.guard_frames.specs.inside.Judged.{report_line, ReportEnds}
 use Rattle.guard_frames.specs.inside.Unsent.{totals_with}
 use Rattle.guard_frames.specs.Added.{Added, nothing}
 use Rattle.guard_frames.specs.Reasons.{Noted}
@@ -130,6 +131,9 @@ returns-in_err-put_going-in-Stays-clause-failure g c =
       both_sent _ _ _ _ _ h.0 p.0 h.2 p.2,
     )
 
+pub line_of-requires : goal.line_of-requires
+line_of-requires g c = subst (ReportEnds c.report_on-why.result) (sym c.as_slice.ensures.value) c.report_on-why.ensures.ends
+
 pub add-requires-clause-waiting : goal.add-requires-clause-waiting
 add-requires-clause-waiting g c = c.loop-frame.invariant.4
 
@@ -141,8 +145,10 @@ returns-in_err-add-in-Stays-clause-failure g c =
     let f = c.in-Frame.frame in
     let at = first_at s c.loop-frame.end f h.1.so_far.within c.in-Frame.ensures in
     let waiting = take (c.loop-frame.end - c.loop-frame.unsent.start) (drop c.loop-frame.unsent.start s) in
-    let adds = adds_line d c.next_number-number.result (next_number (totals_with c.loop-frame.unsent)) f.octets.now c.line_of.result.now c.report_on-report.result
-    (c.next_number-number.ensures ∙ ap next_number c.totals_with.ensures) c.line_of.ensures.line c.report_on-report.ensures.adds in
+    let said = c.report_on-why.new.line.items in
+    let is = c.line_of.ensures.line ∙ ap (report_line c.next_number-number.result c.report_on-why.result) c.as_slice.ensures.value in
+    let adds = adds_line d c.next_number-number.result (next_number (totals_with c.loop-frame.unsent)) f.octets.now c.line_of.result.now c.report_on-why.result said
+    (c.next_number-number.ensures ∙ ap next_number c.totals_with.ensures) is c.report_on-why.ensures.adds in
     let p = c.in_err-add-in-Stays.ensures.part in
     let e = err_from_is_err_and c.from_residual-in_err-add-in-Stays.result c.from_residual-in_err-add-in-Stays.ensures.1 in
     rw (e.1, e.2) (
@@ -151,8 +157,8 @@ returns-in_err-add-in-Stays-clause-failure g c =
         line_breaks d c.args.totals (totals_with c.loop-frame.unsent) c.loop-frame.unsent.totals s f.octets.now c.loop-frame.waiting.lines.items c.line_of.result.now p.0 c.loop-frame.unsent.start c.loop-frame.end h.0 h.1 at adds p.1,
         reported_more (so_far_told h.0 s c.loop-frame.waiting.lines.items c.loop-frame.unsent.start c.loop-frame.end) c.line_of.result.now,
         noted_staying _ (g.D.Decide.gives c.args.policy.now) (g.D.Decide.lets c.args.policy.now) g.W.Watch.notes c.args.watch.now c.tell-in-Stays.new.watch c.stays.new.self
-            c.next_number-number.result c.report_on-report.result (so_far_told h.0 s c.loop-frame.waiting.lines.items c.loop-frame.unsent.start c.loop-frame.end)
-            c.line_of.result.now (but_told _ _ _ _ _ _ _ _ _ _ _ h.5 c.tell-in-Stays.ensures) c.line_of.ensures.line c.report_on-report.ensures.gives (rw c.why.ensures at c.stays.ensures),
+            c.next_number-number.result c.report_on-why.result said (so_far_told h.0 s c.loop-frame.waiting.lines.items c.loop-frame.unsent.start c.loop-frame.end)
+            c.line_of.result.now (but_told _ _ _ _ _ _ _ _ _ _ _ h.5 c.tell-in-Stays.ensures) is c.report_on-why.ensures.gives c.stays.ensures,
       ),
       both_reported _ _ _ _ _ (sent_more h.0 waiting) p.0 (both_sent _ _ _ _ _ h.0 waiting h.2 c.in_ok-put_going-in-Stays.ensures.all) p.2,
     )
@@ -165,8 +171,10 @@ loop-frame-preserved g c =
     let f = c.in-Frame.frame in
     let at = first_at s c.loop-frame.end f h.1.so_far.within c.in-Frame.ensures in
     let waiting = take (c.loop-frame.end - c.loop-frame.unsent.start) (drop c.loop-frame.unsent.start s) in
-    let adds = adds_line d c.next_number-number.result (next_number (totals_with c.loop-frame.unsent)) f.octets.now c.line_of.result.now c.report_on-report.result
-    (c.next_number-number.ensures ∙ ap next_number c.totals_with.ensures) c.line_of.ensures.line c.report_on-report.ensures.adds in
+    let said = c.report_on-why.new.line.items in
+    let is = c.line_of.ensures.line ∙ ap (report_line c.next_number-number.result c.report_on-why.result) c.as_slice.ensures.value in
+    let adds = adds_line d c.next_number-number.result (next_number (totals_with c.loop-frame.unsent)) f.octets.now c.line_of.result.now c.report_on-why.result said
+    (c.next_number-number.ensures ∙ ap next_number c.totals_with.ensures) is c.report_on-why.ensures.adds in
     let counts = c.after_staying.ensures ∙ ap after_staying c.totals_with-in-Stays.ensures in
     let q = c.in_ok-add-in-Stays.ensures.all in (
       reported_more (sent_more h.0 waiting) q.0,
@@ -180,8 +188,8 @@ loop-frame-preserved g c =
           (told_staying s c.loop-frame.waiting.lines.items c.line_of.result.now q.0 c.add.new.self.lines.items c.loop-frame.unsent.start c.loop-frame.end
           (c.loop-frame.end + length f.octets.now) h.0 q.1)
           (noted_staying _ (g.D.Decide.gives c.args.policy.now) (g.D.Decide.lets c.args.policy.now) g.W.Watch.notes c.args.watch.now c.tell-in-Stays.new.watch c.stays.new.self
-          c.next_number-number.result c.report_on-report.result (so_far_told h.0 s c.loop-frame.waiting.lines.items c.loop-frame.unsent.start c.loop-frame.end)
-          c.line_of.result.now (but_told _ _ _ _ _ _ _ _ _ _ _ h.5 c.tell-in-Stays.ensures) c.line_of.ensures.line c.report_on-report.ensures.gives (rw c.why.ensures at c.stays.ensures)))),
+          c.next_number-number.result c.report_on-why.result said (so_far_told h.0 s c.loop-frame.waiting.lines.items c.loop-frame.unsent.start c.loop-frame.end)
+          c.line_of.result.now (but_told _ _ _ _ _ _ _ _ _ _ _ h.5 c.tell-in-Stays.ensures) is c.report_on-why.ensures.gives c.stays.ensures))),
     )
 
 -- ---- each call ends a line

@@ -32,5 +32,5 @@ pub returns-in-Some-clause-adds : goal.returns-in-Some-clause-adds
 returns-in-Some-clause-adds g c =
     let k = known_there (g.D.Decide.decides c.args.policy.now) (g.D.Decide.reasons_of c.args.policy.now) c.args.frame.now.body.now c.args.known (body_view c.in-Some.body) c.in-Named.told
     c.in-Named.is c.requires.known c.in-Some.ensures in
-    stays_by_body (g.D.Decide.decides c.args.policy.now) c.args.number c.args.frame.now.octets.now c.args.frame.now.body.now (body_view c.in-Some.body) c.report_of.result
+    stays_by_body (g.D.Decide.decides c.args.policy.now) c.args.number c.args.frame.now.octets.now c.args.frame.now.body.now (body_view c.in-Some.body) c.report_of.result c.report_of.new.line.items
     c.requires.body k.0 k.1 c.report_of.ensures.reports

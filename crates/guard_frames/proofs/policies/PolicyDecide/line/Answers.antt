@@ -18,17 +18,17 @@ use Rattle.guard_frames.specs.declared.why.Reason.{Reason}
 use Rattle.guard_frames.proofs.policies.PolicyDecide.line.Goals as goal
 
 -- a line and the reason that it gives, of a verdict that is the reason of a body
-module _ {A E : Type 0} (items : A → List ℕ) (reason : A → Reason) (p : AbstractPolicy) (b : AbstractBody) (r : AbstractRoute) (n : ℕ) (w : AbstractVerdict) (said : Result A E)
+module _ {E : Type 0} (text : List ℕ) (p : AbstractPolicy) (b : AbstractBody) (r : AbstractRoute) (n : ℕ) (w : AbstractVerdict) (said : Result Reason E)
     (same : r ≡ route_of b) (is : IsReason p (route_of b) b.message_octets w)
-    (lines : IfOk said (λ x. (items x ≡ line_octets p r n w) × (reason_of w ≡ Some (reason x)))) where
-  abbrev IsLine : A → Type 0
-  IsLine x = (items x ≡ line_octets p r n w) × (reason_of w ≡ Some (reason x))
+    (lines : IfOk said (λ x. (text ≡ line_octets p r n w) × (reason_of w ≡ Some x))) where
+  abbrev IsLine : Reason → Type 0
+  IsLine x = (text ≡ line_octets p r n w) × (reason_of w ≡ Some x)
 
-  reports : IfOk said (λ x. (decision_of p).Reports n b (items x))
-  reports = if_ok_map IsLine (λ x. (decision_of p).Reports n b (items x)) said (λ x l. (w, is, l.0 ∙ ap (λ (y : AbstractRoute). line_octets p y n w) same)) lines
+  reports : IfOk said (λ x. (decision_of p).Reports n b text)
+  reports = if_ok_map IsLine (λ x. (decision_of p).Reports n b text) said (λ x l. (w, is, l.0 ∙ ap (λ (y : AbstractRoute). line_octets p y n w) same)) lines
 
-  gives : HasNames b → IfOk said (λ x. gives_of p (reason x) (items x))
-  gives names = if_ok_map IsLine (λ x. gives_of p (reason x) (items x)) said
+  gives : HasNames b → IfOk said (λ x. gives_of p x text)
+  gives names = if_ok_map IsLine (λ x. gives_of p x text) said
       (λ x l. (n, b, w, names, is, l.1, l.0 ∙ ap (λ (y : AbstractRoute). line_octets p y n w) same)) lines
 
 verdict_line : {A E : Type 0} (P : AbstractVerdict → A → Type 0) (p : AbstractPolicy) (b : AbstractBody) (o : Option AbstractVerdict) (said : Result A E)
@@ -52,18 +52,20 @@ returns-in-Some-clause-reports c =
     let p = policy_view c.args.self.now in
     let b = body_view c.args.body.now in
     let r = route_view c.route_of-route.result in
-    let line = told_line (λ w x. (x.0.items ≡ line_octets p r c.args.number w) × (reason_of w ≡ Some x.1)) p b c.args.told c.in-Some.reason c.line_told.result
-    c.in-Some.ensures c.requires.told c.line_told.ensures in
-    reports (λ x. x.0.items) (λ x. x.1) p b r c.args.number line.0 c.line_told.result c.route_of-route.ensures line.1 line.2
+    let text = c.put_line_told.new.line.items in
+    let line = told_line (λ w x. (text ≡ line_octets p r c.args.number w) × (reason_of w ≡ Some x)) p b c.args.told c.in-Some.reason c.put_line_told.result
+    c.in-Some.ensures c.requires.told c.put_line_told.ensures in
+    reports text p b r c.args.number line.0 c.put_line_told.result c.route_of-route.ensures line.1 line.2
 
 pub returns-in-Some-clause-ends : goal.returns-in-Some-clause-ends
 returns-in-Some-clause-ends c =
     let p = policy_view c.args.self.now in
     let b = body_view c.args.body.now in
     let r = route_view c.route_of-route.result in
-    let line = told_line (λ w x. (x.0.items ≡ line_octets p r c.args.number w) × (reason_of w ≡ Some x.1)) p b c.args.told c.in-Some.reason c.line_told.result
-    c.in-Some.ensures c.requires.told c.line_told.ensures in
-    if_ok_map (λ x. (x.0.items ≡ line_octets p r c.args.number line.0) × (reason_of line.0 ≡ Some x.1)) (λ x. EndsLine x.0.items) c.line_told.result
+    let text = c.put_line_told.new.line.items in
+    let line = told_line (λ w x. (text ≡ line_octets p r c.args.number w) × (reason_of w ≡ Some x)) p b c.args.told c.in-Some.reason c.put_line_told.result
+    c.in-Some.ensures c.requires.told c.put_line_told.ensures in
+    if_ok_map (λ x. (text ≡ line_octets p r c.args.number line.0) × (reason_of line.0 ≡ Some x)) (λ x. EndsLine text) c.put_line_told.result
     (λ x l. subst EndsLine (sym l.0) (ends_so p r c.args.number line.0)) line.2
 
 pub returns-in-Some-clause-gives : goal.returns-in-Some-clause-gives
@@ -71,9 +73,10 @@ returns-in-Some-clause-gives c =
     let p = policy_view c.args.self.now in
     let b = body_view c.args.body.now in
     let r = route_view c.route_of-route.result in
-    let line = told_line (λ w x. (x.0.items ≡ line_octets p r c.args.number w) × (reason_of w ≡ Some x.1)) p b c.args.told c.in-Some.reason c.line_told.result
-    c.in-Some.ensures c.requires.told c.line_told.ensures in
-    gives (λ x. x.0.items) (λ x. x.1) p b r c.args.number line.0 c.line_told.result c.route_of-route.ensures line.1 line.2 c.requires.names
+    let text = c.put_line_told.new.line.items in
+    let line = told_line (λ w x. (text ≡ line_octets p r c.args.number w) × (reason_of w ≡ Some x)) p b c.args.told c.in-Some.reason c.put_line_told.result
+    c.in-Some.ensures c.requires.told c.put_line_told.ensures in
+    gives text p b r c.args.number line.0 c.put_line_told.result c.route_of-route.ensures line.1 line.2 c.requires.names
 
 pub reason_as_told-requires : goal.reason_as_told-requires
 reason_as_told-requires c =
@@ -81,8 +84,8 @@ reason_as_told-requires c =
     subst (λ (r : AbstractRoute). IfSome c.args.told (λ x. IsToldReason (policy_view c.args.self.now) r b.message_octets (reason_view x)))
     (sym c.route_of-route.ensures) c.requires.told
 
-pub line_of-requires : goal.line_of-requires
-line_of-requires c = λ passes.
+pub put_line-requires : goal.put_line-requires
+put_line-requires c = λ passes.
     let p = policy_view c.args.self.now in
     let b = body_view c.args.body.now in
     c.requires.stays (goes_from_passes p (route_of b) b.message_octets
@@ -94,13 +97,13 @@ returns-clause-reports c =
     let p = policy_view c.args.self.now in
     let b = body_view c.args.body.now in
     let w = verdict_view c.in_ok-verdict.verdict in
-    reports (λ x. x.0.items) (λ x. x.1) p b (route_view c.route_of-route.result) c.args.number w c.line_of.result c.route_of-route.ensures
-    (subst (λ (r : AbstractRoute). IsReason p r b.message_octets w) c.route_of-route.ensures c.in_ok-verdict.ensures) c.line_of.ensures
+    reports c.put_line.new.line.items p b (route_view c.route_of-route.result) c.args.number w c.put_line.result c.route_of-route.ensures
+    (subst (λ (r : AbstractRoute). IsReason p r b.message_octets w) c.route_of-route.ensures c.in_ok-verdict.ensures) c.put_line.ensures
 
 pub returns-clause-gives : goal.returns-clause-gives
 returns-clause-gives c =
     let p = policy_view c.args.self.now in
     let b = body_view c.args.body.now in
     let w = verdict_view c.in_ok-verdict.verdict in
-    gives (λ x. x.0.items) (λ x. x.1) p b (route_view c.route_of-route.result) c.args.number w c.line_of.result c.route_of-route.ensures
-    (subst (λ (r : AbstractRoute). IsReason p r b.message_octets w) c.route_of-route.ensures c.in_ok-verdict.ensures) c.line_of.ensures c.requires.names
+    gives c.put_line.new.line.items p b (route_view c.route_of-route.result) c.args.number w c.put_line.result c.route_of-route.ensures
+    (subst (λ (r : AbstractRoute). IsReason p r b.message_octets w) c.route_of-route.ensures c.in_ok-verdict.ensures) c.put_line.ensures c.requires.names

@@ -1,5 +1,6 @@
 //! Components of a SEQUENCE, and of a SET in which they ascend by their tags; and what is said of components.
-ghost use Rattle.std.specs.Prelude.{◌≡◌, ◌+◌, ◌<◌, ◌≤◌, List, ℕ, true, false, nat_eq, vec_len, option_map};
+ghost use Rattle.std.specs.Prelude.{◌≡◌, ◌+◌, ◌<◌, ◌≤◌, List, ℕ, true, false, get_or, nat_eq, vec_len, option_map};
+ghost use Rattle.guard_tables.specs.declared.node.Cold.{Cold};
 ghost use Rattle.guard_tables.specs.NodesView.{spots_in};
 ghost use Rattle.guard_tables.specs.Slots.{added};
 ghost use Rattle.guard_tables.specs.TableNodes.{parts_between, spot_at};
@@ -14,7 +15,7 @@ use crate::element_fronts::{Front, after_first, begins, front_at};
 use crate::header::split_after;
 use crate::plain::{begins_plainly, is_plain};
 use crate::walking::within_node;
-use guard_tables::{Cold, Hot, Need, Nodes, Slots};
+use guard_tables::{Hot, Need, Nodes, Slots};
 
 /// Whether all the octets are so many components from the first node on, one after the other; the slots of what they
 /// don't pass are added to those that fail. Condition: these nodes are there.
@@ -314,16 +315,21 @@ fn absent_node(table: &Nodes, at: usize, node: &Hot, failed: &mut Slots) -> bool
         Need::Free => true,
         Need::Mandatory => false,
         Need::Costs => {
-            cost(&table.colds[at], failed);
+            cost(table, at, failed);
             true
         }
     }
 }
 
+/// Adds the slots of a component's absence to those that fail. The node is looked up here, so that the loop over
+/// components keeps no place of it.
 #[cold]
 #[inline(never)]
-fn cost(cold: &Cold, failed: &mut Slots)
-    ensures { failed.new ≡ added failed.old cold.now.absent }
+fn cost(table: &Nodes, at: usize, failed: &mut Slots)
+    requires { at < vec_len table.now.hots }
+    ensures { (cold : Cold) × (cold ≡ get_or table.now.colds.items at cold)
+        × (failed.new ≡ added failed.old cold.absent) }
 {
+    let cold = &table.colds[at];
     failed.add(&cold.absent);
 }

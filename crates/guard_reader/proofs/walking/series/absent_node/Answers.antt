@@ -31,5 +31,5 @@ returns-in-Costs c =
     let n = node_at c.args.table.now c.args.at c.args.node.now c.requires.room c.requires.node in
     ap (λ (s : Spot). absent_part s.side.absent c.args.failed.now) n.spot
     ∙ ap (λ (need : Need). absent_part (absence_of need n.cold.absent) c.args.failed.now) c.in-Costs.is
-    ∙ ap (λ (k : Cold). Some (added c.args.failed.now k.absent)) (cold_at c.args.table.now c.args.at c.args.node.now c.index.result.now n c.requires.room c.index.ensures)
-    ∙ ap (λ (m : Slots). Some m) (sym c.cost.ensures)
+    ∙ ap (λ (k : Cold). Some (added c.args.failed.now k.absent)) (cold_at c.args.table.now c.args.at c.args.node.now c.cost.ensures.0 n c.requires.room c.cost.ensures.1)
+    ∙ ap (λ (m : Slots). Some m) (sym c.cost.ensures.2)

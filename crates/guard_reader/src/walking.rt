@@ -38,7 +38,7 @@ pub fn failures(table: &Nodes, octets: &[u8]) -> Option<Slots>
 }
 
 /// Whether the octets are the encoding of a value; if so, `failed` has the slots of what that value doesn't pass.
-#[inline(never)]
+#[inline(always)]
 fn decide(table: &Nodes, octets: &[u8], failed: &mut Slots) -> bool
     requires { failed.old ≡ none }
     ensures { Answers result failed.new (message_judged (root_of table.now) octets.now) }

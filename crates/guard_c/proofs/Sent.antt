@@ -101,10 +101,10 @@ kept_types_sync = view_sync _ _ _ _ _
     (declared_sync kept_types_inside.the_type (ty_sync, (Vec-sync ty.the_row ty_sync, (search (sendable, crosses), tt))))
 
 table_send : IsSend table.the_row
-table_send = declared_send table.the_type (kept_types_send, (nodes_send, tt))
+table_send = declared_send table.the_type (kept_types_send, (nodes_send, (slots.the_send, tt)))
 
 table_sync : IsSync table.the_row
-table_sync = declared_sync table.the_type (kept_types_sync, (nodes_sync, tt))
+table_sync = declared_sync table.the_type (kept_types_sync, (nodes_sync, (slots.the_sync, tt)))
 
 -- ---- policies
 

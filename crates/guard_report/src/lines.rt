@@ -44,6 +44,7 @@ pub fn add_line(
         ++ line_octets (policy_view policy.now) (route_view route.now) number (verdict_view verdict.now)) }
 {
     add_before_text(line, number, route)?;
+    add(line, b" ")?;
     add_verdict(line, verdict, route, policy)?;
     add(line, b"\n")
 }
@@ -63,21 +64,19 @@ pub fn add_line_told(
         ≡ line.old.items ++ line_octets (policy_view policy.now) (route_view route.now) number w)) }
 {
     add_before_text(line, number, route)?;
-    add_reason(line, reason, policy)?;
-    add(line, b"\n")
+    add_reason(line, reason, policy)
 }
 
-/// Appends what a line has before the text of its verdict.
+/// Appends what a line has before the space and the text of its verdict.
 fn add_before_text(line: &mut Vec<u8>, number: u64, route: &Route) -> Result<(), OutOfMemory>
     ensures { OnOk result (line.new.items
-        ≡ line.old.items ++ decimal number ++ codes " " ++ route_text (route_view route.now) ++ codes " ") }
+        ≡ line.old.items ++ decimal number ++ codes " " ++ route_text (route_view route.now)) }
 {
     // Where there is no room for so many octets, there may be for fewer.
     let _ = line.reserve(USUAL_LENGTH);
     add_number(line, number)?;
     add(line, b" ")?;
-    add_route(line, route)?;
-    add(line, b" ")
+    add_route(line, route)
 }
 
 /// Appends who sends what to whom: `FROM>TO` and the message's name. OutOfMemory is the only error; a part of it may

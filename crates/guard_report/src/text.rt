@@ -66,7 +66,8 @@ pub fn add_verdict(
     }
 }
 
-/// Appends the text of the verdict with this reason, which no route changes. Condition: the reason has a verdict.
+/// Appends a space, the text of the verdict with this reason, which no route changes, and a line feed. Condition: the
+/// reason has a verdict.
 pub fn add_reason(
     text: &mut Vec<u8>,
     reason: PlainReason,
@@ -74,16 +75,17 @@ pub fn add_reason(
 ) -> Result<(), OutOfMemory>
     requires { reason_view reason ≡ None → ⊥ }
     ensures { OnOk result (IfSome (reason_view reason) (λ w. (route : AbstractRoute) → text.new.items
-        ≡ text.old.items ++ verdict_octets (policy_view policy.now) route w)) }
+        ≡ text.old.items ++ (codes " " ++ verdict_octets (policy_view policy.now) route w ++ codes "\n"))) }
 {
     match reason {
-        PlainReason::UnknownMessage => add(text, b"unknown-message"),
+        PlainReason::UnknownMessage => add(text, b" unknown-message\n"),
         PlainReason::DeniedBy(rule) => {
-            add(text, b"denied-by ")?;
-            add_rule(text, rule, policy)
+            add(text, b" denied-by ")?;
+            add_rule(text, rule, policy)?;
+            add(text, b"\n")
         }
         PlainReason::NotAllowed => unreachable!(),
-        PlainReason::NoRule => add(text, b"no-rule"),
+        PlainReason::NoRule => add(text, b" no-rule\n"),
     }
 }
 

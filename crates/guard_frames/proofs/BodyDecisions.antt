@@ -10,9 +10,10 @@ use Rattle.guard_policy.specs.NamedRoutes.{with_length, IsGiven}
 use Rattle.guard_policy.specs.Policies.{AbstractPolicy, AbstractRoute, AbstractRule}
 use Rattle.guard_policy.specs.Told.{Tells}
 use Rattle.guard_frames.specs.Bodies.{AbstractBody, IsBody, HasNames, named, parts_in, has_names}
-use Rattle.guard_frames.specs.OfPolicy.{route_of, decision_of, lets_of, reasons_of, decided}
+use Rattle.guard_frames.specs.OfPolicy.{route_of, decision_of, lets_of, reasons_of}
 use Rattle.guard_frames.specs.Outcomes.{IsDecided}
 use Rattle.guard_frames.specs.declared.decision.Decided.{Decided}
+use Rattle.guard_frames.specs.inside.Deciding.{decided}
 use Rattle.guard_frames.proofs.HeaderLaws.{names_in, names_again, parts_take, same_parts}
 
 -- ---- the names, and the message after them

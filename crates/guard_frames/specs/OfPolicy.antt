@@ -1,8 +1,6 @@
 -- What a policy decides of the body of a frame.
 use Rattle.std.specs.Prelude.{◌≡◌, ℕ, List, Some}
 use Rattle.guard_policy.specs.Policies.{AbstractPolicy, AbstractRoute}
-use Rattle.guard_policy.specs.declared.passing.Passing.{Passing}
-use Rattle.guard_policy.specs.declared.passing.Passing.TheVariants as passing
 use Rattle.guard_policy.specs.declared.verdict.PlainReason.{PlainReason}
 use Rattle.guard_policy.specs.Verdicts.{AbstractVerdict, reason_view}
 use Rattle.guard_policy.specs.Decisions.{Goes, IsReason}
@@ -11,9 +9,6 @@ use Rattle.guard_report.specs.Lines.{line_octets}
 use Rattle.guard_frames.specs.Bodies.{AbstractBody, HasNames}
 use Rattle.guard_frames.specs.Outcomes.{Decision}
 use Rattle.guard_frames.specs.Reasons.{reason_of}
-use Rattle.guard_frames.specs.declared.decision.Decided.{Decided}
-use Rattle.guard_frames.specs.declared.decision.Decided.TheVariants as frame
-use Rattle.guard_frames.specs.declared.decision.Known.TheVariants.{Named}
 use Rattle.guard_frames.specs.declared.why.Reason.{Reason}
 
 -- sender and receiver are taken as given
@@ -40,8 +35,3 @@ lets_of p b rule = IsAllowedBy p (route_of b) b.message_octets rule
 -- the reason of its message, as it is told
 abbrev pub reasons_of : AbstractPolicy → AbstractBody → PlainReason → Type 0
 reasons_of p b reason = IsToldReason p (route_of b) b.message_octets (reason_view reason)
-
--- what is decided of a frame that has three names, by what is told of its message
-abbrev pub decided : Passing → Decided
-decided (passing.Goes rule) = frame.Goes rule
-decided (passing.Stopped reason) = frame.Stays (Named reason)

@@ -1,5 +1,6 @@
 -- What private contracts alone cite: the parts of the code.
 pub mod Closing
+pub mod Deciding
 pub mod Judged
 pub mod Putting
 pub mod Seats

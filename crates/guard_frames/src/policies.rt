@@ -5,9 +5,10 @@ ghost use Rattle.guard_policy.specs.PolicyView.{policy_view, route_view};
 ghost use Rattle.guard_policy.specs.Verdicts.{verdict_view, reason_view, pass};
 ghost use Rattle.guard_report.specs.Lines.{line_octets};
 ghost use Rattle.guard_frames.specs.Bodies.{body_view};
-ghost use Rattle.guard_frames.specs.OfPolicy.{route_of, decision_of, lets_of, reasons_of, gives_of, decided};
+ghost use Rattle.guard_frames.specs.OfPolicy.{route_of, decision_of, lets_of, reasons_of, gives_of};
 ghost use Rattle.guard_frames.specs.Outcomes.{IsDecided};
 ghost use Rattle.guard_frames.specs.Reasons.{reason_of};
+ghost use Rattle.guard_frames.specs.inside.Deciding.{decided};
 
 use crate::body::Body;
 use crate::decision::{Decide, Decided, Known};

@@ -1,7 +1,7 @@
 -- The rules of a policy, one after another, as a loop over their numbers has them.
-use Rattle.std.proofs.Common.{◌≡◌, ◌∙◌, ◌+◌, ◌&&◌, ℕ, Bool, true, false, cond, zero, suc, List, [], ◌∷◌, ◌++◌, Some, drop, ap, refl, sym, add-one, append_assoc, ◌<◌, None, length, arith}
+use Rattle.std.proofs.Common.{◌≡◌, ◌∙◌, ◌+◌, ◌&&◌, ℕ, Bool, true, false, cond, zero, suc, List, [], ◌∷◌, ◌++◌, Some, drop, ap, refl, sym, add-one, append_assoc, ◌<◌, ◌≤◌, None, length, arith}
 use Rattle.std.specs.Prelude.{slice_get, unwrap_or}
-use Rattle.std.proofs.lemmas.List.{append-nil}
+use Rattle.std.proofs.lemmas.List.{append-nil, at_drop_all}
 use Rattle.guard_model.specs.AbstractValue.{AbstractValue}
 use Rattle.guard_policy.specs.Decisions.{NumberedRule, allows, speaking, speaks_of}
 use Rattle.guard_policy.specs.Policies.{AbstractRoute, AbstractRule}
@@ -89,3 +89,11 @@ pub none_of : {A : Type 0} (xs : List A) (i : ℕ) → slice_get xs i ≡ None �
 none_of [] i none lt = absurd (omega arith)
 none_of (x ∷ xs) zero none lt = absurd cc
 none_of (x ∷ xs) (suc i) none lt = none_of xs i none (omega arith)
+
+-- ---- past the last one
+
+-- where what is told of the items left stands after what was told so far, nothing is to come
+pub past_all : {A B : Type 0} (tell : List A → List B) (xs : List A) (i : ℕ) (done all : List B) → tell [] ≡ [] → length xs ≤ i
+    → done ++ tell (drop i xs) ≡ all → done ≡ all
+past_all tell xs i done all none past so_far =
+    sym (append-nil done) ∙ ap (λ rest. done ++ rest) (sym (at_drop_all tell xs i past ∙ none)) ∙ so_far

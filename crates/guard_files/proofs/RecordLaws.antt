@@ -3,7 +3,7 @@ use Rattle.std.proofs.Common.{◌≡◌, ◌∙◌, ◌+◌, ◌-◌, ◌<◌, �
 use Rattle.std.specs.Prelude.{Option, Some, None, IfSome}
 use Rattle.std.specs.Io.KnownBytes.{Consumes}
 use Rattle.std.specs.List.{concat}
-use Rattle.std.proofs.lemmas.List.{append-nil, map-append, length-take-le}
+use Rattle.std.proofs.lemmas.List.{append-nil, drop-drop, drop-take, length-take-le, map-append, take-take}
 use Rattle.std.proofs.lemmas.List.Folds.{concat-append}
 use Rattle.std.proofs.Math.Seq.{take-add}
 use Rattle.std.proofs.lemmas.Option.{same_Some, none-some}
@@ -12,11 +12,20 @@ use Rattle.guard_frames.specs.Totals.{WentUpBy}
 use Rattle.guard_files.specs.Records.{Record, header, link_octets, of_link, record_octets}
 use Rattle.guard_files.specs.Records.Record.{piece}
 
--- after n octets at the front m more were read, and the first ones were kept
-pub Consumes_more : (a b c : Option (List ℕ)) (n m : ℕ) (old new : List ℕ) → take n new ≡ take n old → Consumes a b (take n old)
-    → Consumes b c (take m (drop n new)) → Consumes a c (take (n + m) new)
-Consumes_more a b c n m old new kept p q =
-    rw (take-add n m new) (subst (λ (s : List ℕ). Consumes a c (s ++ take m (drop n new))) (sym kept) (Consumes_trans a b c (take n old) (take m (drop n new)) p q))
+-- what is before a place was kept, and so is what is before an earlier one
+pub kept_before : (at n : ℕ) (old new : List ℕ) → take (at + n) new ≡ take (at + n) old → take at new ≡ take at old
+kept_before at n old new kept =
+    sym (take-take at (at + n) new (omega arith)) ∙ ap (take at) kept ∙ take-take at (at + n) old (omega arith)
+
+-- behind n octets from a place on m more were read, and the first ones were kept
+pub Consumes_more : (a b c : Option (List ℕ)) (at n m : ℕ) (old new : List ℕ) → take (at + n) new ≡ take (at + n) old
+    → Consumes a b (take n (drop at old)) → Consumes b c (take m (drop (at + n) new)) → Consumes a c (take (n + m) (drop at new))
+Consumes_more a b c at n m old new kept p q =
+    let front : take n (drop at old) ≡ take n (drop at new) =
+    sym (drop-take at n old) ∙ ap (drop at) (sym kept) ∙ drop-take at n new in
+    let behind : take m (drop (at + n) new) ≡ take m (drop n (drop at new)) = ap (take m) (sym (drop-drop n at new)) in
+    rw (take-add n m (drop at new)) (Consumes_trans a b c (take n (drop at new)) (take m (drop n (drop at new)))
+    (subst (λ (s : List ℕ). Consumes a b s) front p) (subst (λ (s : List ℕ). Consumes b c s) behind q))
 
 -- a header, and then as many octets as it says
 pub piece_read : (a b c : Option (List ℕ)) (link size n : ℕ) (first room : List ℕ) → first ≡ header 0 link size → n ≡ size → size ≤ length room

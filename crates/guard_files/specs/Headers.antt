@@ -3,7 +3,7 @@ use Rattle.std.specs.Prelude.{◌≡◌, ◌<◌, ◌≤◌, ◌⊎◌, ℕ, Boo
 use Rattle.guard_files.specs.declared.records.Header.{Header}
 use Rattle.guard_files.specs.declared.records.Header.TheVariants.{Piece, End, Reload}
 use Rattle.guard_files.specs.declared.stop.Stop.{Stop}
-use Rattle.guard_files.specs.declared.stop.Stop.TheVariants.{BadRecord, ReadFailed, WriteFailed, ErrorFailed}
+use Rattle.guard_files.specs.declared.stop.Stop.TheVariants.{BadRecord, ReadFailed}
 use Rattle.guard_files.specs.Records.{Record, header, HasNoRecord, IsBadHeader}
 use Rattle.guard_files.specs.Records.Record.{piece, end, reload}
 
@@ -28,5 +28,4 @@ abbrev pub IsNone : Stop → List ℕ → Type 0 → Bool → ℕ → Type 0
 IsNone BadRecord rest AtEnd failed reads =
     ((length rest ≡ 7) × IsBadHeader rest) ⊎ ((0 < length rest) × HasNoRecord rest × AtEnd)
 IsNone ReadFailed rest AtEnd failed reads = HasNoRecord rest × ((failed ≡ true) ⊎ (reads ≡ 0))
-IsNone WriteFailed rest AtEnd failed reads = ⊥
-IsNone ErrorFailed rest AtEnd failed reads = ⊥
+IsNone _ rest AtEnd failed reads = ⊥

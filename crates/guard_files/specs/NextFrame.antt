@@ -2,7 +2,7 @@
 use Rattle.std.specs.Prelude.{◌≡◌, ◌<◌, ◌⊎◌, ℕ, Bool, true, List, length, ◌^◌}
 use Rattle.std.specs.Io.KnownBytes.{IsAtEnd}
 use Rattle.guard_frames.specs.declared.running.RunFault.{RunFault}
-use Rattle.guard_frames.specs.declared.running.RunFault.TheVariants.{FrameTooLong, WriteFailed, TornFrame, ReadFailed, OutOfMemory}
+use Rattle.guard_frames.specs.declared.running.RunFault.TheVariants.{FrameTooLong, TornFrame, ReadFailed}
 use Rattle.guard_frames.specs.Frames.{IsTooLong, IsUnfinished}
 use Rattle.guard_frames.specs.Totals.{WentUpBy}
 use Rattle.guard_files.specs.Devices.{Input}
@@ -12,8 +12,7 @@ abbrev pub IsNoFrame : RunFault → List ℕ → Type 0 → Bool → ℕ → Typ
 IsNoFrame FrameTooLong rest AtEnd failed reads = IsTooLong rest × (length rest ≡ 4)
 IsNoFrame TornFrame rest AtEnd failed reads = (0 < length rest) × IsUnfinished rest × AtEnd
 IsNoFrame ReadFailed rest AtEnd failed reads = IsUnfinished rest × ((failed ≡ true) ⊎ (reads ≡ 0))
-IsNoFrame WriteFailed rest AtEnd failed reads = ⊥
-IsNoFrame OutOfMemory rest AtEnd failed reads = ⊥
+IsNoFrame _ rest AtEnd failed reads = ⊥
 
 -- a length that no frame may have, and nothing behind it
 abbrev pub IsTooLongAlone : List ℕ → Type 0

@@ -12,7 +12,7 @@ use Rattle.guard_policy.specs.PolicyFaults as policy
 use Rattle.guard_frames.specs.Texts.{SayPolicy, SayNone}
 use Rattle.guard_frames.specs.declared.texts.TextsFault.TheVariants as texts
 use Rattle.guard_files.specs.declared.fault.Fault.{Fault}
-use Rattle.guard_files.specs.declared.fault.Fault.TheVariants.{CannotRead, TooLarge, Schema, Policy, Run, NoMemory}
+use Rattle.guard_files.specs.declared.fault.Fault.TheVariants.{CannotRead, TooLarge, Schema, Policy, NoMemory}
 use Rattle.guard_files.specs.declared.loaded.Loaded.{Loaded}
 use Rattle.guard_files.specs.Files.{Told, after_read, HasFront, HasText, HasNone, IsTooLarge}
 
@@ -47,9 +47,7 @@ abbrev pub IsUnreadable : Told → List ℕ → Fault → Type 0
 IsUnreadable told path (CannotRead file obstacle) = HasNone told path × (string_bytes file ≡ path)
 IsUnreadable told path (TooLarge file) = IsTooLarge told path × (string_bytes file ≡ path)
 IsUnreadable told path NoMemory = Unit {0}
-IsUnreadable told path (Schema f) = ⊥
-IsUnreadable told path (Policy f) = ⊥
-IsUnreadable told path (Run f) = ⊥
+IsUnreadable told path _ = ⊥
 
 -- Why there are no such texts, the first of these: nothing can be read at the path; the text there is too large; it
 -- lists no modules; nothing can be read at one of them.
@@ -59,9 +57,7 @@ AreMissing told path (CannotRead file obstacle) =
 AreMissing told path (TooLarge file) = IsTooLarge told path × (string_bytes file ≡ path)
 AreMissing told path (Policy f) =
     (text : List ℕ) × HasText told path text × IsSomeAnd (policy.named f) (ListsNoFiles text)
-AreMissing told path (Schema f) = ⊥
-AreMissing told path (Run f) = ⊥
-AreMissing told path NoMemory = ⊥
+AreMissing told path _ = ⊥
 
 -- the texts of the policy at the path say it
 abbrev pub IsPolicyAt : Told → List ℕ → AbstractPolicy → Type 0
@@ -92,10 +88,7 @@ IsLoadedAt told path l =
 abbrev pub SayNothing : List (List ℕ) → List ℕ → Fault → Type 0
 SayNothing modules text (Schema f) = SayNone modules text (texts.Schema f)
 SayNothing modules text (Policy f) = SayNone modules text (texts.Policy f)
-SayNothing modules text (CannotRead file obstacle) = ⊥
-SayNothing modules text (TooLarge file) = ⊥
-SayNothing modules text (Run f) = ⊥
-SayNothing modules text NoMemory = ⊥
+SayNothing modules text _ = ⊥
 
 -- Why there is no policy at the path: its texts are missing, or say none. That memory ran out says nothing of either.
 abbrev pub IsNoPolicyAt : Told → List ℕ → Fault → Type 0
@@ -112,10 +105,7 @@ SayNoneLoaded modules text f = SayNothing modules text f ⊎ (f ≡ NoMemory)
 abbrev pub NamesFile : (List ℕ → Type 0) → Fault → Type 0
 NamesFile IsPath (CannotRead file obstacle) = IsPath (string_bytes file)
 NamesFile IsPath NoMemory = Unit {0}
-NamesFile IsPath (TooLarge file) = ⊥
-NamesFile IsPath (Schema f) = ⊥
-NamesFile IsPath (Policy f) = ⊥
-NamesFile IsPath (Run f) = ⊥
+NamesFile IsPath _ = ⊥
 
 -- nothing can be read at the path, and it is named; or memory ran out
 abbrev pub HasNoFront : Told → List ℕ → Fault → Type 0

@@ -20,9 +20,10 @@ use std::alloc::Global;
 
 /// The rules that allow a value, in the order of the file: their numbers, and a line for each.
 #[derive(Drop)]
-struct Allowed {
-    numbers: Vec<usize>,
-    lines: Vec<u8>,
+pub struct Allowed {
+    pub numbers: Vec<usize>,
+    /// What explains that they pass it.
+    pub lines: Vec<u8>,
 }
 
 /// Whether the rule speaks of the route and allows the value.
@@ -63,23 +64,6 @@ fn allowing(
     Ok(Allowed { numbers, lines })
 }
 
-/// A line for each rule that allows the value which the octets encode, in the order of the file.
-///
-/// Condition: the message is declared, and the octets encode a value of its type. OutOfMemory is the only error.
-pub fn pass_note(
-    alloc: Global,
-    policy: &Policy,
-    route: &Route,
-    octets: &[u8],
-) -> Result<Vec<u8>, OutOfMemory>
-    requires { HasValue (policy_view policy.now) (route_view route.now).message octets.now }
-    ensures { IfOk result (λ note. OfValue (policy_view policy.now) (route_view route.now).message octets.now
-        (λ t v. note.items ≡ allowing_lines (route_view route.now) v (policy_view policy.now).rules)) }
-{
-    let (_, value) = value_of(alloc, policy, route.message, octets)?;
-    Ok(allowing(alloc, policy, route, &value)?.lines)
-}
-
 /// The declared type of the message, and the value of it that the octets encode.
 ///
 /// Condition: the message is declared, and the octets encode a value of its type. OutOfMemory is the only error.
@@ -104,7 +88,7 @@ pub fn value_of<'a>(
     }
 }
 
-/// The numbers of the rules that allow the value which the octets encode, in the order of the file.
+/// The rules that allow the value which the octets encode.
 ///
 /// Condition: the message is declared, and the octets encode a value of its type. OutOfMemory is the only error.
 pub fn allowing_octets(
@@ -112,11 +96,13 @@ pub fn allowing_octets(
     policy: &Policy,
     route: &Route,
     octets: &[u8],
-) -> Result<Vec<usize>, OutOfMemory>
+) -> Result<Allowed, OutOfMemory>
     requires { HasValue (policy_view policy.now) (route_view route.now).message octets.now }
-    ensures { IfOk result (λ numbers. OfValue (policy_view policy.now) (route_view route.now).message octets.now
-        (λ t v. numbers.items ≡ allowing (rules_of (policy_view policy.now) (route_view route.now)) v)) }
+    ensures numbers { IfOk result (λ found. OfValue (policy_view policy.now) (route_view route.now).message octets.now
+        (λ t v. found.numbers.items ≡ allowing (rules_of (policy_view policy.now) (route_view route.now)) v)) }
+    ensures lines { IfOk result (λ found. OfValue (policy_view policy.now) (route_view route.now).message octets.now
+        (λ t v. found.lines.items ≡ allowing_lines (route_view route.now) v (policy_view policy.now).rules)) }
 {
     let (_, value) = value_of(alloc, policy, route.message, octets)?;
-    Ok(allowing(alloc, policy, route, &value)?.numbers)
+    allowing(alloc, policy, route, &value)
 }

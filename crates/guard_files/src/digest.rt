@@ -8,7 +8,7 @@ use sha2::{Digest, Sha256};
 
 /// SHA-256 (FIPS 180-4) over the policy's text and those of its modules, in the order in which it lists them, each
 /// behind its length as eight octets.
-pub fn digest_of(texts: &Texts) -> [u8; 32]
+pub(crate) fn digest_of(texts: &Texts) -> [u8; 32]
     ensures { result ≡ digest_of texts.now.policy.items (map (λ text. text.items) texts.now.modules.items) }
 {
     let mut hasher = Sha256::new();

@@ -1,15 +1,12 @@
 //! Reads the frames of a stream, one after another.
-ghost use Rattle.std.specs.Prelude.{◌≡◌, ◌≤◌, ◌<◌, ◌-◌, ◌+◌, List, ℕ, [], None, length, take};
-ghost use Rattle.std.specs.Prelude.{drop, IfOk, IfErr, IfSome, OnErr, true, ◌⊎◌};
+ghost use Rattle.std.specs.Prelude.{◌≡◌, ◌≤◌, ◌<◌, ◌-◌, List, ℕ, [], None, length, take, IfOk, IfErr, IfSome};
 ghost use Rattle.std.specs.Io.KnownBytes.{Consumes, IsAtEnd};
 ghost use Rattle.guard_frames.specs.Frames.{IsFrame};
 ghost use Rattle.guard_frames.specs.Totals.{WentUpBy};
 ghost use Rattle.guard_files.specs.NextFrame.{IsNoFrame};
-ghost use Rattle.guard_files.specs.declared.stop.Stop.TheVariants as stop;
 
 use crate::octets::room;
-use crate::records::fill_front;
-use crate::stop::Stop;
+use crate::records::fill;
 use guard_frames::{LENGTH_OCTETS, LONGEST_FRAME, RunFault, Source, allowed_length};
 use guard_model::OutOfMemory;
 use std::alloc::Global;
@@ -39,7 +36,7 @@ pub fn next_frame<S: Source>(
     ensures counted { WentUpBy (S.takes source.old) (reads.old - reads.new) (S.takes source.new) }
     ensures fewer { reads.new ≤ reads.old }
 {
-    let count = match fill_front(source, room, LENGTH_OCTETS, reads) {
+    let count = match fill(source, room, 0, LENGTH_OCTETS, reads) {
         Ok(count) => count,
         Err(_) => return Err(RunFault::ReadFailed),
     };
@@ -52,7 +49,7 @@ pub fn next_frame<S: Source>(
     let Some(body) = allowed_length(&room[..LENGTH_OCTETS]) else {
         return Err(RunFault::FrameTooLong);
     };
-    let behind = match fill_body(source, room, body, reads) {
+    let behind = match fill(source, room, LENGTH_OCTETS, body, reads) {
         Ok(behind) => behind,
         Err(_) => return Err(RunFault::ReadFailed),
     };
@@ -60,25 +57,4 @@ pub fn next_frame<S: Source>(
         return Err(RunFault::TornFrame);
     }
     Ok(Some(body + LENGTH_OCTETS))
-}
-
-/// Fills so many octets behind the first four of the room, or as many of them as the source has, and answers how many.
-fn fill_body<S: Source>(
-    source: &mut S,
-    room: &mut [u8],
-    size: usize,
-    reads: &mut u64,
-) -> Result<usize, Stop>
-    requires { size + 4 ≤ length room.old }
-    ensures within { IfOk result (λ n. n ≤ size) }
-    ensures kept { take 4 room.new ≡ take 4 room.old }
-    ensures given { IfOk result (λ n. Consumes (S.tells source.old) (S.tells source.new) (take n (drop 4 room.new))) }
-    ensures end { IfOk result (λ n. n < size → IsAtEnd (S.tells source.new)) }
-    ensures lost { OnErr result ((part : List ℕ) × (length part < size)
-        × Consumes (S.tells source.old) (S.tells source.new) part) }
-    ensures failed { IfErr result (λ f. (f ≡ stop.ReadFailed) × ((S.has_failed source.new ≡ true) ⊎ (reads.new ≡ 0))) }
-    ensures counted { WentUpBy (S.takes source.old) (reads.old - reads.new) (S.takes source.new) }
-    ensures fewer { reads.new ≤ reads.old }
-{
-    fill_front(source, &mut room[LENGTH_OCTETS..], size, reads)
 }

@@ -23,7 +23,7 @@ pub fn read_all<S: Source>(alloc: Global, source: &mut S) -> Result<Vec<u8>, Fau
 {
     let mut octets = room(alloc, ROOM)?;
     let mut reads = MOST_READS;
-    let Ok(count) = fill(source, octets.as_mut_slice(), &mut reads) else {
+    let Ok(count) = fill(source, octets.as_mut_slice(), 0, ROOM, &mut reads) else {
         return Err(Fault::Run(RunFault::ReadFailed));
     };
     octets.truncate(count);

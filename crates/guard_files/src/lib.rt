@@ -38,9 +38,8 @@ mod stop;
 mod texts;
 mod word;
 
-pub use allowed::{allowing_octets, pass_note, value_of};
+pub use allowed::{Allowed, allowing_octets, value_of};
 pub use answer::{Answer, Remarked};
-pub use digest::digest_of;
 pub use explaining::{Refusal, sources_of};
 pub use fault::Fault;
 pub use files::{Files, FilesFault, Obstacle};
@@ -49,7 +48,7 @@ pub use giving::give;
 pub use guard_report::add;
 pub use intake::read_all;
 pub use loaded::Loaded;
-pub use loading::{load, load_noted, load_numbered, read_noted, said_by};
+pub use loading::{load, load_noted, load_numbered, read_noted};
 pub use octets::{add_line, drop_front};
 pub use outputs::{
     FAILED, report, tell, tell_bad_record, tell_failed_read, tell_failed_write, tell_line,

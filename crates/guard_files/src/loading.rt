@@ -66,6 +66,9 @@ pub fn load_noted<F: Files>(
 }
 
 /// The texts of the policy at the path and of its modules; or why they can't be had, explained where that is asked for.
+///
+/// It refuses with CannotRead by the path at which nothing can be read, with TooLarge where the policy has more than
+/// 67,108,864 octets, and with Policy where its text lists no modules (Q1 to Q3 of its top).
 pub fn read_noted<F: Files>(
     alloc: Global,
     path: &str,
@@ -94,7 +97,7 @@ pub fn read_noted<F: Files>(
 }
 
 /// The policy that the texts say. It refuses with Schema or Policy, by the first fault of the texts.
-pub fn said_by(alloc: Global, texts: &Texts) -> Result<Policy, Fault>
+pub(crate) fn said_by(alloc: Global, texts: &Texts) -> Result<Policy, Fault>
     ensures there { IfOk result (λ p. SayPolicy
         (map (λ text. text.items) texts.now.modules.items) texts.now.policy.items (policy_view p)) }
     ensures none { IfErr result (SayNoneLoaded

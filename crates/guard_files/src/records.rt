@@ -1,5 +1,5 @@
 //! The records of many links, in one stream.
-ghost use Rattle.std.specs.Prelude.{◌≡◌, ◌<◌, ◌≤◌, ◌⊎◌, ◌-◌, ℕ, List, [], true, length};
+ghost use Rattle.std.specs.Prelude.{◌≡◌, ◌<◌, ◌≤◌, ◌⊎◌, ◌+◌, ◌-◌, ℕ, List, [], true, length};
 ghost use Rattle.std.specs.Prelude.{take, drop, IfOk, IfErr, IfSome, OnErr, None};
 ghost use Rattle.std.specs.Io.KnownBytes.{Consumes, IsAtEnd};
 ghost use Rattle.guard_frames.specs.Totals.{WentUpBy};
@@ -92,7 +92,7 @@ pub fn next_record<S: Source>(
     ensures counted { WentUpBy (S.takes source.old) (reads.old - reads.new) (S.takes source.new) }
     ensures fewer { reads.new ≤ reads.old }
 {
-    let count = fill_front(source, room, HEADER, reads)?;
+    let count = fill(source, room, 0, HEADER, reads)?;
     if count == 0 {
         return Ok(None);
     }
@@ -103,7 +103,7 @@ pub fn next_record<S: Source>(
         return Err(Stop::BadRecord);
     };
     if let Header::Piece(_, size) = header {
-        let count = fill_front(source, room, size, reads)?;
+        let count = fill(source, room, 0, size, reads)?;
         if count < size {
             return Err(Stop::BadRecord);
         }
@@ -111,16 +111,19 @@ pub fn next_record<S: Source>(
     Ok(Some(header))
 }
 
-/// Fills so many octets at the front of the room, or as many of them as the source has, and answers how many.
-pub fn fill_front<S: Source>(
+/// Fills so many octets of the room from this place on, or as many of them as the source has, and answers how many.
+pub fn fill<S: Source>(
     source: &mut S,
     room: &mut [u8],
+    from: usize,
     size: usize,
     reads: &mut u64,
 ) -> Result<usize, Stop>
-    requires { size ≤ length room.old }
+    requires { from + size ≤ length room.old }
     ensures within { IfOk result (λ n. n ≤ size) }
-    ensures given { IfOk result (λ n. Consumes (S.tells source.old) (S.tells source.new) (take n room.new)) }
+    ensures kept { take from room.new ≡ take from room.old }
+    ensures given { IfOk result (λ n. Consumes (S.tells source.old) (S.tells source.new)
+        (take n (drop from room.new))) }
     ensures end { IfOk result (λ n. n < size → IsAtEnd (S.tells source.new)) }
     ensures lost { OnErr result ((part : List ℕ) × (length part < size)
         × Consumes (S.tells source.old) (S.tells source.new) part) }
@@ -129,28 +132,13 @@ pub fn fill_front<S: Source>(
     ensures fewer { reads.new ≤ reads.old }
     ensures some { IfOk result (λ n. 0 < n → reads.new < reads.old) }
 {
-    fill(source, &mut room[..size], reads)
-}
-
-/// Fills the buffer, or as much of it as the source has, and answers how many octets that are.
-pub fn fill<S: Source>(source: &mut S, buffer: &mut [u8], reads: &mut u64) -> Result<usize, Stop>
-    ensures within { IfOk result (λ n. n ≤ length buffer.new) }
-    ensures given { IfOk result (λ n. Consumes (S.tells source.old) (S.tells source.new) (take n buffer.new)) }
-    ensures end { IfOk result (λ n. n < length buffer.new → IsAtEnd (S.tells source.new)) }
-    ensures lost { OnErr result ((part : List ℕ) × (length part < length buffer.old)
-        × Consumes (S.tells source.old) (S.tells source.new) part) }
-    ensures failed { IfErr result (λ f. (f ≡ stop.ReadFailed) × ((S.has_failed source.new ≡ true) ⊎ (reads.new ≡ 0))) }
-    ensures counted { WentUpBy (S.takes source.old) (reads.old - reads.new) (S.takes source.new) }
-    ensures fewer { reads.new ≤ reads.old }
-    ensures some { IfOk result (λ n. 0 < n → reads.new < reads.old) }
-{
     let mut filled = 0;
-    while filled < buffer.len() {
+    while filled < size {
         if *reads == 0 {
             return Err(Stop::ReadFailed);
         }
         *reads -= 1;
-        let Ok(count) = take_more(source, buffer, filled) else {
+        let Ok(count) = take_more(source, room, from + filled, size - filled) else {
             return Err(Stop::ReadFailed);
         };
         if count == 0 {
@@ -161,17 +149,23 @@ pub fn fill<S: Source>(source: &mut S, buffer: &mut [u8], reads: &mut u64) -> Re
     Ok(filled)
 }
 
-/// Takes octets into the buffer from this place on, and answers how many.
-fn take_more<S: Source>(source: &mut S, buffer: &mut [u8], filled: usize) -> Result<usize, Failed>
-    requires { filled < length buffer.old }
-    ensures within { IfOk result (λ n. n ≤ length buffer.old - filled) }
-    ensures kept { take filled buffer.new ≡ take filled buffer.old }
+/// Takes octets into the room from this place on, so many at most, and answers how many.
+fn take_more<S: Source>(
+    source: &mut S,
+    room: &mut [u8],
+    from: usize,
+    most: usize,
+) -> Result<usize, Failed>
+    requires some { 0 < most }
+    requires within { from + most ≤ length room.old }
+    ensures within { IfOk result (λ n. n ≤ most) }
+    ensures kept { take from room.new ≡ take from room.old }
     ensures given { IfOk result (λ n. Consumes (S.tells source.old) (S.tells source.new)
-        (take n (drop filled buffer.new))) }
+        (take n (drop from room.new))) }
     ensures end { IfOk result (λ n. n ≡ 0 → IsAtEnd (S.tells source.new)) }
     ensures none { OnErr result (Consumes (S.tells source.old) (S.tells source.new) []) }
     ensures failed { OnErr result (S.has_failed source.new ≡ true) }
     ensures counted { WentUpBy (S.takes source.old) 1 (S.takes source.new) }
 {
-    source.take(&mut buffer[filled..])
+    source.take(&mut room[from..from + most])
 }

@@ -5,14 +5,12 @@ ghost use Rattle.guard_schema.specs.Accepts.{ReadsModules};
 ghost use Rattle.guard_schema.specs.Texts.{AreOfTexts};
 ghost use Rattle.guard_syntax.specs.ModuleViews.{module_view};
 ghost use Rattle.guard_files.specs.Files.{Told, HasFirst, HasFront, HasText, after_read, IsLater};
-ghost use Rattle.guard_files.specs.Reading.{folder, HaveTexts, AreTexts, IsNoPolicyAt, IsUnreadable};
+ghost use Rattle.guard_files.specs.Reading.{folder, HaveTexts, IsNoPolicyAt, IsUnreadable};
 ghost use Rattle.guard_files.specs.Reading.{SayNoneLoaded, HasNoFront};
-ghost use Rattle.guard_files.specs.Explaining.{AreTextsOf};
 ghost use Rattle.guard_files.specs.inside.Texts.{CannotAllBeRead, IsBeforeModules};
 
 use crate::fault::Fault;
 use crate::files::{Files, FilesFault};
-use crate::loading::read_noted;
 use guard_lexer::LONGEST_TEXT;
 use guard_notes::beside;
 use guard_policy::module_files;
@@ -35,24 +33,6 @@ pub struct Texts {
 }
 
 impl Texts {
-    /// Reads the policy at this path, and then each module that it lists, beside it.
-    ///
-    /// It refuses with CannotRead by the path at which nothing can be read, with TooLarge where the policy has more
-    /// than 67,108,864 octets, and with Policy where its text lists no modules (Q1 to Q3 of its top).
-    pub fn read<F: Files>(alloc: Global, path: &str, files: &mut F) -> Result<Texts, Fault>
-        ensures read { IfOk result (λ texts. AreTexts (F.told files.old) path.now texts.policy.items
-            (map (λ text. text.items) texts.modules.items)) }
-        ensures listed { IfOk result (λ texts. AreTextsOf (F.told files.old) path.now texts.policy.items
-            (map string_bytes texts.files.items) (map (λ text. text.items) texts.modules.items)) }
-        ensures missing { IfErr result (IsNoPolicyAt (F.told files.old) path.now) }
-        ensures later { IsLater (F.told files.old) (F.told files.new) }
-    {
-        match read_noted(alloc, path, false, files) {
-            Ok(texts) => Ok(texts),
-            Err(refusal) => Err(refusal.fault),
-        }
-    }
-
     /// The texts of the modules, as a schema is built from them.
     pub fn module_slices(&self, alloc: Global) -> Result<Vec<&[u8]>, AllocError>
         ensures { IfOk result (λ slices. map (λ s. s.now) slices.items

@@ -1,12 +1,10 @@
-use Rattle.std.proofs.Common.{◌≤◌, ◌∙◌, ◌++◌, List, length, sym, ap, arith}
-use Rattle.std.proofs.lemmas.List.{drop_all, append-nil}
+use Rattle.std.proofs.Common.{◌∙◌, arith, refl, sym}
 use Rattle.guard_model.specs.ValueView.{value_view}
 use Rattle.guard_policy.specs.Decisions.{rules_of, speaking}
-use Rattle.guard_policy.specs.Policies.{AbstractRule}
 use Rattle.guard_policy.specs.PolicyView.{policy_view, route_view, said_view}
 use Rattle.guard_policy.proofs.Applicable.{applicable_number}
 use Rattle.guard_files.specs.Allowed.{allowing, allowing_lines}
-use Rattle.guard_files.proofs.AllowingLaws.{no_line, no_number, one_line, one_number, none_of}
+use Rattle.guard_files.proofs.AllowingLaws.{no_line, no_number, none_of, one_line, one_number, past_all}
 use Rattle.guard_files.proofs.allowed.allowing.Goals as goal
 use Rattle.guard_files.proofs.allowed.allowing.Goals.{then-allows+in_ok-push+in_ok-add_line, else-allows}
 
@@ -55,16 +53,10 @@ loop-number-preserved c =
 
 pub returns-clause-numbers : goal.returns-clause-numbers
 returns-clause-numbers c =
-    let p = policy_view c.args.policy.now in
-    let all : length p.rules ≤ c.loop-number.number = omega (arith, c.loop-number-test.false, c.rules-number-end.ensures) in
-    sym (append-nil c.loop-number.numbers.items)
-    ∙ ap (λ (rest : List AbstractRule). c.loop-number.numbers.items ++ allowing (speaking (route_view c.args.route.now) c.loop-number.number rest) (value_view c.args.value.now)) (sym (drop_all c.loop-number.number p.rules all))
-    ∙ c.loop-number.invariant.numbers
+    past_all (λ rest. allowing (speaking (route_view c.args.route.now) c.loop-number.number rest) (value_view c.args.value.now))
+    (policy_view c.args.policy.now).rules c.loop-number.number _ _ refl (omega (arith, c.loop-number-test.false, c.rules-number-end.ensures)) c.loop-number.invariant.numbers
 
 pub returns-clause-lines : goal.returns-clause-lines
 returns-clause-lines c =
-    let p = policy_view c.args.policy.now in
-    let all : length p.rules ≤ c.loop-number.number = omega (arith, c.loop-number-test.false, c.rules-number-end.ensures) in
-    sym (append-nil c.loop-number.lines.items)
-    ∙ ap (λ (rest : List AbstractRule). c.loop-number.lines.items ++ allowing_lines (route_view c.args.route.now) (value_view c.args.value.now) rest) (sym (drop_all c.loop-number.number p.rules all))
-    ∙ c.loop-number.invariant.lines
+    past_all (allowing_lines (route_view c.args.route.now) (value_view c.args.value.now)) (policy_view c.args.policy.now).rules c.loop-number.number _ _ refl
+    (omega (arith, c.loop-number-test.false, c.rules-number-end.ensures)) c.loop-number.invariant.lines

@@ -9,8 +9,3 @@ allowing-requires c =
     let p = policy_view c.args.policy.now in
     let found = c.in_ok-value.ensures in
     applicable_from_consistent p.messages p.rules (route_view c.args.route.now) (type_view c.in_ok-value.field-0-0.now) (value_view c.in_ok-value.value) c.args.policy.now.kept.consistent found.0 found.1
-
-pub returns : goal.returns
-returns c =
-    let found = c.in_ok-value.ensures in
-    (type_view c.in_ok-value.field-0-0.now, value_view c.in_ok-value.value, found.0, found.1, found.2, c.in_ok-allowing.ensures.numbers)

@@ -11,7 +11,7 @@ returns-in_err-count-2-clause-none g c =
     let f = c.in_ok-count.ensures in
     let lost = c.in_err-count-2.ensures.lost in
     let rest = piece_lost _ _ _ c.in-Some.header c.in-Piece.field-0 c.in-Piece.size c.in_ok-count.count
-    c.fill_front.new.room lost.0 c.in-Piece.is h.0 h.1
+    c.fill.new.room lost.0 c.in-Piece.is h.0 h.1
     f.within c.if-count-lt-HEADER.false f.given lost.2 lost.1 in
     let failed = c.in_err-count-2.ensures.failed in
     rw (e.1, e.2) (rest.0, rest.1, lost_none c.in_err-count-2.field-0.0 rest.0 _ _ _ failed.0 rest.2 failed.1)
@@ -22,12 +22,12 @@ returns-then-count-size-clause-none g c =
     let f = c.in_ok-count.ensures in
     let s = c.in_ok-count-2.ensures in
     let rest = piece_lost _ _ _ c.in-Some.header c.in-Piece.field-0 c.in-Piece.size c.in_ok-count.count
-    c.fill_front.new.room _ c.in-Piece.is h.0 h.1
+    c.fill.new.room _ c.in-Piece.is h.0 h.1
     f.within c.if-count-lt-HEADER.false f.given s.given (omega (
       arith,
       c.if-count-size.true,
       length-take
-          c.in_ok-count-2.count c.fill_front-in-Piece.new.room,
+          c.in_ok-count-2.count c.fill-in-Piece.new.room,
     )) in
     (rest.0, rest.1, inr (rest.3, rest.2, s.end c.if-count-size.true))
 
@@ -40,10 +40,10 @@ returns-else-count-size-clause-record g c =
       good,
       omega (arith, s.fewer, f.some (omega (arith, c.if-count-lt-HEADER.false))),
       whole_piece _ _ _ c.in-Some.header c.in-Piece.field-0 c.in-Piece.size c.in_ok-count.count
-          c.in_ok-count-2.count c.fill_front.new.room c.fill_front-in-Piece.new.room
+          c.in_ok-count-2.count c.fill.new.room c.fill-in-Piece.new.room
           c.in-Piece.is h.0 h.1 f.within c.if-count-lt-HEADER.false f.given s.given
           (omega (arith, s.within, c.if-count-size.false))
-          (omega (arith, good.1, c.requires, c.fill_front.auto.room, c.fill_front-in-Piece.auto.room)),
+          (omega (arith, good.1, c.requires, c.fill.auto.room, c.fill-in-Piece.auto.room)),
     )
 
 pub returns-in_default-header : goal.returns-in_default-header
@@ -54,7 +54,7 @@ returns-in_default-header g c =
       «record» = (
         h.0,
         f.some (omega (arith, c.if-count-lt-HEADER.false)),
-        header_read _ _ c.in-Some.header c.in_ok-count.count c.fill_front.new.room c.in_default-header.not-Piece h.1
+        header_read _ _ c.in-Some.header c.in_ok-count.count c.fill.new.room c.in_default-header.not-Piece h.1
             f.within c.if-count-lt-HEADER.false f.given,
       );
       end = λ none. absurd cc;

@@ -19,7 +19,7 @@ ghost use Rattle.guard_notes.specs.declared.notes.Place.TheVariants.{At};
 use crate::message_rules::message_rules;
 use crate::rule_types::{Grounds, rule_type_lines};
 use guard_eval::Violation;
-use guard_files::{add, pass_note, value_of};
+use guard_files::{add, allowing_octets, value_of};
 use guard_model::{Cons, OutOfMemory, Site, Step, Ty, Value};
 use guard_notes::{Place, Sources, columns, place_lines};
 use guard_policy::{Policy, Route, SaidRule, Verdict};
@@ -45,7 +45,7 @@ pub fn verdict_note(
         return Ok(Vec::new(alloc));
     }
     match verdict {
-        Verdict::Pass => pass_note(alloc, policy, route, octets),
+        Verdict::Pass => Ok(allowing_octets(alloc, policy, route, octets)?.lines),
         Verdict::UnknownMessage => sentence(
             alloc,
             "  The policy declares no message of this name.\n",

@@ -11,5 +11,5 @@ pub denied_by_note-requires : goal.denied_by_note-requires
 denied_by_note-requires c = denied_has_value (policy_view c.args.policy.now) (route_view c.args.route.now) c.args.octets.now
     c.in-DeniedBy.number (rw c.in-DeniedBy.is at c.requires)
 
-pub pass_note-requires : goal.pass_note-requires
-pass_note-requires c = pass_has_value (policy_view c.args.policy.now) (route_view c.args.route.now) c.args.octets.now (rw c.in-Pass.is at c.requires)
+pub allowing_octets-requires : goal.allowing_octets-requires
+allowing_octets-requires c = pass_has_value (policy_view c.args.policy.now) (route_view c.args.route.now) c.args.octets.now (rw c.in-Pass.is at c.requires)

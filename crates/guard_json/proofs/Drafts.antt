@@ -1,13 +1,13 @@
 -- How parts of an object come together.
-use Rattle.std.proofs.Common.{◌≡◌, ℕ, zero, suc, ◌+◌, ◌<◌, ◌≤◌, lit<, Bool, true, false, ◌==◌, cond, List, [], ◌∷◌, ◌++◌, length, drop, refl, sym, ap, ◌∙◌, subst, append-nil, append_assoc, arith}
-use Rattle.std.specs.Prelude.{Option, Some, None, IfSome, IfOk, Result, Ok, Err, OnOk, OnErr, is_err, option_and_then}
+use Rattle.std.proofs.Common.{◌≡◌, ℕ, zero, suc, ◌+◌, ◌<◌, ◌≤◌, lit<, Bool, true, false, ◌==◌, ◌&&◌, cond, List, [], ◌∷◌, ◌++◌, length, drop, refl, sym, ap, ap₂, ◌∙◌, subst, append-nil, append_assoc, arith, Bor}
+use Rattle.std.specs.Prelude.{Option, Some, None, IfSome, IfOk, Result, Ok, Err, OnOk, OnErr, is_err, option_and_then, option_map}
 use Rattle.std.specs.List.{list_all, prefix_len}
 use Rattle.std.specs.Char.{is_ascii_digit}
 use Rattle.std.proofs.lemmas.Bool.{true≢false, false≢true, ne_eqb, eqb-true, leb-true, and_parts, and_from}
 use Rattle.std.proofs.lemmas.Bool.Decides.{nat_tests}
 use Rattle.std.proofs.lemmas.List.{drop_all}
 use Rattle.std.proofs.lemmas.List.Folds.{list_all-append}
-use Rattle.std.proofs.lemmas.Str.{IsUtf8-from_ascii, IsUtf8-from_is_utf8}
+use Rattle.std.proofs.lemmas.Str.{IsUtf8-from_ascii, IsUtf8-from_is_utf8, is_utf8-from_IsUtf8}
 use Rattle.std.specs.Str.{IsAscii, IsUtf8, is_utf8}
 use Rattle.guard_policy.specs.Names.{is_name_octet, is_name}
 use Rattle.json.specs.Token.{Token, begin_object, end_object, begin_array, end_array, key, string, number, boolean, null, bad}
@@ -199,12 +199,24 @@ not_utf8_at false w e h = e
 pub not_utf8 : (w : List ℕ) → (IsUtf8 w → ⊥) → is_utf8 w ≡ false
 not_utf8 w h = not_utf8_at (is_utf8 w) w refl h
 
--- a word of one kind is its token
-pub token_where : (t : Bool) (v w : List ℕ) (F : List ℕ → Token) → t ≡ true → v ≡ w → Some (F v) ≡ cond t (Some (F w)) None
-token_where t v w F e h = ap (λ x. Some (F x)) h ∙ sym (ap (λ b. cond b (Some (F w)) None) e)
+-- a word that only a text can be
+pub where_utf8 : (h t : Bool) (w : List ℕ) → h ≡ t → (t ≡ true → IsUtf8 w) → h && is_utf8 w ≡ t
+where_utf8 h true w e k = ap₂ (λ a b. a && b) e (is_utf8-from_IsUtf8 w (k refl))
+where_utf8 h false w e k = ap (λ a. a && is_utf8 w) e
 
-pub none_where : (t : Bool) (v : Token) → t ≡ false → None ≡ cond t (Some v) None
-none_where t v e = sym (ap (λ b. cond b (Some v) None) e)
+pub where_some : (b : Bool) (v w : List ℕ) → Some v ≡ cond b (Some w) None → (b ≡ true) × (v ≡ w)
+where_some true v w e = (refl, some_is e)
+where_some false v w e = absurd (cc)
+
+-- a word of one kind is its token
+pub token_where : (b t : Bool) (v : Option (Bor (List ℕ))) (w : List ℕ) (F : List ℕ → Token) → b ≡ t
+    → option_map (λ x. x.now) v ≡ cond b (Some w) None → option_map (λ x. F x.now) v ≡ cond t (Some (F w)) None
+token_where true true None w F e h = ap (option_map F) h
+token_where true true (Some x) w F e h = ap (option_map F) h
+token_where false false None w F e h = ap (option_map F) h
+token_where false false (Some x) w F e h = ap (option_map F) h
+token_where true false v w F e h = absurd (true≢false e)
+token_where false true v w F e h = absurd (false≢true e)
 
 -- ---- what may be written
 

@@ -1,5 +1,7 @@
 //! An object that is being written, and the values of its members.
-ghost use Rattle.std.specs.Prelude.{◌≡◌, true, [], IfSome, IfOk, OnOk, option_map, Some};
+ghost use Rattle.std.specs.Prelude.{◌≡◌, ◌&&◌, true, cond, [], IfSome, IfOk, OnOk, option_map, Some, None};
+ghost use Rattle.std.specs.Str.{is_utf8};
+ghost use Rattle.json.specs.Token.{string};
 ghost use Rattle.json.specs.Reads.{token_of};
 ghost use Rattle.json.specs.Print.{print};
 ghost use Rattle.guard_json.specs.Members.{number_in, name_in, path_in, text_in};
@@ -48,18 +50,52 @@ impl Draft {
         }
     }
 
-    /// Adds a member. Without a value the line hasn't its form.
-    pub fn member(&mut self, name: &str, value: Option<Token<'_>>)
-        requires { IfSome value (λ v. is_fine (token_of v) ≡ true) }
-        ensures { Adds self.old self.new (member name.now (option_map token_of value.entry)) }
+    /// Adds a member that is a number. The line hasn't its form where the word is none.
+    pub fn number(&mut self, name: &str, word: &[u8])
+        ensures { Adds self.old self.new (member name.now (number_in word.now)) }
     {
-        match value {
-            Some(value) => {
-                self.put(Token::Key(name));
-                self.put(value);
-            }
-            None => self.has_form = false,
+        match utf8_where(word, is_number(word)) {
+            Some(number) => self.member(name, Token::Number(number)),
+            None => self.only_where(false),
         }
+    }
+
+    /// Adds a member that is a name. The line hasn't its form where the word is none.
+    pub fn name(&mut self, name: &str, word: &[u8])
+        ensures { Adds self.old self.new (member name.now (name_in word.now)) }
+    {
+        self.string(name, utf8_where(word, is_name(word)));
+    }
+
+    /// Adds a member that is a path. The line hasn't its form where the word is none.
+    pub fn path(&mut self, name: &str, word: &[u8])
+        ensures { Adds self.old self.new (member name.now (path_in word.now)) }
+    {
+        self.string(name, utf8_where(word, is_path(word)));
+    }
+
+    /// Adds a member that is any text. The line hasn't its form where the octets aren't UTF-8.
+    pub fn text(&mut self, name: &str, octets: &[u8])
+        ensures { Adds self.old self.new (member name.now (text_in octets.now)) }
+    {
+        self.string(name, utf8_where(octets, true));
+    }
+
+    fn string(&mut self, name: &str, text: Option<&str>)
+        ensures { Adds self.old self.new (member name.now (option_map (λ text. string text.now) text.entry)) }
+    {
+        match text {
+            Some(text) => self.member(name, Token::String(text)),
+            None => self.only_where(false),
+        }
+    }
+
+    fn member(&mut self, name: &str, value: Token<'_>)
+        requires { is_fine (token_of value) ≡ true }
+        ensures { Adds self.old self.new (member name.now (Some (token_of value.entry))) }
+    {
+        self.put(Token::Key(name));
+        self.put(value);
     }
 
     /// The line hasn't its form unless this holds.
@@ -87,55 +123,15 @@ impl Draft {
     }
 }
 
-/// The number that the word is.
-pub fn number(word: &[u8]) -> Option<Token<'_>>
-    ensures value { option_map token_of result ≡ number_in word.now }
-    ensures fine { IfSome result (λ t. is_fine (token_of t) ≡ true) }
+/// The octets as text, where this holds and they are UTF-8.
+fn utf8_where(octets: &[u8], holds: bool) -> Option<&str>
+    ensures { option_map (λ text. text.now) result ≡ cond (holds && is_utf8 octets.now) (Some octets.now) None }
 {
-    if !is_number(word) {
+    if !holds {
         return None;
     }
-    match from_utf8(word) {
-        Ok(word) => Some(Token::Number(word)),
-        Err(_) => unreachable!(),
-    }
-}
-
-/// The name that the word is.
-pub fn name(word: &[u8]) -> Option<Token<'_>>
-    ensures value { option_map token_of result ≡ name_in word.now }
-    ensures fine { IfSome result (λ t. is_fine (token_of t) ≡ true) }
-{
-    if !is_name(word) {
-        return None;
-    }
-    match from_utf8(word) {
-        Ok(word) => Some(Token::String(word)),
-        Err(_) => unreachable!(),
-    }
-}
-
-/// The path that the word is.
-pub fn path(word: &[u8]) -> Option<Token<'_>>
-    ensures value { option_map token_of result ≡ path_in word.now }
-    ensures fine { IfSome result (λ t. is_fine (token_of t) ≡ true) }
-{
-    if !is_path(word) {
-        return None;
-    }
-    match from_utf8(word) {
-        Ok(word) => Some(Token::String(word)),
-        Err(_) => unreachable!(),
-    }
-}
-
-/// The text, where it is UTF-8.
-pub fn text(octets: &[u8]) -> Option<Token<'_>>
-    ensures value { option_map token_of result ≡ text_in octets.now }
-    ensures fine { IfSome result (λ t. is_fine (token_of t) ≡ true) }
-{
     match from_utf8(octets) {
-        Ok(text) => Some(Token::String(text)),
+        Ok(text) => Some(text),
         Err(_) => None,
     }
 }

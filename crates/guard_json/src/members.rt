@@ -4,7 +4,7 @@ ghost use Rattle.guard_json.specs.Members.{members_by, members_in, said_in, is_f
 ghost use Rattle.guard_json.specs.inside.Drafting.{Adds};
 
 use crate::cutting::{behind, is, is_code, is_number, up_to};
-use crate::draft::{Draft, name, number, text};
+use crate::draft::Draft;
 use crate::kinds::{LineKind, is_undecided};
 use crate::verdicts::{add_verdict, add_verdicts};
 use guard_policy::is_name;
@@ -32,9 +32,9 @@ fn add_said(draft: &mut Draft, said: &[u8])
     ensures { Adds draft.old draft.new (said_in said.now) }
 {
     if is_fault(said) {
-        draft.member("fault", text(said));
+        draft.text("fault", said);
     } else {
-        draft.member("note", text(said));
+        draft.text("note", said);
     }
 }
 
@@ -52,7 +52,7 @@ fn add_link(draft: &mut Draft, line: &[u8])
     ensures { Adds draft.old draft.new (link_in line.now) }
 {
     let rest = behind(b' ', line);
-    draft.member("link", number(up_to(b' ', line)));
+    draft.number("link", up_to(b' ', line));
     if is_number(up_to(b' ', rest)) {
         add_frame(draft, rest);
     } else {
@@ -66,14 +66,14 @@ fn add_link_fault(draft: &mut Draft, fault: &[u8])
 {
     draft.only_where(is_code(up_to(b' ', fault)));
     draft.only_where(is_name(behind(b' ', fault)));
-    draft.member("fault", text(fault));
+    draft.text("fault", fault);
 }
 
 /// Adds the line of a frame, which begins with its number.
 fn add_frame(draft: &mut Draft, line: &[u8])
     ensures { Adds draft.old draft.new (frame_in line.now) }
 {
-    draft.member("frame", number(up_to(b' ', line)));
+    draft.number("frame", up_to(b' ', line));
     add_outcome(draft, behind(b' ', line));
 }
 
@@ -82,7 +82,7 @@ fn add_outcome(draft: &mut Draft, outcome: &[u8])
     ensures { Adds draft.old draft.new (outcome_in outcome.now) }
 {
     if is_undecided(outcome) {
-        draft.member("verdict", name(outcome));
+        draft.name("verdict", outcome);
     } else {
         add_route(draft, outcome);
     }
@@ -94,8 +94,8 @@ fn add_route(draft: &mut Draft, line: &[u8])
 {
     let to = behind(b'>', line);
     let message = behind(b' ', to);
-    draft.member("from", name(up_to(b'>', line)));
-    draft.member("to", name(up_to(b' ', to)));
-    draft.member("message", name(up_to(b' ', message)));
+    draft.name("from", up_to(b'>', line));
+    draft.name("to", up_to(b' ', to));
+    draft.name("message", up_to(b' ', message));
     add_verdicts(draft, behind(b' ', message));
 }

@@ -4,7 +4,7 @@ ghost use Rattle.guard_json.specs.Members.{breach_in, violation_in, shortfall_in
 ghost use Rattle.guard_json.specs.inside.Drafting.{Adds};
 
 use crate::cutting::{behind, but_last_two, from, is, last_two, place_of, up_to};
-use crate::draft::{Draft, name, number, path};
+use crate::draft::Draft;
 use crate::kinds::VerdictKind;
 use json::Token;
 
@@ -41,7 +41,7 @@ fn add_pair(draft: &mut Draft, text: &[u8])
 pub fn add_verdict(draft: &mut Draft, text: &[u8])
     ensures { Adds draft.old draft.new (verdict_in text.now) }
 {
-    draft.member("verdict", name(up_to(b' ', text)));
+    draft.name("verdict", up_to(b' ', text));
     add_details(draft, VerdictKind::of(text), text);
 }
 
@@ -52,7 +52,7 @@ fn add_details(draft: &mut Draft, kind: VerdictKind, text: &[u8])
         VerdictKind::Alone => {}
         VerdictKind::Undecodable => add_breach(draft, behind(b' ', text)),
         VerdictKind::OutsideType => add_violation(draft, behind(b' ', text)),
-        VerdictKind::DeniedBy => draft.member("rule", name(behind(b' ', text))),
+        VerdictKind::DeniedBy => draft.name("rule", behind(b' ', text)),
         VerdictKind::NotAllowed => add_shortfalls(draft, from(b' ', text)),
         VerdictKind::Unknown => draft.only_where(false),
     }
@@ -64,10 +64,10 @@ fn add_breach(draft: &mut Draft, text: &[u8])
 {
     let at = behind(b' ', text);
     let rest = behind(b' ', at);
-    draft.member("code", name(up_to(b' ', text)));
+    draft.name("code", up_to(b' ', text));
     draft.only_where(is(up_to(b' ', at), "at"));
-    draft.member("offset", number(up_to(b' ', rest)));
-    draft.member("path", path(behind(b' ', rest)));
+    draft.number("offset", up_to(b' ', rest));
+    draft.path("path", behind(b' ', rest));
 }
 
 /// Adds `MODULE:LINE:COLUMN PATH`.
@@ -76,10 +76,10 @@ fn add_violation(draft: &mut Draft, text: &[u8])
 {
     let line = behind(b':', text);
     let column = behind(b':', line);
-    draft.member("module", name(up_to(b':', text)));
-    draft.member("line", number(up_to(b':', line)));
-    draft.member("column", number(up_to(b' ', column)));
-    draft.member("path", path(behind(b' ', column)));
+    draft.name("module", up_to(b':', text));
+    draft.number("line", up_to(b':', line));
+    draft.number("column", up_to(b' ', column));
+    draft.path("path", behind(b' ', column));
 }
 
 /// Adds ` RULE MODULE:LINE:COLUMN PATH`, a rule and why it doesn't allow the message.
@@ -89,7 +89,7 @@ fn add_shortfall(draft: &mut Draft, text: &[u8])
     let rule = behind(b' ', text);
     draft.only_where(place_of(b' ', text) == 0);
     draft.put(Token::BeginObject);
-    draft.member("rule", name(up_to(b' ', rule)));
+    draft.name("rule", up_to(b' ', rule));
     add_violation(draft, behind(b' ', rule));
     draft.put(Token::EndObject);
 }

@@ -1,19 +1,10 @@
 use Rattle.guard_json.proofs.Drafts.{Adds_two, Adds_nothing}
 use Rattle.guard_json.proofs.verdicts.add_breach.Goals as goal
 
-pub member-requires : goal.member-requires
-member-requires c = c.name.ensures.fine
-
-pub member-requires-2 : goal.member-requires-2
-member-requires-2 c = c.number.ensures.fine
-
-pub member-requires-3 : goal.member-requires-3
-member-requires-3 c = c.path.ensures.fine
-
 pub returns : goal.returns
 returns c =
-    Adds_two c.member.ensures (cc)
+    Adds_two c.name.ensures (cc)
     (Adds_two c.only_where.ensures (cc)
-    (Adds_two c.member-2.ensures (cc)
-    (Adds_two c.member-3.ensures (cc)
+    (Adds_two c.number.ensures (cc)
+    (Adds_two c.path.ensures (cc)
     (Adds_nothing _))))

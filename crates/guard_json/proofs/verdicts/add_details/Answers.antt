@@ -3,9 +3,6 @@ use Rattle.guard_json.specs.Members.{member, name_in, breach_in, violation_in, s
 use Rattle.guard_json.proofs.Drafts.{Adds_is, Adds_nothing}
 use Rattle.guard_json.proofs.verdicts.add_details.Goals as goal
 
-pub member-requires : goal.member-requires
-member-requires c = c.name.ensures.fine
-
 pub returns-in-Alone : goal.returns-in-Alone
 returns-in-Alone c = Adds_is (Adds_nothing _) (sym (ap (λ k. details_by k c.args.text.now) c.in-Alone.is))
 
@@ -20,8 +17,8 @@ returns-in-OutsideType c =
 
 pub returns-in-DeniedBy : goal.returns-in-DeniedBy
 returns-in-DeniedBy c =
-    Adds_is c.member.ensures
-    (ap (member (codes "rule")) (c.name.ensures.value ∙ ap name_in c.behind-in-DeniedBy.ensures)
+    Adds_is c.name.ensures
+    (ap (λ w. member (codes "rule") (name_in w)) c.behind-in-DeniedBy.ensures
     ∙ sym (ap (λ k. details_by k c.args.text.now) c.in-DeniedBy.is))
 
 pub returns-in-NotAllowed : goal.returns-in-NotAllowed

@@ -1,0 +1,10 @@
+use Rattle.std.proofs.Common.{refl, ap}
+use Rattle.json.specs.Token.{string}
+use Rattle.guard_json.specs.Members.{member}
+use Rattle.guard_json.proofs.Drafts.{Adds_is, token_where}
+use Rattle.guard_json.proofs.draft.Draft.text.Goals as goal
+
+pub returns : goal.returns
+returns c =
+    Adds_is c.string.ensures
+    (ap (member c.args.name.now) (token_where _ _ c.utf8_where.result c.args.octets.now string refl c.utf8_where.ensures))

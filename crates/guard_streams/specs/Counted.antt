@@ -1,5 +1,5 @@
 -- How often each reason is reported.
-use Rattle.std.specs.Prelude.{◌≡◌, ℕ, List, [], ◌∷◌, ◌++◌}
+use Rattle.std.specs.Prelude.{◌≡◌, ℕ, List, [], ◌∷◌, ◌++◌, codes}
 use Rattle.guard_policy.specs.Policies.{AbstractPolicy}
 use Rattle.guard_frames.specs.declared.why.Reason.{Reason}
 use Rattle.guard_frames.specs.declared.why.Reason.TheVariants.{UnknownMessage, Undecodable, OutsideType, DeniedBy, NotAllowed, NoRule}
@@ -22,6 +22,18 @@ no_counts = record {
   no_rule = 0;
   no_memory = 0;
 }
+
+-- a line for each reason, by how often it is reported
+abbrev pub by_reason : (List ℕ → ℕ → List ℕ) → Counts → List ℕ
+by_reason line c =
+    line (codes "bad-header") c.bad_header
+    ++ line (codes "unknown-message") c.unknown_message
+    ++ line (codes "undecodable") c.undecodable
+    ++ line (codes "outside-type") c.outside_type
+    ++ line (codes "denied-by") c.denied_by
+    ++ line (codes "not-allowed") c.not_allowed
+    ++ line (codes "no-rule") c.no_rule
+    ++ line (codes "no-memory") c.no_memory
 
 -- one more line that gives this reason
 abbrev pub count_reason : Counts → Reason → Counts

@@ -20,7 +20,7 @@ use Rattle.guard_streams.specs.declared.faults.Faults.{Faults}
 use Rattle.guard_streams.specs.declared.rule_counts.InForce.{InForce}
 use Rattle.guard_streams.specs.declared.rule_counts.RuleCount.{RuleCount}
 use Rattle.guard_streams.specs.declared.tally.Tally.{Tally}
-use Rattle.guard_streams.specs.Counted.{no_counts, count_one}
+use Rattle.guard_streams.specs.Counted.{by_reason, no_counts, count_one}
 use Rattle.guard_streams.specs.Faults.{no_faults}
 
 -- ---- what is counted
@@ -130,14 +130,7 @@ reason_line = labelled (codes "derguard_stopped_total") (codes "reason")
 abbrev pub stopped_lines : Counts → List ℕ
 stopped_lines c =
     heading (codes "derguard_stopped_total") (codes "counter") (codes "Frames that were stopped, by reason.")
-    ++ reason_line (codes "bad-header") c.bad_header
-    ++ reason_line (codes "unknown-message") c.unknown_message
-    ++ reason_line (codes "undecodable") c.undecodable
-    ++ reason_line (codes "outside-type") c.outside_type
-    ++ reason_line (codes "denied-by") c.denied_by
-    ++ reason_line (codes "not-allowed") c.not_allowed
-    ++ reason_line (codes "no-rule") c.no_rule
-    ++ reason_line (codes "no-memory") c.no_memory
+    ++ by_reason reason_line c
 
 -- of a rule that denies, or, with `false`, of one that allows
 abbrev pub rule_line : Bool → List ℕ → AbstractCount → List ℕ

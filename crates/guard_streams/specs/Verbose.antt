@@ -11,7 +11,7 @@ use Rattle.guard_files.specs.Explaining.{TellsWith}
 use Rattle.guard_files.specs.Writing.{TellsOctets, TellsNoMemory}
 use Rattle.guard_streams.specs.declared.counts.Counts.{Counts}
 use Rattle.guard_streams.specs.declared.seen.Seen.{Seen}
-use Rattle.guard_streams.specs.Counted.{no_counts}
+use Rattle.guard_streams.specs.Counted.{by_reason, no_counts}
 use Rattle.guard_streams.specs.Saying.{IsSaidOfRun}
 
 -- `derguard: frames F, passed P, denied D`
@@ -26,15 +26,7 @@ count_line reason n =
     if nat_eq n 0 then [] else codes "derguard: " ++ reason ++ codes " " ++ decimal n ++ codes "\n"
 
 abbrev pub count_lines : Counts → List ℕ
-count_lines c =
-    count_line (codes "bad-header") c.bad_header
-    ++ count_line (codes "unknown-message") c.unknown_message
-    ++ count_line (codes "undecodable") c.undecodable
-    ++ count_line (codes "outside-type") c.outside_type
-    ++ count_line (codes "denied-by") c.denied_by
-    ++ count_line (codes "not-allowed") c.not_allowed
-    ++ count_line (codes "no-rule") c.no_rule
-    ++ count_line (codes "no-memory") c.no_memory
+count_lines = by_reason count_line
 
 -- the last notes: the totals, and how often each reason was reported
 abbrev pub last_lines : Seen → List ℕ

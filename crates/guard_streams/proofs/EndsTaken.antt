@@ -127,7 +127,7 @@ end_cut_at path told old now o e e₁ e₂ f k link open_now so_far h =
       in_turn = so_far.in_turn;
       part = subst (λ (ws : List Written). WritesPart path (mux_of told now) (end link) ws (device o o f)
           (device e e₂ k) BreaksErr) (append-nil so_far.closed)
-          (after path (mux_of told now) (end link) so_far.closed [] o o o e e₁ e₂ f k BreaksErr
+          (after path (mux_of told now) (end link) so_far.closed [] o o o e e₁ e₂ f k k BreaksErr
           (λ w s t b. b) sent so_far.reported h);
     }
 

@@ -1,6 +1,6 @@
 -- The records of a stream, taken one after another, and how that ends.
 use Rattle.std.proofs.Common.{◌≡◌, ◌∙◌, ◌^◌, inl, inr, ℕ, Bool, List, [], ◌∷◌, ◌++◌, ap, refl, sym, subst, map, arith}
-use Rattle.std.specs.Prelude.{Option, Some, None}
+use Rattle.std.specs.Prelude.{Option, Some, None, Result, Ok, Err, OnOk, IfErr}
 use Rattle.std.specs.List.{concat, All}
 use Rattle.std.specs.Io.KnownBytes.{Appends, Consumes, IsAtEnd}
 use Rattle.std.proofs.lemmas.List.{append-nil}
@@ -10,19 +10,23 @@ use Rattle.guard_frames.proofs.Elements.{All_none, All_more}
 use Rattle.guard_frames.proofs.Reading.{Consumes_none, Consumes_trans}
 use Rattle.guard_files.specs.declared.stop.Stop.{Stop}
 use Rattle.guard_files.specs.declared.stop.Stop.TheVariants.{BadRecord, ReadFailed, WriteFailed, ErrorFailed}
-use Rattle.guard_files.specs.Devices.{Input, Device, input_of, device}
+use Rattle.guard_files.specs.Devices.{Device, input_of, device}
 use Rattle.guard_files.specs.Files.{Told}
 use Rattle.guard_files.specs.Records.{Record, record_octets, IsAllowed}
 use Rattle.guard_files.specs.Headers.{IsNone}
 use Rattle.guard_files.proofs.RecordReading.{joined_last}
 use Rattle.guard_streams.specs.declared.links.Links.{Links}
 use Rattle.guard_streams.specs.declared.seen.Seen.{Seen}
-use Rattle.guard_streams.specs.Muxing.{Takes, Finishes, StopsAt, Stops, BreaksAtRecord, WritesPart, BreaksOut, BreaksErr, TellsStopWith, seen_before}
-use Rattle.guard_streams.specs.Counters.{AbstractCounted}
-use Rattle.guard_streams.specs.LinksCounted.{maybe_counted}
+use Rattle.guard_streams.specs.Muxing.{Takes, StopsAt, BreaksAtRecord, WritesPart, BreaksOut, BreaksErr, TellsStopWith}
 use Rattle.guard_streams.specs.Turns.{AbstractMux, Written, InTurn, all_out, all_err, status_of}
-use Rattle.guard_streams.specs.inside.Doing.{IsReady, mux_of, IsTaken, IsCut, AreEnded, IsEndCut, IsSeenBefore, IsCountedBefore}
+use Rattle.guard_streams.specs.inside.Doing.{IsReady, mux_of, IsTaken, IsCut, AreEnded, IsEndCut, EndsWith}
 use Rattle.guard_streams.proofs.Turning.{one_more, all_out-append, all_err-append, sent_more, told_more, status_of-append, status_of-more, after}
+
+-- where standard error failed nothing is said of what is seen
+nothing_said : (seen : Option Seen) (err : Device) (status : ℕ) → TellsStopWith seen ErrorFailed err status
+    → TellsStopWith None ErrorFailed err status
+nothing_said None err status h = h
+nothing_said (Some s) err status h = h
 
 -- These records were read and taken, and all that is written of them is out.
 pub record TakenSoFar (path : List ℕ) (first : AbstractMux) (a b : Option (List ℕ)) (o o₁ e e₁ : Option (List ℕ))
@@ -87,178 +91,110 @@ module _ (path : List ℕ) (first : AbstractMux) (a b : Option (List ℕ)) (o o�
     in_turn = so_far.in_turn;
   }
 
-  -- the ends of the links are taken after all records
-  abbrev pub finishes : (c e₂ : Option (List ℕ)) (m n : ℕ) (failed f k : Bool) (links₁ : Links) → Consumes b c []
-      → IsAtEnd c → AreEnded path told links links₁ (e₁, e₂)
-      → Finishes path first (input_of a c m n failed) (device o o₁ f) (device e e₂ k) links₁.status
-  finishes c e₂ m n failed f k links₁ read at_end h =
-      let greatest = status_of-append so_far.written h.ws in
-      let was = so_far.status in
-      let is = h.status in
-      record {
-        all = takes c m n failed [] read;
-        at_end = at_end;
-        closed = h.ws;
-        after = mux_of told links₁;
-        ends = h.ends;
-        sent = Appends_is o o₁ (all_out so_far.written) (all_out (so_far.written ++ h.ws))
-            (sym (all_out-append so_far.written h.ws ∙ ap (λ (s : List ℕ). all_out so_far.written ++ s) h.silent
-            ∙ append-nil (all_out so_far.written))) so_far.sent;
-        told = Appends_is e e₂ (all_err so_far.written ++ all_err h.ws) (all_err (so_far.written ++ h.ws))
-            (sym (all_err-append so_far.written h.ws))
-            (Appends_trans e e₁ e₂ (all_err so_far.written) (all_err h.ws) so_far.said h.reported);
-        greatest = omega (arith, is, was, greatest);
-      }
-
-  abbrev pub stops_at : (c : Option (List ℕ)) (m n : ℕ) (failed f k : Bool) (rest : List ℕ) (IsRest : List ℕ → Type 0)
+  abbrev stops_at : (c : Option (List ℕ)) (m n : ℕ) (failed f k : Bool) (rest : List ℕ) (IsRest : List ℕ → Type 0)
       → Consumes b c rest → IsRest rest
       → StopsAt path first (input_of a c m n failed) (device o o₁ f) (device e e₁ k) IsRest
   stops_at c m n failed f k rest IsRest read is =
       record { rest = rest; all = takes c m n failed rest read; is = is; sent = so_far.sent; told = so_far.said }
 
-  abbrev breaks_at : (c o₂ e₂ : Option (List ℕ)) (m n : ℕ) (failed f k : Bool) (r : Record)
+  abbrev breaks_at : (c o₂ e₂ : Option (List ℕ)) (m n : ℕ) (failed f k k₁ : Bool) (r : Record)
       (Breaks : Device → Device → Written → List ℕ → List ℕ → Type 0)
       → ((w : Written) (s t : List ℕ) → Breaks (device o₁ o₂ f) (device e₁ e₂ k) w s t
-      → Breaks (device o o₂ f) (device e e₂ k) w s t)
+      → Breaks (device o o₂ f) (device e e₂ k₁) w s t)
       → IsAllowed r → Consumes b c (record_octets r)
       → WritesPart path (mux_of told links) r [] (device o₁ o₂ f) (device e₁ e₂ k) Breaks
-      → BreaksAtRecord path first (input_of a c m n failed) (device o o₂ f) (device e e₂ k) Breaks
-  breaks_at c o₂ e₂ m n failed f k r Breaks moved ok read h = record {
+      → BreaksAtRecord path first (input_of a c m n failed) (device o o₂ f) (device e e₂ k₁) Breaks
+  breaks_at c o₂ e₂ m n failed f k k₁ r Breaks moved ok read h = record {
     next = r;
     allowed = ok;
     all = takes c m n failed (record_octets r) read;
     part = subst (λ (ws : List Written). WritesPart path (mux_of told links) r ws (device o o₂ f)
-        (device e e₂ k) Breaks) (append-nil so_far.written)
-        (after path (mux_of told links) r so_far.written [] o o₁ o₂ e e₁ e₂ f k Breaks moved so_far.sent so_far.said h);
+        (device e e₂ k₁) Breaks) (append-nil so_far.written)
+        (after path (mux_of told links) r so_far.written [] o o₁ o₂ e e₁ e₂ f k k₁ Breaks moved so_far.sent so_far.said h);
   }
 
-  -- why they stop, and what is seen and counted then
-  abbrev StopsSeen : Stop → Option (List ℕ) → Option (List ℕ) → Option (List ℕ) → ℕ → ℕ → Bool → Bool → Bool
-      → Option Seen → Option AbstractCounted → Type 0
-  StopsSeen s c o₂ e₂ m n failed f k seen counted =
-      (h : Stops s path first (input_of a c m n failed) (device o o₂ f) (device e e₂ k))
-      × IsSeenBefore s path first (input_of a c m n failed) (device o o₂ f) (device e e₂ k) h seen
-      × IsCountedBefore s path first (input_of a c m n failed) (device o o₂ f) (device e e₂ k) h counted
-
   -- an output fails in what is written of a record
-  pub cut_at : (s : Stop) (c o₂ e₂ : Option (List ℕ)) (m n : ℕ) (failed f k : Bool) (r : Record) → IsAllowed r
-      → Consumes b c (record_octets r)
+  pub cut_at : (s : Stop) (c o₂ e₂ : Option (List ℕ)) (m n : ℕ) (failed f k : Bool) (r : Record) (links₁ : Links)
+      → IsAllowed r → Consumes b c (record_octets r)
       → IsCut s path (mux_of told links) r (device o₁ o₂ f) (device e₁ e₂ k)
-      → (seen : Option Seen) (counted : Option AbstractCounted) → (s ≡ WriteFailed → seen ≡ links.seen)
-      → StopsSeen s c o₂ e₂ m n failed f k seen counted
-  cut_at BadRecord c o₂ e₂ m n failed f k r ok read h seen counted kept = absurd h
-  cut_at ReadFailed c o₂ e₂ m n failed f k r ok read h seen counted kept = absurd h
-  cut_at WriteFailed c o₂ e₂ m n failed f k r ok read h seen counted kept =
-      (breaks_at c o₂ e₂ m n failed f k r BreaksOut (λ w s t b. b) ok read h, sym (kept refl), tt)
-  cut_at ErrorFailed c o₂ e₂ m n failed f k r ok read h seen counted kept =
-      (inl (breaks_at c o₂ e₂ m n failed f k r BreaksErr (λ w s t b. b) ok read h), tt, tt)
+      → (s ≡ WriteFailed → links₁.seen ≡ links.seen)
+      → EndsWith (Err s) path first (input_of a c m n failed) (device o o₂ f) (device e e₂ k) links₁
+  cut_at BadRecord c o₂ e₂ m n failed f k r links₁ ok read h kept place last display e₃ k₁ status same shows said = absurd h
+  cut_at ReadFailed c o₂ e₂ m n failed f k r links₁ ok read h kept place last display e₃ k₁ status same shows said = absurd h
+  cut_at WriteFailed c o₂ e₂ m n failed f k r links₁ ok read h kept place last display e₃ k₁ status same shows said = (
+    breaks_at c o₂ e₂ m n failed f k k₁ r BreaksOut (λ w s t b. b) ok read h,
+    shows,
+    subst (λ (seen : Option Seen). TellsStopWith seen WriteFailed (device e₂ e₃ k₁) status) (kept refl) said,
+  )
+  cut_at ErrorFailed c o₂ e₂ m n failed f k r links₁ ok read h kept place last display e₃ k₁ status same shows said = (
+    inl (breaks_at c o₂ e₂ m n failed f k k₁ r BreaksErr (λ w s t b. (same refl ∙ b.0, b.1, b.2)) ok read h),
+    shows,
+    nothing_said links₁.seen _ status said,
+  )
 
   -- or of the end of a link
-  pub cut_at_end : (s : Stop) (c e₂ : Option (List ℕ)) (m n : ℕ) (failed f k : Bool) → s ≡ ErrorFailed
-      → Consumes b c [] → IsAtEnd c
+  cut_at_end : (c e₂ : Option (List ℕ)) (m n : ℕ) (failed f k : Bool) (links₁ : Links) → Consumes b c [] → IsAtEnd c
       → IsEndCut path told links (device o₁ o₁ f) (device e₁ e₂ k)
-      → (seen : Option Seen) (counted : Option AbstractCounted) → StopsSeen s c o₁ e₂ m n failed f k seen counted
-  cut_at_end s c e₂ m n failed f k is read at_end h seen counted =
-      let cut : Stops ErrorFailed path first (input_of a c m n failed) (device o o₁ f) (device e e₂ k) = inr (record {
-        all = takes c m n failed [] read;
-        at_end = at_end;
-        before = h.before;
-        next = h.next;
-        more = h.more;
-        ends = h.ends;
-        closed = h.closed;
-        last = h.last;
-        in_turn = h.in_turn;
-        part = after path h.last h.next so_far.written h.closed o o₁ o₁ e e₁ e₂ f k BreaksErr
-            (λ w s t b. b) so_far.sent so_far.said h.part;
-      }) in
-      subst (λ (x : Stop). StopsSeen x c o₁ e₂ m n failed f k seen counted) (sym is) (cut, tt, tt)
+      → EndsWith (Err ErrorFailed) path first (input_of a c m n failed) (device o o₁ f) (device e e₂ k) links₁
+  cut_at_end c e₂ m n failed f k links₁ read at_end h place last display e₃ k₁ status same shows said = (
+    inr (record {
+      all = takes c m n failed [] read;
+      at_end = at_end;
+      before = h.before;
+      next = h.next;
+      more = h.more;
+      ends = h.ends;
+      closed = h.closed;
+      last = h.last;
+      in_turn = h.in_turn;
+      part = after path h.last h.next so_far.written h.closed o o₁ o₁ e e₁ e₂ f k k₁ BreaksErr
+          (λ w s t b. (same refl ∙ b.0, b.1, b.2)) so_far.sent so_far.said h.part;
+    }),
+    shows,
+    nothing_said links₁.seen _ status said,
+  )
+
+  -- the ends of the links are taken after all records, as far as that goes
+  pub ends_taken : (result : Result (Unit {0}) Stop) (c e₂ : Option (List ℕ)) (m n : ℕ) (failed f k : Bool) (links₁ : Links)
+      → Consumes b c [] → IsAtEnd c → OnOk result (AreEnded path told links links₁ (e₁, e₂))
+      → IfErr result (λ s. (s ≡ ErrorFailed) × IsEndCut path told links (device o₁ o₁ f) (device e₁ e₂ k))
+      → EndsWith result path first (input_of a c m n failed) (device o o₁ f) (device e e₂ k) links₁
+  ends_taken (Ok done) c e₂ m n failed f k links₁ read at_end h cut place last display e₃ k₁ status same shows said =
+      let greatest = status_of-append so_far.written h.ws in
+      let was = so_far.status in
+      let is = h.status in (
+        links₁.status,
+        record {
+          all = takes c m n failed [] read;
+          at_end = at_end;
+          closed = h.ws;
+          after = mux_of told links₁;
+          ends = h.ends;
+          sent = Appends_is o o₁ (all_out so_far.written) (all_out (so_far.written ++ h.ws))
+              (sym (all_out-append so_far.written h.ws ∙ ap (λ (s : List ℕ). all_out so_far.written ++ s) h.silent
+              ∙ append-nil (all_out so_far.written))) so_far.sent;
+          told = Appends_is e e₂ (all_err so_far.written ++ all_err h.ws) (all_err (so_far.written ++ h.ws))
+              (sym (all_err-append so_far.written h.ws))
+              (Appends_trans e e₁ e₂ (all_err so_far.written) (all_err h.ws) so_far.said h.reported);
+          greatest = omega (arith, is, was, greatest);
+        },
+        shows,
+        said,
+      )
+  ends_taken (Err s) c e₂ m n failed f k links₁ read at_end h cut place last display e₃ k₁ status same shows said =
+      subst (λ (x : Stop). EndsWith (Err x) path first (input_of a c m n failed) (device o o₁ f) (device e e₂ k) links₁)
+      (sym cut.0) (cut_at_end c e₂ m n failed f k links₁ read at_end cut.1) place last display e₃ k₁ status same shows said
 
   -- no more can be read
   pub none_read : (s : Stop) (c : Option (List ℕ)) (m n reads : ℕ) (failed f k : Bool) (rest : List ℕ)
-      → Consumes b c rest → IsNone s rest (IsAtEnd c) failed reads
-      → (reads ≡ 0 → WentUpBy m (2 ^ 40) n) → StopsSeen s c o₁ e₁ m n failed f k links.seen
-      (maybe_counted links.followed.counted)
-  none_read BadRecord c m n reads failed f k rest read why asked =
-      (stops_at c m n failed f k rest _ read why, refl, refl)
-  none_read ReadFailed c m n reads failed f k rest read why asked =
-      (stops_at c m n failed f k rest _ read (why.0, elim why.1 [ inl x ↦ inl x | inr x ↦ inr (asked x) ]), refl, refl)
-  none_read WriteFailed c m n reads failed f k rest read why asked = absurd why
-  none_read ErrorFailed c m n reads failed f k rest read why asked = absurd why
-
--- the reason is reported after what standard error took, which changes nothing of which output failed
-abbrev pub stops_told : (s : Stop) (path : List ℕ) (first : AbstractMux) (input : Input) (out : Device)
-    (e e₁ : Option (List ℕ)) (was is : Bool) → (s ≡ ErrorFailed → is ≡ was)
-    → Stops s path first input out (device e e₁ was) → Stops s path first input out (device e e₁ is)
-stops_told BadRecord path first input out e e₁ was is same h =
-    record { rest = h.rest; all = h.all; is = h.is; sent = h.sent; told = h.told }
-stops_told ReadFailed path first input out e e₁ was is same h =
-    record { rest = h.rest; all = h.all; is = h.is; sent = h.sent; told = h.told }
-stops_told WriteFailed path first input out e e₁ was is same h = record {
-  next = h.next;
-  allowed = h.allowed;
-  all = h.all;
-  part = record {
-    w = h.part.w;
-    new = h.part.new;
-    happens = h.part.happens;
-    out_part = h.part.out_part;
-    err_part = h.part.err_part;
-    breaks = h.part.breaks;
-    sent = h.part.sent;
-    told = h.part.told;
-  };
-}
-stops_told ErrorFailed path first input out e e₁ was is same h =
-    subst (λ (b : Bool). Stops ErrorFailed path first input out (device e e₁ b)) (sym (same refl)) h
-
--- and so of records that are all taken
-abbrev pub finishes_told : (path : List ℕ) (first : AbstractMux) (input : Input) (out : Device)
-    (e e₁ : Option (List ℕ)) (was is : Bool) (status : ℕ) → Finishes path first input out (device e e₁ was) status
-    → Finishes path first input out (device e e₁ is) status
-finishes_told path first input out e e₁ was is status h = record {
-  all = h.all;
-  at_end = h.at_end;
-  closed = h.closed;
-  after = h.after;
-  ends = h.ends;
-  sent = h.sent;
-  told = h.told;
-  greatest = h.greatest;
-}
-
--- nor of what is seen
-pub seen_told : (s : Stop) (path : List ℕ) (first : AbstractMux) (input : Input) (out : Device)
-    (e e₁ : Option (List ℕ)) (was is : Bool) (same : s ≡ ErrorFailed → is ≡ was)
-    (h : Stops s path first input out (device e e₁ was)) (seen : Option Seen)
-    → IsSeenBefore s path first input out (device e e₁ was) h seen
-    → IsSeenBefore s path first input out (device e e₁ is) (stops_told s path first input out e e₁ was is same h) seen
-seen_told BadRecord path first input out e e₁ was is same h seen x = x
-seen_told ReadFailed path first input out e e₁ was is same h seen x = x
-seen_told WriteFailed path first input out e e₁ was is same h seen x = x
-seen_told ErrorFailed path first input out e e₁ was is same h seen x = tt
-
--- nor of what is counted
-pub counted_told : (s : Stop) (path : List ℕ) (first : AbstractMux) (input : Input) (out : Device)
-    (e e₁ : Option (List ℕ)) (was is : Bool) (same : s ≡ ErrorFailed → is ≡ was)
-    (h : Stops s path first input out (device e e₁ was)) (counted : Option AbstractCounted)
-    → IsCountedBefore s path first input out (device e e₁ was) h counted
-    → IsCountedBefore s path first input out (device e e₁ is) (stops_told s path first input out e e₁ was is same h) counted
-counted_told BadRecord path first input out e e₁ was is same h counted x = x
-counted_told ReadFailed path first input out e e₁ was is same h counted x = x
-counted_told WriteFailed path first input out e e₁ was is same h counted x = tt
-counted_told ErrorFailed path first input out e e₁ was is same h counted x = tt
-
--- what is said of it
-pub tells_seen_before : (s : Stop) (path : List ℕ) (first : AbstractMux) (input : Input) (out err : Device)
-    (h : Stops s path first input out err) (seen : Option Seen) (told : Device) (status : ℕ)
-    → IsSeenBefore s path first input out err h seen → TellsStopWith seen s told status
-    → TellsStopWith (seen_before s path first input out err h) s told status
-tells_seen_before BadRecord path first input out err h seen told status same said =
-    subst (λ (x : Option Seen). TellsStopWith x BadRecord told status) (sym same) said
-tells_seen_before ReadFailed path first input out err h seen told status same said =
-    subst (λ (x : Option Seen). TellsStopWith x ReadFailed told status) (sym same) said
-tells_seen_before WriteFailed path first input out err h seen told status same said =
-    subst (λ (x : Option Seen). TellsStopWith x WriteFailed told status) (sym same) said
-tells_seen_before ErrorFailed path first input out err h None told status same said = said
-tells_seen_before ErrorFailed path first input out err h (Some s) told status same said = said
+      → Consumes b c rest → IsNone s rest (IsAtEnd c) failed reads → (reads ≡ 0 → WentUpBy m (2 ^ 40) n)
+      → EndsWith (Err s) path first (input_of a c m n failed) (device o o₁ f) (device e e₁ k) links
+  none_read BadRecord c m n reads failed f k rest read why asked place last display e₃ k₁ status same shows said =
+      (stops_at c m n failed f k₁ rest _ read why, shows, said)
+  none_read ReadFailed c m n reads failed f k rest read why asked place last display e₃ k₁ status same shows said = (
+    stops_at c m n failed f k₁ rest _ read (why.0, elim why.1 [ inl x ↦ inl x | inr x ↦ inr (asked x) ]),
+    shows,
+    said,
+  )
+  none_read WriteFailed c m n reads failed f k rest read why asked place last display e₃ k₁ status same shows said = absurd why
+  none_read ErrorFailed c m n reads failed f k rest read why asked place last display e₃ k₁ status same shows said = absurd why

@@ -88,14 +88,14 @@ told_then a b c xs ys part p q =
 
 -- an output fails after what was written before
 pub after : (path : List ℕ) (old : AbstractMux) (r : Record) (xs ys : List Written)
-    (o o₁ o₂ e e₁ e₂ : Option (List ℕ)) (f k : Bool)
+    (o o₁ o₂ e e₁ e₂ : Option (List ℕ)) (f k k₁ : Bool)
     (Breaks : Device → Device → Written → List ℕ → List ℕ → Type 0)
     → ((w : Written) (s t : List ℕ) → Breaks (device o₁ o₂ f) (device e₁ e₂ k) w s t
-    → Breaks (device o o₂ f) (device e e₂ k) w s t)
+    → Breaks (device o o₂ f) (device e e₂ k₁) w s t)
     → Appends o o₁ (all_out xs) → Appends e e₁ (all_err xs)
     → WritesPart path old r ys (device o₁ o₂ f) (device e₁ e₂ k) Breaks
-    → WritesPart path old r (xs ++ ys) (device o o₂ f) (device e e₂ k) Breaks
-after path old r xs ys o o₁ o₂ e e₁ e₂ f k Breaks moved p q h = record {
+    → WritesPart path old r (xs ++ ys) (device o o₂ f) (device e e₂ k₁) Breaks
+after path old r xs ys o o₁ o₂ e e₁ e₂ f k k₁ Breaks moved p q h = record {
   w = h.w;
   new = h.new;
   happens = h.happens;

@@ -5,9 +5,8 @@ ghost use Rattle.guard_files.specs.Headers.{IsGood, record_of};
 ghost use Rattle.guard_files.specs.declared.stop.Stop.TheVariants.{WriteFailed};
 ghost use Rattle.guard_streams.specs.Counting.{display_of};
 ghost use Rattle.guard_streams.specs.CountingLinks.{ShowsBetween};
-ghost use Rattle.guard_streams.specs.LinksCounted.{maybe_counted};
-ghost use Rattle.guard_streams.specs.Muxing.{GuardsLinks, Finishes, Stops};
-ghost use Rattle.guard_streams.specs.inside.Doing.{IsReady, mux_of, IsTaken, IsCut, IsSeenBefore, IsCountedBefore};
+ghost use Rattle.guard_streams.specs.Muxing.{GuardsLinks};
+ghost use Rattle.guard_streams.specs.inside.Doing.{IsReady, mux_of, IsTaken, IsCut, EndsWith};
 
 use crate::board::Board;
 use crate::counters::Counters;
@@ -100,23 +99,10 @@ fn guard<F: Files, S: Source, O: Sink, E: Sink, T: Says, B: Board>(
     requires room { length room.old ≡ 1048576 }
     requires ready { IsReady links.old.gateway }
     requires first { links.old.status ≡ 0 }
-    ensures done { OnOk result ((f : Finishes path.now (mux_of (F.told files.old) links.old)
+    ensures ends { EndsWith result path.now (mux_of (F.told files.old) links.old)
         (source_of S.tells S.takes S.has_failed input.old input.new)
         (device_of O.taken O.has_failed out.old out.new)
-        (device_of E.taken E.has_failed err.old err.new) links.new.status)
-        × (f.after.seen ≡ links.new.seen) × (f.after.counted ≡ maybe_counted links.new.followed.counted)) }
-    ensures stops { IfErr result (λ s. (h : Stops s path.now (mux_of (F.told files.old) links.old)
-        (source_of S.tells S.takes S.has_failed input.old input.new)
-        (device_of O.taken O.has_failed out.old out.new)
-        (device_of E.taken E.has_failed err.old err.new))
-        × IsSeenBefore s path.now (mux_of (F.told files.old) links.old)
-        (source_of S.tells S.takes S.has_failed input.old input.new)
-        (device_of O.taken O.has_failed out.old out.new)
-        (device_of E.taken E.has_failed err.old err.new) h links.new.seen
-        × IsCountedBefore s path.now (mux_of (F.told files.old) links.old)
-        (source_of S.tells S.takes S.has_failed input.old input.new)
-        (device_of O.taken O.has_failed out.old out.new)
-        (device_of E.taken E.has_failed err.old err.new) h (maybe_counted links.new.followed.counted)) }
+        (device_of E.taken E.has_failed err.old err.new) links.new }
     ensures shows { ShowsBetween path.now (mux_of (F.told files.old) links.old) (S.tells input.old) (S.tells input.new)
         (option_map (λ p. p.now) place.entry) (B.shown counters.old.board) (B.shown counters.new.board) }
 {

@@ -16,15 +16,15 @@ use Rattle.guard_frames.specs.LinkView.{AbstractLink}
 use Rattle.guard_frames.specs.Prefix.{IsProperPrefix}
 use Rattle.guard_files.specs.declared.stop.Stop.{Stop}
 use Rattle.guard_files.specs.declared.stop.Stop.TheVariants.{BadRecord, ReadFailed, WriteFailed, ErrorFailed}
-use Rattle.guard_files.specs.Devices.{Input, Device}
+use Rattle.guard_files.specs.Devices.{Input, Device, device}
 use Rattle.guard_files.specs.Files.{Told}
 use Rattle.guard_files.specs.Records.{Record}
 use Rattle.guard_streams.specs.declared.links.Links.{Links}
-use Rattle.guard_streams.specs.declared.seen.Seen.{Seen}
-use Rattle.guard_streams.specs.Counters.{AbstractCounted}
+use Rattle.guard_streams.specs.CountingLinks.{ShowsAtEnd}
 use Rattle.guard_streams.specs.LinksCounted.{maybe_counted}
-use Rattle.guard_streams.specs.Muxing.{WritesPart, BreaksOut, BreaksErr, Stops}
+use Rattle.guard_streams.specs.Muxing.{WritesPart, BreaksOut, BreaksErr, TellsGuarded, EndsGuarded}
 use Rattle.guard_streams.specs.Passing.{InRecords, marked}
+use Rattle.guard_streams.specs.Shown.{Shown, Display}
 use Rattle.guard_streams.specs.Turns.{AbstractMux, Written, Happens, InTurn, all_out, all_err, status_of, ends_left}
 
 -- ---- the sinks of a link
@@ -115,22 +115,15 @@ IsCut ReadFailed path old r out err = ⊥
 IsCut WriteFailed path old r out err = WritesPart path old r [] out err BreaksOut
 IsCut ErrorFailed path old r out err = WritesPart path old r [] out err BreaksErr
 
--- What is seen of the records before the one at which standard output failed, or before what is at fault. Where standard
--- error failed nothing is said of it.
-abbrev pub IsSeenBefore : (s : Stop) (path : List ℕ) (first : AbstractMux) (input : Input) (out err : Device)
-    → Stops s path first input out err → Option Seen → Type 0
-IsSeenBefore BadRecord path first input out err h seen = h.all.last.seen ≡ seen
-IsSeenBefore ReadFailed path first input out err h seen = h.all.last.seen ≡ seen
-IsSeenBefore WriteFailed path first input out err h seen = h.all.last.seen ≡ seen
-IsSeenBefore ErrorFailed path first input out err h seen = Unit {0}
-
--- and what is counted of them
-abbrev pub IsCountedBefore : (s : Stop) (path : List ℕ) (first : AbstractMux) (input : Input) (out err : Device)
-    → Stops s path first input out err → Option AbstractCounted → Type 0
-IsCountedBefore BadRecord path first input out err h counted = h.all.last.counted ≡ counted
-IsCountedBefore ReadFailed path first input out err h counted = h.all.last.counted ≡ counted
-IsCountedBefore WriteFailed path first input out err h counted = Unit {0}
-IsCountedBefore ErrorFailed path first input out err h counted = Unit {0}
+-- The records are guarded so far, to the end or to where they aren't: with what is shown and said then of these links it is
+-- all that comes of them. What is said after standard error failed changes nothing of that.
+abbrev pub EndsWith : Result (Unit {0}) Stop → List ℕ → AbstractMux → Input → Device → Device → Links → Type 0
+EndsWith result path first input out err links =
+    (place : Option (List ℕ)) (last : Shown) (display : Display) (after : Option (List ℕ)) (failed : Bool) (status : ℕ)
+    → (result ≡ Err ErrorFailed → failed ≡ err.failed)
+    → ShowsAtEnd result place (maybe_counted links.followed.counted) display.is_shown last display.after
+    → TellsGuarded result links.seen links.status (device err.after after failed) status
+    → EndsGuarded result path place first input out (device err.before after failed) err.after status last display
 
 -- the answer of a link that takes no more
 abbrev pub is_closed : Result (Unit {0}) LinkFault → Bool

@@ -1,5 +1,5 @@
 use Rattle.std.proofs.Common.{◌≡◌, ◌∙◌, inl, inr, refl, ap, subst}
-use Rattle.std.specs.Prelude.{Option, Err, OnOk, IfErr, option_map}
+use Rattle.std.specs.Prelude.{Option, option_map}
 use Rattle.guard_policy.specs.PolicyView.{policy_view}
 use Rattle.guard_files.specs.Devices.{input_of, device}
 use Rattle.guard_files.specs.declared.fault.Fault.TheVariants.{NoMemory}
@@ -8,10 +8,9 @@ use Rattle.guard_streams.specs.Counters.{AbstractCounted, AbstractForce}
 use Rattle.guard_streams.specs.Counting.{display_of}
 use Rattle.guard_streams.specs.CountingLinks.{ShowsBetween, ShowsCounted}
 use Rattle.guard_streams.specs.LinksCounted.{maybe_counted}
-use Rattle.guard_streams.specs.Muxing.{Finishes, Stops, counted_first, first_mux, new_mux, seen_first}
+use Rattle.guard_streams.specs.Muxing.{counted_first, first_mux, new_mux, seen_first}
 use Rattle.guard_streams.specs.Turns.{AbstractMux}
-use Rattle.guard_streams.specs.inside.Doing.{mux_of, IsSeenBefore, IsCountedBefore}
-use Rattle.guard_streams.proofs.Between.{ends_guarded}
+use Rattle.guard_streams.specs.inside.Doing.{mux_of, EndsWith}
 use Rattle.guard_streams.proofs.Opening.{opens, unopened}
 use Rattle.guard_streams.proofs.muxing.mux.Goals as goal
 
@@ -51,10 +50,7 @@ returns g c =
     let out = device (g.O.Sink.taken c.args.out.now) (g.O.Sink.taken w.new.out) (g.O.Sink.has_failed w.new.out) in
     let before = g.E.Sink.taken c.note.new.err in
     let reported = g.E.Sink.taken w.new.err in
-    let after = g.E.Sink.taken c.tell_guarded.new.err in
     let was = g.E.Sink.has_failed w.new.err in
-    let is = g.E.Sink.has_failed c.tell_guarded.new.err in
-    let display = display_of shown c.args.counters.now c.show_last.new.counters in
     let first = first_mux c.args.verbose place p digest later in
     let counted = c.counted_first.ensures ∙ ap (λ (f : AbstractForce). counted_first place f) n.1 in
     let is_first : mux_of later c.in-Ok-new.links ≡ first = c.in-Ok-new.ensures.open later
@@ -79,14 +75,8 @@ returns g c =
             is_first w.ensures.shows;
         result = w.result;
         reported = reported;
-        ends = ends_guarded w.result path place first input out before reported after was is links.status links.seen
-            (maybe_counted links.followed.counted) c.tell_guarded.result (shown w.new.counters.board) display
-            (λ e. ap g.E.Sink.has_failed (c.tell_guarded.ensures.silent e))
-            (subst (λ (m : AbstractMux). OnOk w.result ((f : Finishes path m input out (device before reported was) links.status)
-            × (f.after.seen ≡ links.seen) × (f.after.counted ≡ maybe_counted links.followed.counted))) is_first w.ensures.done)
-            (subst (λ (m : AbstractMux). IfErr w.result (λ s. (h : Stops s path m input out (device before reported was))
-            × IsSeenBefore s path m input out (device before reported was) h links.seen
-            × IsCountedBefore s path m input out (device before reported was) h (maybe_counted links.followed.counted))) is_first w.ensures.stops)
-            c.show_last.ensures c.tell_guarded.ensures.told;
+        ends = subst (λ (m : AbstractMux). EndsWith w.result path m input out (device before reported was) links) is_first w.ensures.ends
+            place (shown w.new.counters.board) (display_of shown c.args.counters.now c.show_last.new.counters) _ _ _
+            (λ e. ap g.E.Sink.has_failed (c.tell_guarded.ensures.silent e)) c.show_last.ensures c.tell_guarded.ensures.told;
       }),
     )

@@ -1,6 +1,7 @@
 pub mod Chains
 pub mod SaidLaws
 pub mod PassingLaws
+pub mod Putting
 pub mod FramesAnswered
 pub mod Told
 pub mod Followed

@@ -1,4 +1,5 @@
 -- What only private contracts and proofs cite.
+pub mod Putting
 pub mod Doing
 pub mod Noting
 pub mod Seeing

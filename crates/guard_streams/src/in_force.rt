@@ -1,10 +1,10 @@
 //! What is said of which policy is in force, by the number of its texts.
-ghost use Rattle.std.specs.Prelude.{◌≡◌, ◌++◌, ◌+◌, ◌≤◌, true, List, ℕ, length, OnOk, OnErr};
-ghost use Rattle.std.specs.Io.KnownBytes.{Appends};
+ghost use Rattle.std.specs.Prelude.{◌≡◌, ◌++◌, ◌+◌, ◌≤◌, length, OnOk};
 ghost use Rattle.hex.specs.Hex.{encode_lower};
 ghost use Rattle.guard_frames.specs.Calls.{EndsLine};
-ghost use Rattle.guard_frames.specs.Prefix.{IsProperPrefix};
+ghost use Rattle.guard_files.specs.Devices.{device_of};
 ghost use Rattle.guard_streams.specs.InForce.{digest_note, kept_note};
+ghost use Rattle.guard_streams.specs.inside.Putting.{Puts};
 
 use arrayvec::ArrayVec;
 use guard_files::add;
@@ -14,10 +14,7 @@ use guard_model::OutOfMemory;
 /// Puts the number of the texts of a policy that is in force from now on, in one call. Failed where the sink has failed,
 /// which took a proper part of the line at most.
 pub fn put_digest<E: Sink>(err: &mut E, digest: &[u8; 32]) -> Result<(), Failed>
-    ensures all { OnOk result (Appends (E.taken err.old) (E.taken err.new) (digest_note digest.now)) }
-    ensures part { OnErr result ((part : List ℕ) × IsProperPrefix part (digest_note digest.now)
-        × Appends (E.taken err.old) (E.taken err.new) part) }
-    ensures failed { OnErr result (E.has_failed err.new ≡ true) }
+    ensures { Puts (digest_note digest.now) result (device_of E.taken E.has_failed err.old err.new) }
 {
     let mut line = ArrayVec::<u8, 82>::new();
     append_digest(&mut line, digest);

@@ -1,19 +1,18 @@
 //! What goes out of a link, and what is said of it.
-ghost use Rattle.std.specs.Prelude.{◌≡◌, ◌++◌, ◌∷◌, ◌+◌, ◌<◌, ◌≤◌, ◌≢◌, ℕ, List, true, codes, decimal};
-ghost use Rattle.std.specs.Prelude.{length, slice_index, Err, OnOk, OnErr};
+ghost use Rattle.std.specs.Prelude.{◌≡◌, ◌++◌, ◌+◌, ◌<◌, ◌≤◌, ℕ, List};
+ghost use Rattle.std.specs.Prelude.{length, Err};
 ghost use Rattle.std.specs.Option.{option_map};
-ghost use Rattle.std.specs.Io.KnownBytes.{Appends};
 ghost use Rattle.std.specs.List.{All};
 ghost use Rattle.guard_frames.specs.Calls.{AsksLines};
-ghost use Rattle.guard_frames.specs.FaultTexts.{fault_text};
 ghost use Rattle.guard_frames.specs.LinkView.{link_view};
-ghost use Rattle.guard_frames.specs.Prefix.{IsProperPrefix};
+ghost use Rattle.guard_files.specs.Devices.{device_of};
 ghost use Rattle.guard_files.specs.Records.{header, record_octets};
 ghost use Rattle.guard_files.specs.Records.Record.{piece};
 ghost use Rattle.guard_streams.specs.InForce.{digest_note};
 ghost use Rattle.guard_streams.specs.Turns.{renewed_line};
 ghost use Rattle.guard_streams.specs.AtFault.{begun_line};
 ghost use Rattle.guard_streams.specs.inside.Noting.{fault_note, answer_lines};
+ghost use Rattle.guard_streams.specs.inside.Putting.{Puts};
 ghost use Rattle.guard_streams.specs.Passing.{InRecords, IsShort, lines_of, marked, marked_line, link_mark};
 
 use crate::in_force::append_digest;
@@ -31,11 +30,8 @@ type MarkedLine = ArrayVec<u8, 4112>;
 
 /// Puts the octets in records of this link, each but the last of the most octets that one may have.
 pub fn put_pieces<O: Sink>(out: &mut O, link: u16, octets: &[u8]) -> Result<(), Failed>
-    ensures all { OnOk result ((written : List ℕ) × InRecords link octets.now written
-        × Appends (O.taken out.old) (O.taken out.new) written) }
-    ensures part { OnErr result ((written : List ℕ) × (part : List ℕ) × InRecords link octets.now written
-        × IsProperPrefix part written × Appends (O.taken out.old) (O.taken out.new) part) }
-    ensures failed { OnErr result (O.has_failed out.new ≡ true) }
+    ensures { (written : List ℕ) × InRecords link octets.now written
+        × Puts written result (device_of O.taken O.has_failed out.old out.new) }
 {
     let mut rest = octets;
     while rest.len() > LONGEST_PIECE {
@@ -43,10 +39,10 @@ pub fn put_pieces<O: Sink>(out: &mut O, link: u16, octets: &[u8]) -> Result<(), 
         put_piece(out, link, first)?;
         rest = others;
     }
-    if !rest.is_empty() {
-        put_piece(out, link, rest)?;
+    if rest.is_empty() {
+        return Ok(());
     }
-    Ok(())
+    put_piece(out, link, rest)
 }
 
 /// The octets of a full record, and those after them.
@@ -63,10 +59,7 @@ fn full_part(octets: &[u8]) -> (&[u8], &[u8])
 /// Puts the octets in one record of this link.
 fn put_piece<O: Sink>(out: &mut O, link: u16, octets: &[u8]) -> Result<(), Failed>
     requires { length octets.now ≤ 1048576 }
-    ensures all { OnOk result (Appends (O.taken out.old) (O.taken out.new) (record_octets (piece link octets.now))) }
-    ensures part { OnErr result ((part : List ℕ) × IsProperPrefix part (record_octets (piece link octets.now))
-        × Appends (O.taken out.old) (O.taken out.new) part) }
-    ensures failed { OnErr result (O.has_failed out.new ≡ true) }
+    ensures { Puts (record_octets (piece link octets.now)) result (device_of O.taken O.has_failed out.old out.new) }
 {
     put_both(out, &piece_header(link, octets.len() as u32), octets)
 }
@@ -82,10 +75,7 @@ fn piece_header(link: u16, size: u32) -> [u8; 7]
 /// Puts the lines of a text, each after the number of its link: in one call, where it has 4,096 octets at most. A last
 /// line that was cut short is ended.
 pub fn put_lines<E: Sink>(err: &mut E, link: u16, text: &[u8]) -> Result<(), Failed>
-    ensures all { OnOk result (Appends (E.taken err.old) (E.taken err.new) (marked link text.now)) }
-    ensures part { OnErr result ((part : List ℕ) × IsProperPrefix part (marked link text.now)
-        × Appends (E.taken err.old) (E.taken err.new) part) }
-    ensures failed { OnErr result (E.has_failed err.new ≡ true) }
+    ensures puts { Puts (marked link text.now) result (device_of E.taken E.has_failed err.old err.new) }
     ensures lines { All IsShort (lines_of text.now) → AsksLines (E.asked err.old) (E.asked err.new) }
 {
     let mut rest = text;
@@ -104,26 +94,11 @@ pub fn put_fault<E: Sink>(
     fault: LinkFault,
     noted: Option<&Link>,
 ) -> Result<(), Failed>
-    ensures all { OnOk result (Appends (E.taken err.old) (E.taken err.new)
-        (answer_lines (option_map (λ x. link_view x.now) noted.entry) link (Err fault))) }
-    ensures part { OnErr result ((part : List ℕ)
-        × IsProperPrefix part (answer_lines (option_map (λ x. link_view x.now) noted.entry) link (Err fault))
-        × Appends (E.taken err.old) (E.taken err.new) part) }
-    ensures failed { OnErr result (E.has_failed err.new ≡ true) }
+    ensures { Puts (answer_lines (option_map (λ x. link_view x.now) noted.entry) link (Err fault)) result
+        (device_of E.taken E.has_failed err.old err.new) }
 {
-    put_fault_line(err, link, fault)?;
-    put_note(err, link, fault, noted)?;
-    Ok(())
-}
-
-/// Puts the line of a link's fault.
-fn put_fault_line<E: Sink>(err: &mut E, link: u16, fault: LinkFault) -> Result<(), Failed>
-    ensures all { OnOk result (Appends (E.taken err.old) (E.taken err.new) (marked_line link (fault_text fault))) }
-    ensures part { OnErr result ((part : List ℕ) × IsProperPrefix part (marked_line link (fault_text fault))
-        × Appends (E.taken err.old) (E.taken err.new) part) }
-    ensures failed { OnErr result (E.has_failed err.new ≡ true) }
-{
-    put_line(err, link, fault.text().as_bytes())
+    put_line(err, link, fault.text().as_bytes())?;
+    put_note(err, link, fault, noted)
 }
 
 /// Puts the note of the frame that a link's fault is at.
@@ -133,12 +108,8 @@ fn put_note<E: Sink>(
     fault: LinkFault,
     noted: Option<&Link>,
 ) -> Result<(), Failed>
-    ensures all { OnOk result (Appends (E.taken err.old) (E.taken err.new)
-        (fault_note (option_map (λ x. link_view x.now) noted.entry) link (Err fault))) }
-    ensures part { OnErr result ((part : List ℕ)
-        × IsProperPrefix part (fault_note (option_map (λ x. link_view x.now) noted.entry) link (Err fault))
-        × Appends (E.taken err.old) (E.taken err.new) part) }
-    ensures failed { OnErr result (E.has_failed err.new ≡ true) }
+    ensures { Puts (fault_note (option_map (λ x. link_view x.now) noted.entry) link (Err fault)) result
+        (device_of E.taken E.has_failed err.old err.new) }
 {
     let Some(at) = noted else {
         return Ok(());
@@ -160,10 +131,7 @@ fn put_frame<E: Sink>(
     count: usize,
 ) -> Result<(), Failed>
     requires { length word.now ≤ 6 }
-    ensures all { OnOk result (Appends (E.taken err.old) (E.taken err.new) (begun_line link number word.now count)) }
-    ensures part { OnErr result ((part : List ℕ) × IsProperPrefix part (begun_line link number word.now count)
-        × Appends (E.taken err.old) (E.taken err.new) part) }
-    ensures failed { OnErr result (E.has_failed err.new ≡ true) }
+    ensures puts { Puts (begun_line link number word.now count) result (device_of E.taken E.has_failed err.old err.new) }
     ensures lines { AsksLines (E.asked err.old) (E.asked err.new) }
 {
     let mut first = Buffer::new();
@@ -189,12 +157,8 @@ pub fn put_renewed<E: Sink>(
     rules: usize,
     digest: &[u8; 32],
 ) -> Result<(), Failed>
-    ensures all { OnOk result (Appends (E.taken err.old) (E.taken err.new)
-        (renewed_line messages rules ++ digest_note digest.now)) }
-    ensures part { OnErr result ((part : List ℕ)
-        × IsProperPrefix part (renewed_line messages rules ++ digest_note digest.now)
-        × Appends (E.taken err.old) (E.taken err.new) part) }
-    ensures failed { OnErr result (E.has_failed err.new ≡ true) }
+    ensures puts { Puts (renewed_line messages rules ++ digest_note digest.now) result
+        (device_of E.taken E.has_failed err.old err.new) }
     ensures lines { AsksLines (E.asked err.old) (E.asked err.new) }
 {
     let mut first = Buffer::new();
@@ -211,66 +175,28 @@ pub fn put_renewed<E: Sink>(
 
 /// Puts a line, after the number of its link: in one call, where it has 4,096 octets at most.
 fn put_line<E: Sink>(err: &mut E, link: u16, line: &[u8]) -> Result<(), Failed>
-    ensures all { OnOk result (Appends (E.taken err.old) (E.taken err.new) (marked_line link line.now)) }
-    ensures part { OnErr result ((part : List ℕ) × IsProperPrefix part (marked_line link line.now)
-        × Appends (E.taken err.old) (E.taken err.new) part) }
-    ensures failed { OnErr result (E.has_failed err.new ≡ true) }
+    ensures puts { Puts (marked_line link line.now) result (device_of E.taken E.has_failed err.old err.new) }
     ensures lines { IsShort line.now → AsksLines (E.asked err.old) (E.asked err.new) }
 {
+    let mut whole = marked(link);
     if line.len() > SHORT {
-        return put_long_line(err, link, line);
+        put_all(err, whole.as_slice())?;
+        return put_both(err, line, b"\n");
     }
-    put_short_line(err, link, line)
-}
-
-/// Puts a line of at most 4,096 octets, after the number of its link, in one call.
-fn put_short_line<E: Sink>(err: &mut E, link: u16, line: &[u8]) -> Result<(), Failed>
-    requires { length line.now ≤ 4096 }
-    ensures all { OnOk result (Appends (E.taken err.old) (E.taken err.new) (marked_line link line.now)) }
-    ensures part { OnErr result ((part : List ℕ) × IsProperPrefix part (marked_line link line.now)
-        × Appends (E.taken err.old) (E.taken err.new) part) }
-    ensures failed { OnErr result (E.has_failed err.new ≡ true) }
-    ensures lines { AsksLines (E.asked err.old) (E.asked err.new) }
-{
-    let mut buffer = Buffer::new();
-    let mut whole = MarkedLine::new();
-    append(&mut whole, b"link ");
-    append(&mut whole, buffer.format(link).as_bytes());
-    append(&mut whole, b" ");
     append(&mut whole, line);
     append(&mut whole, b"\n");
     put_all(err, whole.as_slice())
 }
 
-/// Puts a line, after the number of its link, in parts.
-fn put_long_line<E: Sink>(err: &mut E, link: u16, line: &[u8]) -> Result<(), Failed>
-    ensures all { OnOk result (Appends (E.taken err.old) (E.taken err.new) (marked_line link line.now)) }
-    ensures part { OnErr result ((part : List ℕ) × IsProperPrefix part (marked_line link line.now)
-        × Appends (E.taken err.old) (E.taken err.new) part) }
-    ensures failed { OnErr result (E.has_failed err.new ≡ true) }
-{
-    put_mark(err, link)?;
-    put_both(err, line, b"\n")?;
-    Ok(())
-}
-
-fn put_mark<E: Sink>(err: &mut E, link: u16) -> Result<(), Failed>
-    ensures all { OnOk result (Appends (E.taken err.old) (E.taken err.new) (link_mark link)) }
-    ensures part { OnErr result ((part : List ℕ) × IsProperPrefix part (link_mark link)
-        × Appends (E.taken err.old) (E.taken err.new) part) }
-    ensures failed { OnErr result (E.has_failed err.new ≡ true) }
-{
-    put_all(err, b"link ")?;
-    put_number(err, link)?;
-    Ok(())
-}
-
-fn put_number<E: Sink>(err: &mut E, link: u16) -> Result<(), Failed>
-    ensures all { OnOk result (Appends (E.taken err.old) (E.taken err.new) (decimal link ++ codes " ")) }
-    ensures part { OnErr result ((part : List ℕ) × IsProperPrefix part (decimal link ++ codes " ")
-        × Appends (E.taken err.old) (E.taken err.new) part) }
-    ensures failed { OnErr result (E.has_failed err.new ≡ true) }
+/// The number of a link, as its lines begin with it.
+fn marked(link: u16) -> MarkedLine
+    ensures mark { result.items ≡ link_mark link }
+    ensures few { length result.items ≤ 15 }
 {
     let mut buffer = Buffer::new();
-    put_both(err, buffer.format(link).as_bytes(), b" ")
+    let mut mark = MarkedLine::new();
+    append(&mut mark, b"link ");
+    append(&mut mark, buffer.format(link).as_bytes());
+    append(&mut mark, b" ");
+    mark
 }

@@ -118,12 +118,12 @@ fn put_ends<O: Sink, E: Sink>(
     ensures cut { IfErr result (λ s. AreCut s link ends.now (device_of O.taken O.has_failed out.old out.new)
         (device_of E.taken E.has_failed err.old err.new)) }
 {
-    if put_pieces(out, link, ends.out.octets()).is_err() {
+    let Ok(()) = put_pieces(out, link, ends.out.octets()) else {
         return Err(Stop::WriteFailed);
-    }
-    if put_lines(err, link, ends.reports.octets()).is_err() {
+    };
+    let Ok(()) = put_lines(err, link, ends.reports.octets()) else {
         return Err(Stop::ErrorFailed);
-    }
+    };
     Ok(())
 }
 

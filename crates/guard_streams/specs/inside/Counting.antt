@@ -1,12 +1,10 @@
 -- What the code does at the beginning and the end of a run that is counted.
 use Rattle.std.specs.Prelude.{◌≡◌, ℕ, Bool, true, false, List, Result, Ok, Err}
-use Rattle.std.specs.Io.KnownBytes.{Appends}
 use Rattle.guard_policy.specs.Policies.{AbstractPolicy}
 use Rattle.guard_frames.specs.declared.devices.Failed.{Failed}
 use Rattle.guard_frames.specs.declared.running.RunFault.{RunFault}
 use Rattle.guard_frames.specs.declared.running.RunFault.TheVariants.{FrameTooLong, WriteFailed, TornFrame, ReadFailed, OutOfMemory}
 use Rattle.guard_frames.specs.declared.totals.Totals.{Totals}
-use Rattle.guard_frames.specs.Prefix.{IsProperPrefix}
 use Rattle.guard_files.specs.Devices.{Device, IsUntouched}
 use Rattle.guard_files.specs.Digest.{IsNumberedAt}
 use Rattle.guard_files.specs.Files.{Told}
@@ -17,6 +15,7 @@ use Rattle.guard_streams.specs.Counting.{IsShowing, counters_view, ended, faults
 use Rattle.guard_streams.specs.InForce.{digest_note}
 use Rattle.guard_streams.specs.Faults.{no_faults}
 use Rattle.guard_streams.specs.Shown.{Shown}
+use Rattle.guard_streams.specs.inside.Putting.{Puts}
 
 -- the policy at the path, and what is counted under it
 abbrev pub IsForceAt : Told → List ℕ → AbstractPolicy → AbstractForce → Type 0
@@ -24,9 +23,7 @@ IsForceAt told path p force = IsNumberedAt told path p force.digest × (force �
 
 -- the note of the number is put, where notes are asked for; or standard error failed in it
 abbrev pub IsOpened : Bool → List ℕ → Result (Unit {0}) Failed → Device → Type 0
-IsOpened true digest (Ok done) err = Appends err.before err.after (digest_note digest)
-IsOpened true digest (Err f) err = (err.failed ≡ true)
-    × ((part : List ℕ) × IsProperPrefix part (digest_note digest) × Appends err.before err.after part)
+IsOpened true digest put err = Puts (digest_note digest) put err
 IsOpened false digest (Ok done) err = IsUntouched err
 IsOpened false digest (Err f) err = ⊥
 

@@ -3,7 +3,7 @@ use Rattle.std.specs.Prelude.{◌≡◌, ◌<◌, ◌≤◌, ◌⊎◌, ℕ, Boo
 use Rattle.hex.specs.Hex.{decode_of}
 use Rattle.hex.specs.declared.error.FromHexError.{FromHexError}
 use Rattle.guard_frames.specs.declared.running.RunFault.{RunFault}
-use Rattle.guard_frames.specs.declared.running.RunFault.TheVariants.{FrameTooLong, WriteFailed, TornFrame, ReadFailed, OutOfMemory}
+use Rattle.guard_frames.specs.declared.running.RunFault.TheVariants.{FrameTooLong, TornFrame, ReadFailed}
 use Rattle.guard_files.specs.declared.fault.Fault.{Fault}
 use Rattle.guard_files.specs.declared.fault.Fault.TheVariants.{CannotRead, Run, NoMemory}
 use Rattle.guard_files.specs.declared.stop.Stop.{Stop}
@@ -40,11 +40,10 @@ IsNotKeptBy false told path input _ = ⊥
 
 -- the frame of what comes in, its length octets included
 abbrev pub IsFrameAt : AbstractSpot → Input → List ℕ → Type 0
-IsFrameAt (written digits) input frame = ⊥
-IsFrameAt (kept path) input frame = ⊥
 IsFrameAt (framed word) input frame = (n : ℕ) × IsNumber word n × IsNth n input frame
 IsFrameAt (linked number word) input frame =
     (link : ℕ) × (n : ℕ) × IsLink number link × IsNumber word n × IsNthOfLink link n input frame
+IsFrameAt _ input frame = ⊥
 
 -- what follows the length of the frame
 abbrev pub IsBodyAt : AbstractSpot → Input → List ℕ → Type 0
@@ -68,58 +67,46 @@ LeavesInput (linked number word) input = Unit {0}
 -- the digits write none
 abbrev pub IsBadHexAt : AbstractSpot → Type 0
 IsBadHexAt (written digits) = (e : FromHexError) × (decode_of digits ≡ Err e)
-IsBadHexAt (kept path) = ⊥
-IsBadHexAt (framed word) = ⊥
-IsBadHexAt (linked number word) = ⊥
+IsBadHexAt _ = ⊥
 
 abbrev pub IsTooLongAt : Told → AbstractSpot → Input → Type 0
-IsTooLongAt told (written digits) input = ⊥
 IsTooLongAt told (kept path) input =
     (octets : List ℕ) × (later : Told) × IsKeptBy (is_input path) told path input octets later × (1048576 < length octets)
-IsTooLongAt told (framed word) input = ⊥
-IsTooLongAt told (linked number word) input = ⊥
+IsTooLongAt told _ input = ⊥
 
 -- the word is no number of a link
 abbrev pub HasNoSuchLink : AbstractSpot → Input → Type 0
-HasNoSuchLink (written digits) input = ⊥
-HasNoSuchLink (kept path) input = ⊥
-HasNoSuchLink (framed word) input = ⊥
 HasNoSuchLink (linked number word) input = ((link : ℕ) → IsLink number link → ⊥) × IsUnread input
+HasNoSuchLink _ input = ⊥
 
 -- the word is no number of a frame, or there are fewer frames
 abbrev pub HasNoSuchFrame : AbstractSpot → Input → Type 0
-HasNoSuchFrame (written digits) input = ⊥
-HasNoSuchFrame (kept path) input = ⊥
 HasNoSuchFrame (framed word) input =
     (((n : ℕ) → IsNumber word n → ⊥) × IsUnread input) ⊎ ((n : ℕ) × IsNumber word n × HasFewer n input)
 HasNoSuchFrame (linked number word) input =
     (link : ℕ) × IsLink number link
     × ((((n : ℕ) → IsNumber word n → ⊥) × IsUnread input) ⊎ ((n : ℕ) × IsNumber word n × EndsBefore link n input []))
+HasNoSuchFrame _ input = ⊥
 
 -- why that of a link can't be reached
 abbrev pub StopsLink : RunFault → ℕ → ℕ → Input → Type 0
 StopsLink FrameTooLong link n input = IsTooLongBefore link n input
 StopsLink TornFrame link n input = IsTornBefore link n input
 StopsLink ReadFailed link n input = IsLostBefore link n input
-StopsLink WriteFailed link n input = ⊥
-StopsLink OutOfMemory link n input = ⊥
+StopsLink _ link n input = ⊥
 
 abbrev pub IsFaultyAt : Told → AbstractSpot → Input → Fault → Type 0
-IsFaultyAt told (written digits) input f = ⊥
 IsFaultyAt told (kept path) input f = IsNotKeptBy (is_input path) told path input f
 IsFaultyAt told (framed word) input (Run f) = (n : ℕ) × IsNumber word n × StopsBefore f n input
-IsFaultyAt told (framed word) input _ = ⊥
 IsFaultyAt told (linked number word) input (Run f) =
     (link : ℕ) × (n : ℕ) × IsLink number link × IsNumber word n × StopsLink f link n input
-IsFaultyAt told (linked number word) input _ = ⊥
+IsFaultyAt told _ input _ = ⊥
 
 -- what comes in is no record, or is cut short
 abbrev pub IsBadAt : AbstractSpot → Input → Type 0
-IsBadAt (written digits) input = ⊥
-IsBadAt (kept path) input = ⊥
-IsBadAt (framed word) input = ⊥
 IsBadAt (linked number word) input =
     (link : ℕ) × (n : ℕ) × IsLink number link × IsNumber word n × IsBadBefore link n input
+IsBadAt _ input = ⊥
 
 -- why they can't be had; that memory ran out may come in place of any answer
 abbrev pub IsUnfound : Told → AbstractSpot → Input → Unfound → Type 0

@@ -4,7 +4,7 @@ use Rattle.std.specs.List.{concat, All}
 use Rattle.std.specs.Io.KnownBytes.{Consumes, IsAtEnd}
 use Rattle.std.specs.Str.Parse.{IsNumeral, digits_value, without_leading_plus}
 use Rattle.guard_frames.specs.declared.running.RunFault.{RunFault}
-use Rattle.guard_frames.specs.declared.running.RunFault.TheVariants.{FrameTooLong, WriteFailed, TornFrame, ReadFailed, OutOfMemory}
+use Rattle.guard_frames.specs.declared.running.RunFault.TheVariants.{FrameTooLong, TornFrame, ReadFailed}
 use Rattle.guard_frames.specs.Frames.{IsFrame}
 use Rattle.guard_files.specs.NextFrame.{IsTooLongAlone, IsTornAtEnd, IsLostInFrame}
 use Rattle.guard_files.specs.Devices.{Input}
@@ -52,5 +52,4 @@ abbrev pub StopsBefore : RunFault → ℕ → Input → Type 0
 StopsBefore FrameTooLong n input = BreaksBefore n input IsTooLongAlone
 StopsBefore TornFrame n input = BreaksBefore n input (IsTornAtEnd input)
 StopsBefore ReadFailed n input = BreaksBefore n input (IsLostInFrame input)
-StopsBefore WriteFailed n input = ⊥
-StopsBefore OutOfMemory n input = ⊥
+StopsBefore _ n input = ⊥

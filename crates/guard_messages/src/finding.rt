@@ -1,5 +1,5 @@
 //! The octets of a message that is written, is in a file or comes in.
-ghost use Rattle.std.specs.Prelude.{◌≡◌, ◌≤◌, ◌⊎◌, drop, length, IfOk, IfErr};
+ghost use Rattle.std.specs.Prelude.{◌≡◌, ◌⊎◌, IfOk, IfErr};
 ghost use Rattle.guard_files.specs.Devices.{Input, source_of};
 ghost use Rattle.guard_files.specs.Files.{Told};
 ghost use Rattle.guard_files.specs.declared.fault.Fault.TheVariants.{NoMemory};
@@ -99,7 +99,7 @@ fn framed_octets<S: Source>(alloc: Global, word: &str, input: &mut S) -> Result<
         (source_of S.tells S.takes S.has_failed input.old input.new)) }
 {
     match frame_of_number(alloc, word, input) {
-        Ok(frame) => Ok(body_in(alloc, &frame)?),
+        Ok(frame) => Ok(copied(alloc, &frame[LENGTH_OCTETS..])?),
         Err(none) => Err(none),
     }
 }
@@ -139,7 +139,7 @@ fn linked_octets<S: Source>(
         (source_of S.tells S.takes S.has_failed input.old input.new)) }
 {
     match frame_of_link(alloc, number, word, input) {
-        Ok(frame) => Ok(body_in(alloc, &frame)?),
+        Ok(frame) => Ok(copied(alloc, &frame[LENGTH_OCTETS..])?),
         Err(none) => Err(none),
     }
 }
@@ -170,12 +170,4 @@ fn copied(alloc: Global, octets: &[u8]) -> Result<Vec<u8>, OutOfMemory>
     ensures { IfOk result (λ copy. copy.items ≡ octets.now) }
 {
     Ok(Vec::from_slice(alloc, octets)?)
-}
-
-/// What follows the length of a frame.
-fn body_in(alloc: Global, frame: &[u8]) -> Result<Vec<u8>, OutOfMemory>
-    requires { 4 ≤ length frame.now }
-    ensures { IfOk result (λ body. body.items ≡ drop 4 frame.now) }
-{
-    Ok(Vec::from_slice(alloc, &frame[LENGTH_OCTETS..])?)
 }

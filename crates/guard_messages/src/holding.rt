@@ -3,7 +3,6 @@ ghost use Rattle.std.specs.Prelude.{◌≡◌, codes, false, option_map, string_
 ghost use Rattle.guard_policy.specs.PolicyView.{policy_view, route_view};
 ghost use Rattle.guard_frames.specs.Bodies.{body_view};
 ghost use Rattle.guard_files.specs.Answers.{answer_view};
-ghost use Rattle.guard_files.specs.Bodies.{route_body};
 ghost use Rattle.guard_files.specs.Explaining.{IsNoPolicyWith};
 ghost use Rattle.guard_messages.specs.Decided.{OfHeld};
 ghost use Rattle.guard_messages.specs.Deciding.{held_in, IsHeldShown};
@@ -31,7 +30,12 @@ pub fn held_in<'a>(
         (spot_view spot.now) octets.now }
 {
     match spot {
-        Spot::Written(_) | Spot::Kept(_) => Some(body_of(from, to, message, octets)),
+        Spot::Written(_) | Spot::Kept(_) => Some(Body {
+            sender: from,
+            receiver: to,
+            name: message,
+            message_octets: octets,
+        }),
         Spot::Framed(_) | Spot::Linked(_, _) => read_body(octets),
     }
 }
@@ -44,19 +48,6 @@ pub fn route_asked<'a>(question: &Question<'a>) -> Route<'a>
         from: question.from.unwrap_or("").as_bytes(),
         to: question.to.unwrap_or("").as_bytes(),
         message: question.message.unwrap_or("").as_bytes(),
-    }
-}
-
-/// The octets as a message on the route of these names.
-pub fn body_of<'a>(from: &'a [u8], to: &'a [u8], message: &'a [u8], octets: &'a [u8]) -> Body<'a>
-    ensures { body_view result ≡ route_body (record { from = from.now; to = to.now; message = message.now })
-        octets.now }
-{
-    Body {
-        sender: from,
-        receiver: to,
-        name: message,
-        message_octets: octets,
     }
 }
 

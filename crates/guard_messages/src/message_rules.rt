@@ -1,7 +1,6 @@
 //! The rules of a message.
-ghost use Rattle.std.specs.Prelude.{◌≡◌, ◌++◌, codes, OnOk, IfOk};
+ghost use Rattle.std.specs.Prelude.{◌≡◌, ◌++◌, OnOk, IfOk};
 ghost use Rattle.guard_policy.specs.PolicyView.{policy_view, said_view};
-ghost use Rattle.guard_files.specs.RuleText.{said_text};
 ghost use Rattle.guard_messages.specs.Reasons.{message_rules, rule_line_of};
 
 use guard_files::{add, add_said};
@@ -28,15 +27,8 @@ fn add_rule_of(text: &mut Vec<u8>, message: &[u8], rule: &SaidRule) -> Result<()
     ensures { OnOk result (text.new.items ≡ text.old.items ++ rule_line_of message.now (said_view rule.now)) }
 {
     if rule.message.as_bytes() == message {
-        add_line(text, rule)
-    } else {
-        Ok(())
+        add_said(text, rule)?;
+        add(text, b"\n")?;
     }
-}
-
-fn add_line(text: &mut Vec<u8>, rule: &SaidRule) -> Result<(), OutOfMemory>
-    ensures { OnOk result (text.new.items ≡ text.old.items ++ (said_text (said_view rule.now) ++ codes "\n")) }
-{
-    add_said(text, rule)?;
-    add(text, b"\n")
+    Ok(())
 }

@@ -9,7 +9,6 @@ ghost use Rattle.guard_policy.specs.Verdicts.{verdict_view};
 ghost use Rattle.guard_notes.specs.Sources.{place_lines, sources_view};
 ghost use Rattle.guard_files.specs.Places.{places_in, places_of};
 ghost use Rattle.guard_files.specs.Allowed.{OfValue, HasValue};
-ghost use Rattle.guard_notes.specs.Marking.{columns};
 ghost use Rattle.guard_messages.specs.RuleTypes.{grounds_view};
 ghost use Rattle.guard_messages.specs.Reasons.{message_rules, step_name, name_at, name_before, part_shown, part_line};
 ghost use Rattle.guard_messages.specs.Reasons.{violation_lines, shortfall_lines, lines_of_places};
@@ -285,32 +284,21 @@ fn add_name(note: &mut Vec<u8>, name: Option<&str>) -> Result<(), OutOfMemory>
     ensures { OnOk result (note.new.items ≡ note.old.items ++ name_before (option_map (λ name. name.now) name.entry)) }
 {
     match name {
-        Some(name) => add_called(note, name),
+        Some(name) => {
+            add(note, name.as_bytes())?;
+            add(note, b" ")
+        }
         None => Ok(()),
     }
-}
-
-fn add_called(note: &mut Vec<u8>, name: &str) -> Result<(), OutOfMemory>
-    ensures { OnOk result (note.new.items ≡ note.old.items ++ (name.now ++ codes " ")) }
-{
-    add(note, name.as_bytes())?;
-    add(note, b" ")
 }
 
 fn add_shown(alloc: Global, note: &mut Vec<u8>, text: Option<Vec<u8>>) -> Result<(), OutOfMemory>
     ensures { OnOk result (note.new.items ≡ note.old.items ++ part_shown (option_map (λ text. text.items) text)) }
 {
     match text {
-        Some(text) => add_columns(alloc, note, &text),
+        Some(text) => add(note, columns(alloc, &text)?.as_bytes()),
         None => add(note, b"absent"),
     }
-}
-
-fn add_columns(alloc: Global, note: &mut Vec<u8>, text: &[u8]) -> Result<(), OutOfMemory>
-    ensures { OnOk result (note.new.items ≡ note.old.items ++ columns text.now) }
-{
-    let shown = columns(alloc, text)?;
-    add(note, shown.as_bytes())
 }
 
 /// What the type calls the component or alternative to which the last step of the path leads.

@@ -34,7 +34,7 @@ pub fn show_octets(
     ensures { IfOk result (λ a. ShowsMessage explain (policy_view policy.now) message.now octets.now (answer_view a)) }
 {
     let Some(ty) = policy.declared(message) else {
-        return unknown(alloc);
+        return ended(Vec::new(alloc), b"unknown-message", 1);
     };
     law_one_answer(ty, octets);
     let shown = shown_text(alloc, ty, octets)?;
@@ -55,13 +55,6 @@ fn lines_of(alloc: Global, ty: &Ty, octets: &[u8], explain: bool) -> Result<Vec<
         Err(DecodeFault::Breach(breach)) => lines_before(alloc, ty, octets, breach.at),
         Err(DecodeFault::OutOfMemory) => Err(OutOfMemory),
     }
-}
-
-fn unknown(alloc: Global) -> Result<Answer, OutOfMemory>
-    ensures { IfOk result (λ a. (a.out.items ≡ codes "unknown-message\n") × (a.status ≡ 1)) }
-{
-    let out = Vec::from_slice(alloc, b"unknown-message\n")?;
-    Ok(Answer { out, status: 1 })
 }
 
 /// The lines, the text and a line feed, with status 1 where there is no value.

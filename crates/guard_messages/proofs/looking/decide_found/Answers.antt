@@ -1,13 +1,12 @@
-use Rattle.std.proofs.Common.{◌∙◌, ap, inl, subst}
-use Rattle.std.specs.Prelude.{Option, option_map}
-use Rattle.guard_frames.specs.Bodies.{AbstractBody, body_view}
-use Rattle.guard_files.specs.Devices.{device}
+use Rattle.std.proofs.Common.{◌∙◌, ap, inl}
+use Rattle.std.specs.Prelude.{option_map}
+use Rattle.guard_frames.specs.Bodies.{body_view}
 use Rattle.guard_policy.specs.Policies.{AbstractRoute}
 use Rattle.guard_files.specs.Explaining.{IsNoPolicyWith}
 use Rattle.guard_files.proofs.GivenAnswers.{gives}
 use Rattle.guard_messages.specs.Questions.{asked_route, question_view, spot_view}
 use Rattle.guard_messages.specs.Decided.{IsHeldDecided}
-use Rattle.guard_messages.specs.Deciding.{GivesHeld, held_in}
+use Rattle.guard_messages.specs.Deciding.{held_in}
 use Rattle.guard_messages.proofs.looking.decide_found.Goals as goal
 
 pub returns-in-Ok : goal.returns-in-Ok
@@ -16,8 +15,7 @@ returns-in-Ok g c =
     let q = question_view c.args.question.now in
     let spot = spot_view c.args.spot.now in
     let octets = c.in-Ok.octets.items in
-    let out = device (g.O.Sink.taken c.args.out.now) (g.O.Sink.taken c.give.new.out) (g.O.Sink.has_failed c.give.new.out) in
-    let err = device (g.E.Sink.taken c.args.err.now) (g.E.Sink.taken c.give.new.err) (g.E.Sink.has_failed c.give.new.err) in
+    let d = c.decide_held-decided in
     let same = c.held_in-held.ensures ∙ ap (λ (r : AbstractRoute). held_in r spot c.deref.result.now) c.route_asked-route.ensures
     ∙ ap (held_in (asked_route q) spot) c.deref.ensures.value in (
       c.find.ensures.unread,
@@ -25,8 +23,8 @@ returns-in-Ok g c =
         octets,
         later,
         c.in-Ok.ensures.found,
-        subst (λ (h : Option AbstractBody). GivesHeld q.explain later q.policy spot h octets out err c.give.result) same
-            (gives (IsHeldDecided q.explain later q.policy spot (option_map body_view c.held_in-held.result) octets) (IsNoPolicyWith q.explain later q.policy) out err c.give.result c.decide_held-decided.result
-            (rw c.deref-in-Ok.ensures.value at c.decide_held-decided.ensures.decided) c.decide_held-decided.ensures.none c.give.ensures.written c.give.ensures.told),
+        rw (← same)
+            (gives (IsHeldDecided q.explain later q.policy spot (option_map body_view c.held_in-held.result) octets) (IsNoPolicyWith q.explain later q.policy) _ _ c.give.result d.result
+            (rw c.deref-in-Ok.ensures.value at d.ensures.decided) d.ensures.none c.give.ensures.written c.give.ensures.told),
       ),
     )

@@ -1,9 +1,7 @@
-use Rattle.std.proofs.Common.{◌∙◌, ap, false, inl, subst}
-use Rattle.std.specs.Prelude.{Option, option_map}
-use Rattle.guard_frames.specs.Bodies.{AbstractBody, body_view}
-use Rattle.guard_files.specs.Devices.{device}
+use Rattle.std.proofs.Common.{false, ◌∙◌, ap, inl}
+use Rattle.std.specs.Prelude.{option_map}
+use Rattle.guard_frames.specs.Bodies.{body_view}
 use Rattle.guard_policy.specs.Policies.{AbstractRoute}
-use Rattle.guard_files.specs.Answers.{Gives}
 use Rattle.guard_files.specs.Explaining.{IsNoPolicyWith}
 use Rattle.guard_files.proofs.GivenAnswers.{gives}
 use Rattle.guard_messages.specs.Questions.{asked_route, question_view, spot_view}
@@ -14,8 +12,6 @@ pub returns-in-Ok : goal.returns-in-Ok
 returns-in-Ok g c =
     let later = g.F.Files.told c.find.new.files in
     let q = question_view c.args.question.now in
-    let out = device (g.O.Sink.taken c.args.out.now) (g.O.Sink.taken c.give.new.out) (g.O.Sink.has_failed c.give.new.out) in
-    let err = device (g.E.Sink.taken c.args.err.now) (g.E.Sink.taken c.give.new.err) (g.E.Sink.has_failed c.give.new.err) in
     let same = c.held_in-held.ensures ∙ ap (λ (r : AbstractRoute). held_in r (spot_view c.args.spot.now) c.deref.result.now) c.route_asked-route.ensures
     ∙ ap (held_in (asked_route q) (spot_view c.args.spot.now)) c.deref.ensures.value in (
       c.find.ensures.unread,
@@ -23,8 +19,8 @@ returns-in-Ok g c =
         c.in-Ok.octets.items,
         later,
         c.in-Ok.ensures.found,
-        subst (λ (h : Option AbstractBody). Gives (IsHeldShown q later h) (IsNoPolicyWith false later q.policy) out err c.give.result) same
-            (gives (IsHeldShown q later (option_map body_view c.held_in-held.result)) (IsNoPolicyWith false later q.policy) out err c.give.result c.show_held.result
+        rw (← same)
+            (gives (IsHeldShown q later (option_map body_view c.held_in-held.result)) (IsNoPolicyWith false later q.policy) _ _ c.give.result c.show_held.result
             c.show_held.ensures.shown c.show_held.ensures.none c.give.ensures.written c.give.ensures.told),
       ),
     )

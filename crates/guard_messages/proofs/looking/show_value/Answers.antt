@@ -1,15 +1,4 @@
-use Rattle.std.proofs.Common.{Option, subst}
-use Rattle.guard_files.specs.Devices.{input_of, device}
-use Rattle.guard_messages.specs.Deciding.{ShowsAt}
-use Rattle.guard_messages.specs.Questions.{AbstractSpot, question_view}
 use Rattle.guard_messages.proofs.looking.show_value.Goals as goal
 
 pub returns-in-Some : goal.returns-in-Some
-returns-in-Some g c =
-    let told = g.F.Files.told c.args.files.now in
-    let q = question_view c.args.question.now in
-    let input = input_of (g.S.Source.tells c.args.input.now) (g.S.Source.tells c.show_found.new.input) (g.S.Source.takes c.args.input.now) (g.S.Source.takes c.show_found.new.input) (g.S.Source.has_failed c.show_found.new.input) in
-    let out = device (g.O.Sink.taken c.args.out.now) (g.O.Sink.taken c.show_found.new.out) (g.O.Sink.has_failed c.show_found.new.out) in
-    let err = device (g.E.Sink.taken c.args.err.now) (g.E.Sink.taken c.show_found.new.err) (g.E.Sink.has_failed c.show_found.new.err) in
-    subst (λ (s : Option AbstractSpot). ShowsAt s told q input out err c.show_found.result) c.in-Some.ensures
-    c.show_found.ensures
+returns-in-Some g c = rw (← c.in-Some.ensures) c.show_found.ensures

@@ -24,7 +24,7 @@ lines_of-requires c =
 
 pub returns-in_default : goal.returns-in_default
 returns-in_default c =
-    IfOk-weaker c.unknown.result _ _ (λ a h. inl (sym (rw c.in_default.is at c.declared.ensures), h.0, h.1)) c.unknown.ensures
+    IfOk-weaker c.ended.result _ _ (λ a h. inl (sym (rw c.in_default.is at c.declared.ensures), rw c.new.ensures.items at h.0, h.1)) c.ended.ensures
 
 pub returns : goal.returns
 returns c =

@@ -1,6 +1,6 @@
 -- The frames that come in piece by piece, compared one after another, and how that ends.
 use Rattle.std.proofs.Common.{◌≡◌, ◌∙◌, ◌+◌, ◌<◌, ◌^◌, ◌⊎◌, inl, inr, ℕ, Bool, true, List, [], ◌∷◌, ◌++◌, ap, refl, sym, subst, length, take, drop, map, arith, append_assoc, length-drop}
-use Rattle.std.specs.Prelude.{Option, Some, Result, Ok, Err, IfOk, IfErr}
+use Rattle.std.specs.Prelude.{Option, Some}
 use Rattle.std.specs.List.{concat, All}
 use Rattle.std.specs.Io.KnownBytes.{Appends, Consumes}
 use Rattle.std.proofs.lemmas.List.{append-nil, take-append-drop, drop-drop}
@@ -312,7 +312,7 @@ module _ (c : AbstractComparison) (origin : Origin) (a b o o₁ : Option (List �
       → AddsPiece origin b b₁ piece → StopsTaking c (held ++ piece) t u (device o₁ o₂ f)
       → (g : Progress) × Reaches c origin (input_of a b₁ y z failed) g
       × IsStopped u origin (input_of a b₁ y z failed) g (device o o₂ f)
-  stopped_taking (Run run.FrameTooLong) b₁ o₂ y z failed f piece adds (left, lines, new, h, long, took) = (
+  stopped_taking (Run run.FrameTooLong) b₁ o₂ y z failed f piece adds (left, lines, new, h, (long, took)) = (
     record { lines = so_far.lines ++ lines; tally = new.tally; left = left; rest = [] },
     compared_more b₁ y z failed piece left lines new adds h,
     (refl, long, Appends_trans o o₁ o₂ so_far.lines lines so_far.sent took),
@@ -335,49 +335,23 @@ module _ (c : AbstractComparison) (origin : Origin) (a b o o₁ : Option (List �
     compared_more b₁ y z failed piece left lines new adds h,
     Appends_trans o o₁ o₂ so_far.lines lines so_far.sent took,
   )
-  stopped_taking _ b₁ o₂ y z failed f piece adds h = absurd h
+  stopped_taking _ b₁ o₂ y z failed f piece adds (left, lines, new, h, why) = absurd why
 
   -- no more come
-  all_compared : (b₁ : Option (List ℕ)) (y z : ℕ) (failed f : Bool) → EndsBehind origin b b₁ → held ≡ []
+  pub all_compared : (b₁ : Option (List ℕ)) (y z : ℕ) (failed f : Bool) (x : Sums) → EndsBehind origin b b₁ → x ≡ t → held ≡ []
       → (g : Progress) × (r : Reaches c origin (input_of a b₁ y z failed) g) × Ends origin (input_of a b₁ y z failed) g.rest
-      × (g.left ≡ []) × (g.tally ≡ t.tally) × AreCounted c r.frames t × TookAll g.lines (device o o₁ f)
-  all_compared b₁ y z failed f behind none =
+      × (g.left ≡ []) × (g.tally ≡ x.tally) × AreCounted c r.frames x × TookAll g.lines (device o o₁ f)
+  all_compared b₁ y z failed f x behind is none =
       let e = ends origin a b b₁ y z failed so_far.octets so_far.came behind in
-      (progress e.0, reaches b₁ y z failed e.0 e.1, e.2, none, refl, so_far.counted, so_far.sent)
+      rw is (progress e.0, reaches b₁ y z failed e.0 e.1, e.2, none, refl, so_far.counted, so_far.sent)
 
-  torn_at_end : (b₁ : Option (List ℕ)) (y z : ℕ) (failed f : Bool) → EndsBehind origin b b₁ → 0 < length held
-      → (g : Progress) × Reaches c origin (input_of a b₁ y z failed) g
-      × IsStopped (Run run.TornFrame) origin (input_of a b₁ y z failed) g (device o o₁ f)
-  torn_at_end b₁ y z failed f behind some =
+  -- but something is left
+  pub torn_at_end : (b₁ : Option (List ℕ)) (y z : ℕ) (failed f : Bool) (u : Uncompared) → EndsBehind origin b b₁ → u ≡ Run run.TornFrame
+      → 0 < length held → (g : Progress) × Reaches c origin (input_of a b₁ y z failed) g
+      × IsStopped u origin (input_of a b₁ y z failed) g (device o o₁ f)
+  torn_at_end b₁ y z failed f u behind is some =
       let e = ends origin a b b₁ y z failed so_far.octets so_far.came behind in
-      (progress e.0, reaches b₁ y z failed e.0 e.1, (e.2, some, so_far.unfinished, so_far.sent))
-
-  -- by what is said of the end, of which a slice has the octets that are held
-  pub ended_whole : (b₁ : Option (List ℕ)) (y z : ℕ) (failed f : Bool) (r : Result Sums Uncompared) (slice : List ℕ) → slice ≡ held
-      → IfOk r (λ x. (x ≡ t) × (slice ≡ [])) → EndsBehind origin b b₁
-      → IfOk r (λ x. (g : Progress) × (made : Reaches c origin (input_of a b₁ y z failed) g) × Ends origin (input_of a b₁ y z failed) g.rest
-      × (g.left ≡ []) × (g.tally ≡ x.tally) × AreCounted c made.frames x × TookAll g.lines (device o o₁ f))
-  ended_whole b₁ y z failed f (Ok x) slice same (is, none) behind =
-      let h = all_compared b₁ y z failed f behind (sym same ∙ none) in (
-        h.0,
-        h.1,
-        h.2,
-        h.3,
-        h.4 ∙ ap (λ (s : Sums). s.tally) (sym is),
-        subst (λ (s : Sums). AreCounted c h.1.frames s) (sym is) h.5,
-        h.6,
-      )
-  ended_whole b₁ y z failed f (Err u) slice same h behind = tt
-
-  pub ended_torn : (b₁ : Option (List ℕ)) (y z : ℕ) (failed f : Bool) (r : Result Sums Uncompared) (slice : List ℕ) → slice ≡ held
-      → IfErr r (λ u. (u ≡ Run run.TornFrame) × (0 < length slice)) → EndsBehind origin b b₁
-      → IfErr r (λ u. (g : Progress) × Reaches c origin (input_of a b₁ y z failed) g
-      × IsStopped u origin (input_of a b₁ y z failed) g (device o o₁ f))
-  ended_torn b₁ y z failed f (Ok x) slice same h behind = tt
-  ended_torn b₁ y z failed f (Err u) slice same (is, some) behind =
-      subst (λ (x : Uncompared). (g : Progress) × Reaches c origin (input_of a b₁ y z failed) g
-      × IsStopped x origin (input_of a b₁ y z failed) g (device o o₁ f)) (sym is)
-      (torn_at_end b₁ y z failed f behind (subst (λ (s : List ℕ). 0 < length s) same some))
+      rw is (progress e.0, reaches b₁ y z failed e.0 e.1, (e.2, some, so_far.unfinished, so_far.sent))
 
   -- no more can be read
   pub stopped_reading : (s : Stop) (b₁ : Option (List ℕ)) (y z reads : ℕ) (failed f : Bool)

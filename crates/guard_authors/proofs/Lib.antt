@@ -3,7 +3,6 @@ pub mod WrittenValues
 pub mod CasesFound
 pub mod TriedCases
 pub mod FaultyCases
-pub mod ReachedLaws
 pub mod RowsCounted
 pub mod SummaryLines
 pub mod FramesCompared

@@ -12,7 +12,7 @@ use Rattle.guard_frames.specs.Totals.{later}
 use Rattle.guard_authors.specs.declared.summary.Counts.{Counts}
 use Rattle.guard_authors.specs.declared.summary.Row.{Row}
 use Rattle.guard_authors.specs.declared.summary.Sums.{Sums}
-use Rattle.guard_authors.specs.Differing.{AbstractComparison, written}
+use Rattle.guard_authors.specs.Differing.{AbstractComparison}
 use Rattle.guard_authors.specs.Summary.{AreRows, how_often, is_at}
 use Rattle.guard_authors.specs.inside.Counting.{AreCounted, AreCounts, BeginsCounting, CountsBodies, CountsBody, CountsFrame, CountsFrames, IsCount, IsCounted, count_at}
 
@@ -143,16 +143,8 @@ frames_counted c fs gs a b h k = λ asked. (
   bodies_counted c.new fs gs a.under_new b.under_new (h asked).1 (k asked).1,
 )
 
--- ---- what is written of a frame, where a test has this answer
+-- ---- what holds anyhow
 
 pub ok_if : {A E P : Type 0} (r : Result A E) → P → OnOk r P
 ok_if (Ok x) p = p
 ok_if (Err e) p = tt
-
-pub none_written : (asked : Bool) (lines line : List ℕ) → asked ≡ true → lines ≡ lines ++ written asked line
-none_written true lines line is = sym (append-nil lines)
-none_written false lines line is = absurd cc
-
-pub one_written : (asked : Bool) (before after line : List ℕ) → asked ≡ false → after ≡ before ++ line → after ≡ before ++ written asked line
-one_written true before after line is added = absurd cc
-one_written false before after line is added = added

@@ -1,68 +1,21 @@
--- The lines of a summary: one rule after another, and by the counts as by the rows.
-use Rattle.std.proofs.Common.{◌≡◌, ◌∙◌, ◌+◌, ◌<◌, ℕ, zero, suc, Bool, true, false, List, [], ◌∷◌, ◌++◌, Some, drop, length, ap, refl, sym, arith, add-one, append_assoc}
-use Rattle.std.specs.Prelude.{codes, decimal, slice_get, unwrap_or}
+-- The lines of a summary: what is added behind a text, and by the counts as by the rows.
+use Rattle.std.proofs.Common.{◌≡◌, ◌∙◌, ◌+◌, ◌<◌, ℕ, Bool, true, false, List, [], ◌∷◌, ◌++◌, length, ap, refl, arith, append_assoc}
+use Rattle.std.specs.Prelude.{codes, decimal}
 use Rattle.guard_policy.specs.Policies.{AbstractPolicy, AbstractRule}
 use Rattle.guard_files.specs.RuleText.{said_text}
 use Rattle.guard_authors.specs.declared.summary.Counts.{Counts}
 use Rattle.guard_authors.specs.declared.summary.Row.{Row}
 use Rattle.guard_authors.specs.declared.summary.Sums.{Sums}
 use Rattle.guard_authors.specs.Differing.{AbstractComparison}
-use Rattle.guard_authors.specs.Summary.{IsSummary, both_lines, counted_lines, how_often, place_of, policy_lines, reason_line, reason_lines, rule_lines, rule_of}
+use Rattle.guard_authors.specs.Summary.{IsSummary, both_lines, counted_lines, how_often, place_of, policy_lines, reason_line, reason_lines, rule_line, rule_lines, rule_of}
 use Rattle.guard_authors.specs.inside.Counting.{AreCounted, AreCounts, count_at, lines_of_counts, summed}
 
--- ---- one rule after another
+-- ---- what is added
 
-abbrev line_of_rule : (ℕ → ℕ) → ℕ → AbstractRule → List ℕ
-line_of_rule often i r = said_text r ++ codes " " ++ decimal (often i) ++ codes "\n"
-
-lines_next : (often : ℕ → ℕ) (n : ℕ) (rules : List AbstractRule) (i : ℕ) (r : AbstractRule) → slice_get rules i ≡ Some r
-    → rule_lines often n (drop i rules) ≡ said_text r ++ codes " " ++ decimal (often n) ++ codes "\n" ++ rule_lines often (n + 1) (drop (suc i) rules)
-lines_next often n [] i r at = absurd cc
-lines_next often n (q ∷ rules) zero r at =
-    let same : q ≡ r = ap (λ o. unwrap_or o q) at in
-    ap (λ (x : AbstractRule). said_text x ++ codes " " ++ decimal (often n) ++ codes "\n" ++ rule_lines often (n + 1) rules) same
-lines_next often n (q ∷ rules) (suc i) r at = lines_next often n rules i r at
-
-regrouped : (text said number rest : List ℕ)
-    → ((text ++ said) ++ (codes " " ++ number ++ codes "\n")) ++ rest ≡ text ++ (said ++ codes " " ++ number ++ codes "\n" ++ rest)
-regrouped text said number rest =
-    let line : said ++ ((codes " " ++ number) ++ codes "\n") ≡ ((said ++ codes " ") ++ number) ++ codes "\n" =
-    sym (append_assoc said (codes " " ++ number) (codes "\n"))
-    ∙ ap (λ (s : List ℕ). s ++ codes "\n") (sym (append_assoc said (codes " ") number)) in
-    ap (λ (s : List ℕ). s ++ rest) (append_assoc text said ((codes " " ++ number) ++ codes "\n") ∙ ap (λ (s : List ℕ). text ++ s) line)
-    ∙ append_assoc text (((said ++ codes " ") ++ number) ++ codes "\n") rest
-
--- the line of one more rule
-pub one_rule_line : (often : ℕ → ℕ) (rules : List AbstractRule) (i : ℕ) (r : AbstractRule) (text all : List ℕ) → slice_get rules i ≡ Some r
-    → text ++ rule_lines often i (drop i rules) ≡ all
-    → ((text ++ said_text r) ++ (codes " " ++ decimal (often i) ++ codes "\n")) ++ rule_lines often (i + 1) (drop (i + 1) rules) ≡ all
-one_rule_line often rules i r text all at so_far =
-    regrouped text (said_text r) (decimal (often i)) (rule_lines often (i + 1) (drop (i + 1) rules))
-    ∙ ap (λ (k : ℕ). text ++ (said_text r ++ codes " " ++ decimal (often i) ++ codes "\n" ++ rule_lines often (i + 1) (drop k rules))) (add-one i)
-    ∙ ap (λ (xs : List ℕ). text ++ xs) (sym (lines_next often i rules i r at))
-    ∙ so_far
-
--- ---- by the counts as by the rows
-
--- the lines of a policy, as the code has them
-pub policy_added : (p : AbstractPolicy) (t x y rules rules₁ reasons reasons₁ : List ℕ) → rules ≡ rules₁ → reasons ≡ reasons₁
-    → x ≡ t ++ rule_lines (count_at rules) 0 p.rules → y ≡ x ++ reason_lines (count_at reasons)
-    → y ≡ t ++ policy_lines p (count_at rules₁) (count_at reasons₁)
-policy_added p t x y rules rules₁ reasons reasons₁ er es ex ey =
-    ey
-    ∙ ap (λ (s : List ℕ). s ++ reason_lines (count_at reasons)) ex
-    ∙ append_assoc t (rule_lines (count_at rules) 0 p.rules) (reason_lines (count_at reasons))
-    ∙ ap (λ (s : List ℕ). t ++ policy_lines p (count_at s) (count_at reasons)) er
-    ∙ ap (λ (s : List ℕ). t ++ policy_lines p (count_at rules₁) (count_at s)) es
-
-rules_alike : (f g : ℕ → ℕ) (i : ℕ) (rules : List AbstractRule) → ((k : ℕ) → k < i + length rules → f k ≡ g k)
-    → rule_lines f i rules ≡ rule_lines g i rules
-rules_alike f g i [] same = refl
-rules_alike f g i (r ∷ rules) same =
-    let rest : rule_lines f (i + 1) rules ≡ rule_lines g (i + 1) rules =
-    rules_alike f g (i + 1) rules (λ k lt. same k (omega (arith, lt))) in
-    ap (λ (n : ℕ). said_text r ++ codes " " ++ decimal n ++ codes "\n" ++ rule_lines f (i + 1) rules) (same i (omega arith))
-    ∙ ap (λ (s : List ℕ). said_text r ++ codes " " ++ decimal (g i) ++ codes "\n" ++ s) rest
+-- the line of a rule, as the code has it
+pub line_added : (text : List ℕ) (n : ℕ) (r : AbstractRule)
+    → (text ++ said_text r) ++ (codes " " ++ decimal n ++ codes "\n") ≡ text ++ rule_line n r
+line_added text n r = simp append_assoc
 
 abbrev reasons_of : ℕ → ℕ → ℕ → ℕ → ℕ → ℕ → List ℕ
 reasons_of a b c d e f =
@@ -95,6 +48,28 @@ six_reasons often t x₁ x₂ x₃ x₄ x₅ x₆ a b c d e f ea eb ec ed ee ef 
     (reason_line (codes "no-rule") f) e₁ e₂ e₃ e₄ e₅ e₆
     ∙ ap (λ (s : List ℕ). t ++ s)
     (reasons_same a b c d e f _ _ _ _ _ _ ea eb ec ed ee ef)
+
+-- ---- by the counts as by the rows
+
+-- the lines of a policy, as the code has them
+pub policy_added : (p : AbstractPolicy) (t x y rules rules₁ reasons reasons₁ : List ℕ) → rules ≡ rules₁ → reasons ≡ reasons₁
+    → x ≡ t ++ rule_lines (count_at rules) 0 p.rules → y ≡ x ++ reason_lines (count_at reasons)
+    → y ≡ t ++ policy_lines p (count_at rules₁) (count_at reasons₁)
+policy_added p t x y rules rules₁ reasons reasons₁ er es ex ey =
+    ey
+    ∙ ap (λ (s : List ℕ). s ++ reason_lines (count_at reasons)) ex
+    ∙ append_assoc t (rule_lines (count_at rules) 0 p.rules) (reason_lines (count_at reasons))
+    ∙ ap (λ (s : List ℕ). t ++ policy_lines p (count_at s) (count_at reasons)) er
+    ∙ ap (λ (s : List ℕ). t ++ policy_lines p (count_at rules₁) (count_at s)) es
+
+rules_alike : (f g : ℕ → ℕ) (i : ℕ) (rules : List AbstractRule) → ((k : ℕ) → k < i + length rules → f k ≡ g k)
+    → rule_lines f i rules ≡ rule_lines g i rules
+rules_alike f g i [] same = refl
+rules_alike f g i (r ∷ rules) same =
+    let here = same i (omega arith) in
+    let rest : rule_lines f (i + 1) rules ≡ rule_lines g (i + 1) rules =
+    rules_alike f g (i + 1) rules (λ k lt. same k (omega (arith, lt))) in
+    ap (λ (n : ℕ). rule_line n r ++ rule_lines f (i + 1) rules) here ∙ ap (λ (s : List ℕ). rule_line (g i) r ++ s) rest
 
 reasons_alike : (f g : ℕ → ℕ) → ((k : ℕ) → k < 6 → f k ≡ g k) → reason_lines f ≡ reason_lines g
 reasons_alike f g same = reasons_same _ _ _ _ _ _ _ _ _ _ _ _ (same 0 (omega arith)) (same 1 (omega arith))

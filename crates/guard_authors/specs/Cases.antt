@@ -60,17 +60,11 @@ cases_at top = list_at (get_member (codes "case") top)
 abbrev pub case_text : ℕ → List ℕ
 case_text number = codes "case " ++ decimal number
 
-abbrev pub unknown_text : List ℕ → List ℕ → List ℕ
-unknown_text place word = codes "T2 UnknownKey " ++ (place ++ (codes " " ++ word))
-
-abbrev pub missing_text : List ℕ → List ℕ → List ℕ
-missing_text place key = codes "T3 MissingKey " ++ (place ++ (codes " " ++ key))
+abbrev pub key_text : List ℕ → List ℕ → List ℕ → List ℕ
+key_text fault place key = fault ++ (codes " " ++ (place ++ (codes " " ++ key)))
 
 abbrev pub message_text : List ℕ → List ℕ
 message_text place = codes "T4 OctetsOrValue " ++ place
-
-abbrev pub bad_name_text : List ℕ → List ℕ → List ℕ
-bad_name_text place key = codes "T5 BadName " ++ (place ++ (codes " " ++ key))
 
 -- the first word that is none of the keys, in the order of their octets, in which the members stand
 abbrev pub first_unknown : List (List ℕ) → Members → Option (List ℕ)
@@ -107,13 +101,13 @@ abbrev pub name_keys : List (List ℕ)
 name_keys = codes "from" ∷ codes "to" ∷ codes "message" ∷ []
 
 abbrev pub name_fault : ℕ → Members → Option (List ℕ)
-name_fault number entry = option_map (bad_name_text (case_text number)) (first_nameless name_keys entry)
+name_fault number entry = option_map (key_text (codes "T5 BadName") (case_text number)) (first_nameless name_keys entry)
 
 -- of the case of this number, from 1
 abbrev pub case_fault : ℕ → Members → Option (List ℕ)
 case_fault number entry =
-    option_or (option_map (unknown_text (case_text number)) (first_unknown case_keys entry))
-    (option_or (option_map (missing_text (case_text number)) (first_missing required_keys entry))
+    option_or (option_map (key_text (codes "T2 UnknownKey") (case_text number)) (first_unknown case_keys entry))
+    (option_or (option_map (key_text (codes "T3 MissingKey") (case_text number)) (first_missing required_keys entry))
     (option_or (one_fault number entry) (name_fault number entry)))
 
 -- of the first case that has one
@@ -122,13 +116,13 @@ list_fault number no_items = None
 list_fault number (item d ds) = option_or (case_fault number (members_in d)) (list_fault (number + 1) ds)
 
 abbrev pub at_case_fault : Option Items → Option (List ℕ)
-at_case_fault None = Some (missing_text (codes "top") (codes "case"))
+at_case_fault None = Some (key_text (codes "T3 MissingKey") (codes "top") (codes "case"))
 at_case_fault (Some ds) = list_fault 1 ds
 
 -- a key at the top other than `case`; no list there; then each case
 abbrev pub cases_fault : Members → Option (List ℕ)
 cases_fault top =
-    option_or (option_map (unknown_text (codes "top")) (first_unknown (codes "case" ∷ []) top)) (at_case_fault (cases_at top))
+    option_or (option_map (key_text (codes "T2 UnknownKey") (codes "top")) (first_unknown (codes "case" ∷ []) top)) (at_case_fault (cases_at top))
 
 -- ---- no document
 

@@ -9,11 +9,11 @@ use Rattle.guard_eval.specs.Violations.{AbstractViolation, violation}
 use Rattle.guard_policy.specs.Policies.{AbstractMessage, AbstractPolicy, AbstractRoute, declared_message}
 use Rattle.guard_policy.specs.Verdicts.{outside_type}
 use Rattle.guard_report.specs.Text.{verdict_octets}
+use Rattle.guard_schema.specs.declared.fault.SchemaFault.{SchemaFault}
 use Rattle.guard_values.specs.Meanings.{Meaning}
 use Rattle.reads_back.specs.ReadingBack.{IsReadAs}
 use Rattle.guard_files.specs.declared.fault.Fault.{Fault}
 use Rattle.guard_files.specs.Devices.{Input, Device, IsUnread, IsUntouched}
-use Rattle.guard_files.specs.Explaining.{TellsWith}
 use Rattle.guard_files.specs.Files.{Told}
 use Rattle.guard_files.specs.Intake.{IsRead, IsNotRead}
 use Rattle.guard_files.specs.Reading.{AbstractLoaded, IsLoadedAt, IsNoPolicyAt}
@@ -21,7 +21,7 @@ use Rattle.guard_files.specs.Remarked.{AbstractRemarked, WritesRemarked}
 use Rattle.guard_files.specs.Writing.{TellsOctets, TellsText, Tells}
 use Rattle.guard_authors.specs.declared.encoding.Encoding.{Encoding}
 use Rattle.guard_authors.specs.Framing.{IsPayload, HasNoPayload}
-use Rattle.guard_authors.specs.ValueTexts.{names_for, IsNoValue, OfText, value_note}
+use Rattle.guard_authors.specs.ValueTexts.{names_for, IsNoValue, TellsNoValue}
 
 -- What the words ask for: a value that is a word, or else is read; a frame, where a sender or a receiver is given; and
 -- octets in place of hexadecimal digits.
@@ -94,8 +94,7 @@ pub record IsUnframed (l : AbstractLoaded) (d : AbstractMessage) (asked : Abstra
 abbrev pub EncodesText : AbstractLoaded → AbstractMessage → AbstractEncoding → List ℕ → Device → Device → ℕ → Type 0
 EncodesText l d asked text out err status =
     ((e : AbstractRemarked) × IsEncoded l d asked text e × WritesRemarked e out err status)
-    ⊎ ((f : Fault) × OfText (IsNoValue (names_for l d) d.ty text) f × IsUntouched out
-    × TellsWith f (value_note text f) err status)
+    ⊎ ((f : SchemaFault) × IsNoValue (names_for l d) d.ty text f × IsUntouched out × TellsNoValue text f err status)
     ⊎ (IsUnframed l d asked text × IsUntouched out × TellsText (codes "bad frame") 2 err status)
 
 -- The text is the word that was given, and nothing is read.

@@ -1,6 +1,6 @@
 -- What `check --explain` lists of a policy that is accepted: each message with its rules in the order of the file, and
 -- of each rule what keeps it from letting anything pass; and what of it `check --strict` remarks.
-use Rattle.std.specs.Prelude.{ℕ, ◌+◌, Bool, true, false, not, ◌&&◌, ◌||◌, is_some, List, [], ◌∷◌, ◌++◌, length, nat_eq, codes, bytes_eq, Option, Some, None, if◌then◌else◌}
+use Rattle.std.specs.Prelude.{ℕ, ◌+◌, Bool, true, false, not, ◌&&◌, ◌||◌, is_some, List, [], ◌∷◌, ◌++◌, length, map, nat_eq, codes, bytes_eq, Option, Some, None, if◌then◌else◌}
 use Rattle.std.specs.List.{list_any}
 use Rattle.std.specs.Option.{option_map_or}
 use Rattle.std.specs.Str.{str_eq_ignore_ascii_case}
@@ -10,7 +10,7 @@ use Rattle.guard_model.specs.SameType.{same_site}
 use Rattle.guard_policy.specs.Barren.{is_barren_rule}
 use Rattle.guard_policy.specs.Decisions.{is_allowing, speaks_of}
 use Rattle.guard_policy.specs.Names.{anyone}
-use Rattle.guard_policy.specs.Policies.{AbstractMessage, AbstractPolicy, AbstractRoute, AbstractRule, declared_type, own_route}
+use Rattle.guard_policy.specs.Policies.{AbstractPolicy, AbstractRoute, AbstractRule, declared_type, own_route}
 use Rattle.guard_policy.specs.PolicyView.{said_view}
 use Rattle.guard_files.specs.Places.{places_of}
 use Rattle.guard_files.specs.RuleText.{said_text}
@@ -128,9 +128,10 @@ message_lines strict rules message =
     if list_any (λ f. bytes_eq f.rule.message message) rules then rule_lines strict rules message rules
     else unused_line message
 
-abbrev pub messages_lines : Bool → List FoundRule → List AbstractMessage → List ℕ
+-- of the messages of these names
+abbrev pub messages_lines : Bool → List FoundRule → List (List ℕ) → List ℕ
 messages_lines strict rules [] = []
-messages_lines strict rules (m ∷ ms) = message_lines strict rules m.name ++ messages_lines strict rules ms
+messages_lines strict rules (name ∷ names) = message_lines strict rules name ++ messages_lines strict rules names
 
 -- there is no message at all
 abbrev pub no_message_text : Bool → List ℕ
@@ -174,8 +175,8 @@ case_lines before (b ∷ bs) = case_lines_at before b ++ case_lines (before ++ b
 -- strictly, what is remarked and no more
 abbrev pub told_lines : Bool → AbstractPolicy → List ℕ
 told_lines strict p =
-    no_message_text (nat_eq (length p.messages) 0) ++ messages_lines strict (found_rules p) p.messages
-    ++ case_lines [] (parties (found_rules p))
+    no_message_text (nat_eq (length p.messages) 0)
+    ++ messages_lines strict (found_rules p) (map (λ m. m.name) p.messages) ++ case_lines [] (parties (found_rules p))
 
 -- what the remarks rest on
 abbrev pub last_line : List ℕ

@@ -8,9 +8,7 @@ use Rattle.guard_syntax.specs.declared.fault.SyntaxFault.TheVariants as syntax
 use Rattle.guard_values.specs.declared.fault.ValueFault.{ValueFault}
 use Rattle.guard_values.specs.declared.fault.ValueFault.TheVariants as value
 use Rattle.guard_schema.specs.declared.fault.SchemaFault.{SchemaFault}
-use Rattle.guard_schema.specs.declared.fault.SchemaFault.TheVariants as schema
-use Rattle.guard_files.specs.declared.fault.Fault.{Fault}
-use Rattle.guard_files.specs.declared.fault.Fault.TheVariants.{CannotRead, TooLarge, Schema, Policy, Run, NoMemory}
+use Rattle.guard_schema.specs.declared.fault.SchemaFault.TheVariants.{Lex, Syntax, Value}
 
 -- the number of the text, which is 1, the line and the column
 abbrev pub at_site : List ℕ → Site → List ℕ
@@ -49,22 +47,8 @@ value_text (value.TooLarge site) = at_site (codes "V8 TooLarge") site
 value_text value.OutOfMemory = []
 
 -- A text that writes no value has no fault of another layer.
-abbrev pub schema_text : SchemaFault → List ℕ
-schema_text (schema.Lex f) = lex_text f
-schema_text (schema.Syntax f) = syntax_text f
-schema_text (schema.Value f) = value_text f
-schema_text (schema.Name f) = []
-schema_text (schema.Tag f) = []
-schema_text (schema.Clash site clash common) = []
-schema_text (schema.Cons f) = []
-schema_text (schema.DefaultOutside site) = []
-schema_text (schema.TooLarge site) = []
-schema_text schema.OutOfMemory = []
-
-abbrev pub no_value_text : Fault → List ℕ
-no_value_text (Schema f) = schema_text f
-no_value_text (CannotRead file obstacle) = []
-no_value_text (TooLarge file) = []
-no_value_text (Policy f) = []
-no_value_text (Run f) = []
-no_value_text NoMemory = []
+abbrev pub no_value_text : SchemaFault → List ℕ
+no_value_text (Lex f) = lex_text f
+no_value_text (Syntax f) = syntax_text f
+no_value_text (Value f) = value_text f
+no_value_text _ = []

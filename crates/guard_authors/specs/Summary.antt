@@ -68,11 +68,14 @@ how_often number rows i = later 0 (count_by (λ row. is_at i (number row)) rows)
 
 -- ---- the table, by how many frames each rule and each reason has
 
--- `  north>south order: allow small 3`, of these rules, the first of which has this number
+-- `  north>south order: allow small 3`
+abbrev pub rule_line : ℕ → AbstractRule → List ℕ
+rule_line n r = said_text r ++ codes " " ++ decimal n ++ codes "\n"
+
+-- of these rules, the first of which has this number
 abbrev pub rule_lines : (ℕ → ℕ) → ℕ → List AbstractRule → List ℕ
 rule_lines often i [] = []
-rule_lines often i (r ∷ rs) =
-    said_text r ++ codes " " ++ decimal (often i) ++ codes "\n" ++ rule_lines often (i + 1) rs
+rule_lines often i (r ∷ rs) = rule_line (often i) r ++ rule_lines often (i + 1) rs
 
 -- `  no-rule 2`, of a reason that is there
 abbrev pub reason_line : List ℕ → ℕ → List ℕ

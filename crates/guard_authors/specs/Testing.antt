@@ -1,5 +1,5 @@
 -- What comes of `test`: each case that doesn't come out as it should, how many, and the rules that no case reaches.
-use Rattle.std.specs.Prelude.{◌≡◌, ◌⊎◌, ℕ, ◌+◌, Bool, ◌||◌, bytes_eq, nat_eq, List, [], ◌∷◌, ◌++◌, codes, decimal, unwrap_or, Option, Some, None, option_map, Ok, Err, if◌then◌else◌}
+use Rattle.std.specs.Prelude.{◌≡◌, ◌≢◌, ◌⊎◌, ℕ, ◌+◌, Bool, ◌||◌, bytes_eq, nat_eq, List, [], ◌∷◌, ◌++◌, codes, decimal, unwrap_or, Option, Some, None, option_map, Ok, Err, if◌then◌else◌}
 use Rattle.hex.specs.Hex.{decode_of}
 use Rattle.hex.specs.declared.error.FromHexError.{FromHexError}
 use Rattle.toml.specs.Data.{Items, no_items, item}
@@ -9,8 +9,9 @@ use Rattle.guard_policy.specs.Documents.{IsNoDocument}
 use Rattle.guard_policy.specs.Policies.{AbstractMessage, AbstractPolicy, AbstractRoute, declared_message}
 use Rattle.guard_policy.specs.Verdicts.{AbstractVerdict}
 use Rattle.guard_report.specs.Text.{verdict_octets}
+use Rattle.guard_schema.specs.declared.fault.SchemaFault.{SchemaFault}
+use Rattle.guard_schema.specs.declared.fault.SchemaFault.TheVariants.{OutOfMemory}
 use Rattle.guard_files.specs.declared.fault.Fault.{Fault}
-use Rattle.guard_files.specs.declared.fault.Fault.TheVariants.{NoMemory}
 use Rattle.guard_files.specs.Answers.{AbstractAnswer}
 use Rattle.guard_files.specs.Word.{first_word}
 use Rattle.guard_files.specs.Devices.{Input, Device, IsUnread, IsUntouched}
@@ -23,7 +24,7 @@ use Rattle.guard_authors.specs.Cases.{AbstractCase, case_in, case_text, members_
 use Rattle.guard_authors.specs.Encodes.{IsEncoding}
 use Rattle.guard_authors.specs.NoValue.{no_value_text}
 use Rattle.guard_authors.specs.Reached.{Reaches, cover_lines}
-use Rattle.guard_authors.specs.ValueTexts.{names_for, IsNoValue, OfText}
+use Rattle.guard_authors.specs.ValueTexts.{names_for, IsNoValue}
 
 -- What the words ask for: the cases of a file, or of the one beside the policy, under the policy at a path. The rules that
 -- none reaches are listed to cover them, and where their file is no document is shown to explain it.
@@ -84,8 +85,7 @@ abbrev pub ResultOfValue : AbstractLoaded → AbstractRoute → AbstractMessage 
 ResultOfValue l route d text came =
     ((v : AbstractValue) × (octets : List ℕ) × IsEncoding (names_for l d) d.ty text v octets
     × ResultOfOctets l.policy route octets came)
-    ⊎ ((f : Fault) × OfText (IsNoValue (names_for l d) d.ty text) f × (f ≡ NoMemory → ⊥)
-    × (came ≡ only (no_value_text f)))
+    ⊎ ((f : SchemaFault) × IsNoValue (names_for l d) d.ty text f × (f ≢ OutOfMemory) × (came ≡ only (no_value_text f)))
 
 -- where the message is declared
 abbrev pub ResultOfText : AbstractLoaded → AbstractRoute → Option AbstractMessage → List ℕ → AbstractCaseResult → Type 0
@@ -173,9 +173,12 @@ TestsFile l asked told path out err status =
     ⊎ (IsUntouched out × TellsNoMemory err status)
 
 -- under the policy at its path, which is read first with its modules; or why there is none
-abbrev pub Tests : Told → AbstractTrial → Input → Device → Device → ℕ → Type 0
-Tests told asked input out err status =
-    IsUnread input
-    × (((l : AbstractLoaded) × (later : Told) × IsLoadedAt told asked.policy l × IsLater told later
+abbrev pub TestsPolicy : Told → AbstractTrial → Device → Device → ℕ → Type 0
+TestsPolicy told asked out err status =
+    ((l : AbstractLoaded) × (later : Told) × IsLoadedAt told asked.policy l × IsLater told later
     × TestsFile l asked later (cases_path asked.policy asked.cases) out err status)
-    ⊎ ((f : Fault) × IsNoPolicyAt told asked.policy f × IsUntouched out × Tells f err status))
+    ⊎ ((f : Fault) × IsNoPolicyAt told asked.policy f × IsUntouched out × Tells f err status)
+
+-- and nothing comes in
+abbrev pub Tests : Told → AbstractTrial → Input → Device → Device → ℕ → Type 0
+Tests told asked input out err status = IsUnread input × TestsPolicy told asked out err status

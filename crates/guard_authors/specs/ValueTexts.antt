@@ -13,12 +13,13 @@ use Rattle.guard_values.specs.Meanings.{Meaning}
 use Rattle.guard_schema.specs.Known.{values_in}
 use Rattle.guard_policy.specs.Policies.{AbstractMessage}
 use Rattle.guard_schema.specs.declared.fault.SchemaFault.{SchemaFault}
-use Rattle.guard_schema.specs.declared.fault.SchemaFault.TheVariants.{Lex, Syntax, Name, Tag, Clash, Cons, Value, DefaultOutside, TooLarge, OutOfMemory}
+use Rattle.guard_schema.specs.declared.fault.SchemaFault.TheVariants.{Lex, Syntax, Value, OutOfMemory}
 use Rattle.guard_notes.specs.Notes.{schema_place}
 use Rattle.guard_notes.specs.Sources.{AbstractSources, sources, place_lines}
-use Rattle.guard_files.specs.declared.fault.Fault.{Fault}
-use Rattle.guard_files.specs.declared.fault.Fault.TheVariants.{CannotRead, TooLarge, Schema, Policy, Run, NoMemory}
+use Rattle.guard_files.specs.declared.fault.Fault.TheVariants.{Schema}
+use Rattle.guard_files.specs.Devices.{Device}
 use Rattle.guard_files.specs.Reading.{AbstractLoaded}
+use Rattle.guard_files.specs.Writing.{TellsNoMemory, TellsWith}
 
 -- What values names mean in a text that writes a value of a message: those that they mean in the module of its declared
 -- type (X.680 14.1).
@@ -38,38 +39,24 @@ abbrev pub HaveNoTree : List ℕ → List Token → Type 0
 HaveNoTree text tokens = (tree : WrittenValue) → IsWrittenValue tree (lexemes_of text tokens) → ⊥
 
 -- Why a text writes no value of the type, where names mean this: it has no tokens; the grammar has no value with them;
--- or the tree denotes no value of the type. That memory ran out is none of these.
+-- or the tree denotes no value of the type. That memory ran out may be said in place of any answer.
 abbrev pub IsNoValue : Meaning → AbstractType → List ℕ → SchemaFault → Type 0
 IsNoValue m t text (Lex f) = FirstFault 1 text f
 IsNoValue m t text (Syntax f) =
     (f ≢ syntax.OutOfMemory) × ((tokens : List Token) × Lexes 1 text tokens × HaveNoTree text tokens)
 IsNoValue m t text (Value f) = (tree : WrittenValue) × IsWrittenAs text tree × IsFirstFault m t tree f
-IsNoValue m t text OutOfMemory = ⊥
-IsNoValue m t text (Name f) = ⊥
-IsNoValue m t text (Tag f) = ⊥
-IsNoValue m t text (Clash site clash common) = ⊥
-IsNoValue m t text (Cons f) = ⊥
-IsNoValue m t text (DefaultOutside site) = ⊥
-IsNoValue m t text (TooLarge site) = ⊥
-
--- the fault is one of a text, of which this holds; or memory ran out
-abbrev pub OfText : (SchemaFault → Type 0) → Fault → Type 0
-OfText Is (Schema f) = Is f
-OfText Is NoMemory = Unit {0}
-OfText Is (CannotRead file obstacle) = ⊥
-OfText Is (TooLarge file) = ⊥
-OfText Is (Policy f) = ⊥
-OfText Is (Run f) = ⊥
+IsNoValue m t text OutOfMemory = Unit {0}
+IsNoValue m t text _ = ⊥
 
 -- the text, as the lines that show a place in it name it
 abbrev pub value_sources : List ℕ → AbstractSources
 value_sources text = sources [] (codes "value" ∷ []) (text ∷ [])
 
 -- what comes after the line of such a fault: its place, and the line with a mark under the column
-abbrev pub value_note : List ℕ → Fault → List ℕ
-value_note text (Schema f) = option_map_or (place_lines (value_sources text)) (schema_place f) []
-value_note text (CannotRead file obstacle) = []
-value_note text (TooLarge file) = []
-value_note text (Policy f) = []
-value_note text (Run f) = []
-value_note text NoMemory = []
+abbrev pub value_note : List ℕ → SchemaFault → List ℕ
+value_note text f = option_map_or (place_lines (value_sources text)) (schema_place f) []
+
+-- it is reported with the place
+abbrev pub TellsNoValue : List ℕ → SchemaFault → Device → ℕ → Type 0
+TellsNoValue text OutOfMemory err status = TellsNoMemory err status
+TellsNoValue text f err status = TellsWith (Schema f) (value_note text f) err status

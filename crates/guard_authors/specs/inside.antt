@@ -1,5 +1,4 @@
 -- What only private contracts and proofs cite.
-pub mod TextFaults
 pub mod Caseless
 pub mod Counting
 pub mod Pieces

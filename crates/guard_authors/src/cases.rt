@@ -11,7 +11,7 @@ ghost use Rattle.guard_files.specs.Devices.{device_of};
 ghost use Rattle.guard_files.specs.Writing.{line_of};
 ghost use Rattle.guard_authors.specs.Cases.{TellsNoDocument, no_document};
 ghost use Rattle.guard_authors.specs.Cases.{case_view, text_at, text_of, case_in, members_in, cases_at, case_text};
-ghost use Rattle.guard_authors.specs.Cases.{unknown_text, missing_text, message_text, bad_name_text};
+ghost use Rattle.guard_authors.specs.Cases.{key_text, message_text};
 ghost use Rattle.guard_authors.specs.Cases.{first_unknown, first_missing, first_nameless, name_keys};
 ghost use Rattle.guard_authors.specs.Cases.{required_keys, case_keys, has_one, case_fault, list_fault, cases_fault};
 ghost use Rattle.guard_authors.specs.declared.cases.CasesFault.TheVariants.{NoMemory};
@@ -25,6 +25,12 @@ use guard_notes::explain_policy;
 use guard_policy::{PolicyFault, is_name};
 use std::alloc::{AllocError, Global};
 use toml::{Table, Value};
+
+const UNKNOWN: &str = "T2 UnknownKey";
+
+const MISSING: &str = "T3 MissingKey";
+
+const BAD_NAME: &str = "T5 BadName";
 
 /// Why no cases are tried.
 #[derive(Drop)]
@@ -113,10 +119,10 @@ pub fn cases_of<'a>(alloc: Global, top: &'a Table) -> Result<&'a [Value], CasesF
     ensures none { IfErr result (Meets (cases_fault (table_view top.now))) }
 {
     if let Some(word) = unknown_at_top(top) {
-        return Err(CasesFault::BadFile(unknown_text(alloc, "top", word)?));
+        return Err(CasesFault::BadFile(key_text(alloc, UNKNOWN, "top", word)?));
     }
     let Some(items) = list_at(top) else {
-        return Err(CasesFault::BadFile(missing_text(alloc, "top", "case")?));
+        return Err(CasesFault::BadFile(key_text(alloc, MISSING, "top", "case")?));
     };
     check_cases(alloc, items)?;
     Ok(items)
@@ -159,7 +165,12 @@ fn check_item(alloc: Global, number: usize, item: &Value) -> Result<(), CasesFau
 {
     match item.as_table() {
         Some(table) => check_case(alloc, number, table),
-        None => Err(CasesFault::BadFile(missing_text(alloc, &case_text(alloc, number)?, "from")?)),
+        None => Err(CasesFault::BadFile(key_text(
+            alloc,
+            MISSING,
+            &case_text(alloc, number)?,
+            "from",
+        )?)),
     }
 }
 
@@ -168,16 +179,26 @@ fn check_case(alloc: Global, number: usize, table: &Table) -> Result<(), CasesFa
     ensures none { IfErr result (Meets (case_fault number (table_view table.now))) }
 {
     if let Some(word) = unknown_in_case(table) {
-        return Err(CasesFault::BadFile(unknown_text(alloc, &case_text(alloc, number)?, word)?));
+        return Err(CasesFault::BadFile(key_text(
+            alloc,
+            UNKNOWN,
+            &case_text(alloc, number)?,
+            word,
+        )?));
     }
     if let Some(key) = missing_in_case(table) {
-        return Err(CasesFault::BadFile(missing_text(alloc, &case_text(alloc, number)?, key)?));
+        return Err(CasesFault::BadFile(key_text(alloc, MISSING, &case_text(alloc, number)?, key)?));
     }
     if !has_one(table) {
         return Err(CasesFault::BadFile(message_text(alloc, number)?));
     }
     if let Some(key) = nameless_in_case(table) {
-        return Err(CasesFault::BadFile(bad_name_text(alloc, &case_text(alloc, number)?, key)?));
+        return Err(CasesFault::BadFile(key_text(
+            alloc,
+            BAD_NAME,
+            &case_text(alloc, number)?,
+            key,
+        )?));
     }
     Ok(())
 }
@@ -190,28 +211,17 @@ pub fn case_text(alloc: Global, number: usize) -> Result<String, AllocError>
     format!(in alloc; "case {number}")
 }
 
-fn unknown_text(alloc: Global, place: &str, word: &str) -> Result<String, AllocError>
-    ensures { IfOk result (λ text. string_bytes text ≡ unknown_text place.now word.now) }
+/// A fault at a key of this place.
+fn key_text(alloc: Global, fault: &str, place: &str, key: &str) -> Result<String, AllocError>
+    ensures { IfOk result (λ text. string_bytes text ≡ key_text fault.now place.now key.now) }
 {
-    format!(in alloc; "T2 UnknownKey {place} {word}")
-}
-
-fn missing_text(alloc: Global, place: &str, key: &str) -> Result<String, AllocError>
-    ensures { IfOk result (λ text. string_bytes text ≡ missing_text place.now key.now) }
-{
-    format!(in alloc; "T3 MissingKey {place} {key}")
+    format!(in alloc; "{fault} {place} {key}")
 }
 
 fn message_text(alloc: Global, number: usize) -> Result<String, AllocError>
     ensures { IfOk result (λ text. string_bytes text ≡ message_text (case_text number)) }
 {
     format!(in alloc; "T4 OctetsOrValue case {number}")
-}
-
-fn bad_name_text(alloc: Global, place: &str, key: &str) -> Result<String, AllocError>
-    ensures { IfOk result (λ text. string_bytes text ≡ bad_name_text place.now key.now) }
-{
-    format!(in alloc; "T5 BadName {place} {key}")
 }
 
 // ---- keys

@@ -10,7 +10,7 @@ ghost use Rattle.guard_files.specs.Writing.{TellsNoMemory, TookAll, Writes};
 ghost use Rattle.guard_authors.specs.Comparing.{comparing_view, Compares, ComparesFrames, ComparesUnder, ComparesWith};
 ghost use Rattle.guard_authors.specs.Comparing.{Ends, IsLink, IsMeant, IsStopped, Progress, Reaches, TellsStopped};
 ghost use Rattle.guard_authors.specs.Differing.{comparison_view, compared_status};
-ghost use Rattle.guard_authors.specs.declared.comparing.Origin.TheVariants.{Stream, Link};
+ghost use Rattle.guard_authors.specs.declared.comparing.Origin.TheVariants.{Stream};
 ghost use Rattle.guard_authors.specs.declared.comparing.Uncompared.TheVariants.{Run};
 ghost use Rattle.guard_authors.specs.inside.Counting.{total_text, AreCounted};
 ghost use Rattle.guard_authors.specs.inside.Pieces.{of_stop, AddsPiece, EndsBehind, HasPassed, HasTaken, StopsReading};
@@ -351,7 +351,8 @@ fn pass(
 
 // ---- the octets
 
-/// How many octets come next, which are the first ones in the room then; none at the end.
+/// How many octets come next, which are the first ones in the room then; none at the end. Of a link they are those in
+/// the next record, of which one of another link has none, and the end of the link is the end.
 fn next_piece<S: Source>(
     input: &mut S,
     origin: Origin,
@@ -367,10 +368,13 @@ fn next_piece<S: Source>(
     ensures counted { WentUpBy (S.takes input.old) (reads.old - reads.new) (S.takes input.new) }
     ensures fewer { reads.new ≤ reads.old }
 {
-    match origin {
-        Origin::Stream => next_octets(input, room, reads),
-        Origin::Link(link) => next_of_link(input, link, room, reads),
-    }
+    let Origin::Link(link) = origin else {
+        return next_octets(input, room, reads);
+    };
+    let Some(header) = next_record(input, room, reads)? else {
+        return Ok(None);
+    };
+    Ok(size_of_link(header, link))
 }
 
 fn next_octets<S: Source>(
@@ -396,26 +400,4 @@ fn next_octets<S: Source>(
         Ok(size) => Ok(Some(size)),
         Err(_) => Err(Stop::ReadFailed),
     }
-}
-
-/// The octets of the link in the next record, of which others have none; the end of the link is the end.
-fn next_of_link<S: Source>(
-    input: &mut S,
-    link: u64,
-    room: &mut [u8],
-    reads: &mut u64,
-) -> Result<Option<usize>, Stop>
-    requires { length room.old ≡ 1048576 }
-    ensures piece { IfOk result (λ found. IfSome found (λ n. (n ≤ 1048576) × (reads.new < reads.old)
-        × AddsPiece (Link link) (S.tells input.old) (S.tells input.new) (take n room.new))) }
-    ensures end { IfOk result (λ found. found ≡ None → EndsBehind (Link link) (S.tells input.old) (S.tells input.new)) }
-    ensures none { IfErr result (λ s. StopsReading (Link link) s (S.tells input.old) (S.tells input.new)
-        (S.has_failed input.new) reads.new) }
-    ensures counted { WentUpBy (S.takes input.old) (reads.old - reads.new) (S.takes input.new) }
-    ensures fewer { reads.new ≤ reads.old }
-{
-    let Some(header) = next_record(input, room, reads)? else {
-        return Ok(None);
-    };
-    Ok(size_of_link(header, link))
 }

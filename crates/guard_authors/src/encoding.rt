@@ -10,19 +10,18 @@ ghost use Rattle.guard_eval.specs.Violations.{violation, violation_view};
 ghost use Rattle.guard_policy.specs.PolicyView.{policy_view};
 ghost use Rattle.guard_policy.specs.SaidView.{said_message_view};
 ghost use Rattle.guard_files.specs.Devices.{source_of, device_of, IsUntouched};
-ghost use Rattle.guard_files.specs.Explaining.{TellsWith};
 ghost use Rattle.guard_files.specs.Reading.{loaded_view};
 ghost use Rattle.guard_files.specs.Remarked.{remarked_view};
 ghost use Rattle.guard_authors.specs.Encodes.{encoding_view, in_form, line_of_violation, violation_status};
 ghost use Rattle.guard_authors.specs.Encodes.{IsEncoded, IsUnframed, EncodesText, EncodesGiven, EncodesUnder, Encodes};
 ghost use Rattle.guard_authors.specs.Framing.{IsPayload, HasNoPayload};
-ghost use Rattle.guard_authors.specs.ValueTexts.{names_for, value_note, IsNoValue, OfText};
+ghost use Rattle.guard_authors.specs.ValueTexts.{names_for, value_note, IsNoValue, TellsNoValue};
 
 use crate::framing::frame;
 use crate::written::encoded;
 use guard_eval::{Violation, first_violation};
 use guard_files::{
-    Fault, Files, Loaded, Remarked, Texts, read_all, tell, tell_line, tell_no_memory, tell_text,
+    Fault, Files, Loaded, Remarked, read_all, tell, tell_line, tell_no_memory, tell_text,
     tell_with, write_remarked,
 };
 use guard_frames::{Sink, Source};
@@ -30,6 +29,7 @@ use guard_model::{OutOfMemory, Ty, Value};
 use guard_notes::{Sources, place_lines, schema_place};
 use guard_policy::{Policy, Route, SaidMessage, Verdict};
 use guard_report::verdict_text;
+use guard_schema::SchemaFault;
 use std::alloc::Global;
 
 /// What `encode` is asked for: the octets of a value of this message, under the policy at a path.
@@ -63,14 +63,10 @@ pub fn encode<F: Files, S: Source, O: Sink, E: Sink>(
         (device_of O.taken O.has_failed out.old out.new)
         (device_of E.taken E.has_failed err.old err.new) result }
 {
-    let texts = match Texts::read(alloc, asked.policy, files) {
-        Ok(texts) => texts,
-        Err(fault) => return tell(alloc, &fault, err),
-    };
-    let mut trees = Vec::new(alloc);
-    match Loaded::of(alloc, &texts, &mut trees) {
+    let (mut texts, mut trees) = (None, Vec::new(alloc));
+    match Loaded::at(alloc, asked.policy, false, files, &mut texts, &mut trees) {
         Ok(loaded) => encode_under(alloc, asked, &loaded, input, out, err),
-        Err(fault) => tell(alloc, &fault, err),
+        Err(refusal) => tell(alloc, &refusal.fault, err),
     }
 }
 
@@ -154,28 +150,27 @@ fn encode_text<O: Sink, E: Sink>(
     match answer(alloc, asked, loaded, message, text) {
         Ok(Some(encoded)) => write_remarked(&encoded, out, err),
         Ok(None) => tell_text(alloc, "bad frame", 2, err),
-        Err(fault) => tell_no_value(alloc, text, &fault, err),
+        Err(fault) => tell_no_value(alloc, text, fault, err),
     }
 }
 
 /// Reports why the text writes no value, with the place.
-fn tell_no_value<E: Sink>(alloc: Global, text: &[u8], fault: &Fault, err: &mut E) -> u8
-    ensures { TellsWith fault.now (value_note text.now fault.now)
-        (device_of E.taken E.has_failed err.old err.new) result }
+fn tell_no_value<E: Sink>(alloc: Global, text: &[u8], fault: SchemaFault, err: &mut E) -> u8
+    ensures { TellsNoValue text.now fault (device_of E.taken E.has_failed err.old err.new) result }
 {
-    match value_note(alloc, text, fault) {
-        Ok(note) => tell_with(alloc, fault, &note, err),
-        Err(_) => tell_no_memory(err),
+    let Ok(note) = value_note(alloc, text, &fault) else {
+        return tell_no_memory(err);
+    };
+    match fault {
+        SchemaFault::OutOfMemory => tell_no_memory(err),
+        fault => tell_with(alloc, &Fault::Schema(fault), &note, err),
     }
 }
 
 /// The place of a fault of the text, and the line with a mark.
-fn value_note(alloc: Global, text: &[u8], fault: &Fault) -> Result<String, OutOfMemory>
+fn value_note(alloc: Global, text: &[u8], fault: &SchemaFault) -> Result<String, OutOfMemory>
     ensures { IfOk result (λ note. string_bytes note ≡ value_note text.now fault.now) }
 {
-    let Fault::Schema(fault) = fault else {
-        return Ok(String::new(alloc));
-    };
     let Some(place) = schema_place(fault) else {
         return Ok(String::new(alloc));
     };
@@ -198,14 +193,14 @@ fn answer(
     loaded: &Loaded,
     message: &SaidMessage,
     text: &[u8],
-) -> Result<Option<Remarked>, Fault>
+) -> Result<Option<Remarked>, SchemaFault>
     requires { IsTrue (is_sound (type_view message.now.ty.now)) }
     ensures encoded { IfOk result (λ found. IfSome found (λ e. IsEncoded (loaded_view loaded.now)
         (said_message_view message.now) (encoding_view asked.now) text.now (remarked_view e))) }
     ensures unframed { IfOk result (λ found. found ≡ None → IsUnframed (loaded_view loaded.now)
         (said_message_view message.now) (encoding_view asked.now) text.now) }
-    ensures none { IfErr result (OfText (IsNoValue (names_for (loaded_view loaded.now) (said_message_view message.now))
-        (type_view message.now.ty.now) text.now)) }
+    ensures none { IfErr result (IsNoValue (names_for (loaded_view loaded.now) (said_message_view message.now))
+        (type_view message.now.ty.now) text.now) }
 {
     let (value, octets) = encoded(alloc, &loaded.modules, message, text)?;
     let held = payload(alloc, asked, octets)?;

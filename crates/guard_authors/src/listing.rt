@@ -212,7 +212,8 @@ fn add_messages(
     strict: bool,
 ) -> Result<(), OutOfMemory>
     ensures { OnOk result (text.new.items
-        ≡ text.old.items ++ messages_lines strict (map found_view rules.now) (policy_view policy.now).messages) }
+        ≡ text.old.items ++ messages_lines strict (map found_view rules.now)
+        (map (λ m. m.name) (policy_view policy.now).messages)) }
 {
     for place in 0..policy.messages() {
         let Some(message) = policy.message_name(place) else {

@@ -1,9 +1,8 @@
 //! The text of a fault for which a text writes no value.
 ghost use Rattle.std.specs.Prelude.{◌≡◌, ◌++◌, [], codes, IfOk};
-ghost use Rattle.guard_authors.specs.NoValue.{at_site, at_text, lex_text, syntax_text, value_text, schema_text};
-ghost use Rattle.guard_authors.specs.NoValue.{no_value_text};
+ghost use Rattle.guard_authors.specs.NoValue.{at_site, at_text, lex_text, syntax_text, value_text, no_value_text};
 
-use guard_files::{Fault, add};
+use guard_files::add;
 use guard_lexer::LexFault;
 use guard_model::{OutOfMemory, Site};
 use guard_schema::SchemaFault;
@@ -12,21 +11,8 @@ use guard_values::ValueFault;
 use std::alloc::Global;
 
 /// The number, the name and the place of the fault. Of one that no text of a value has there is none.
-pub fn no_value_text(alloc: Global, fault: &Fault) -> Result<Vec<u8>, OutOfMemory>
+pub fn no_value_text(alloc: Global, fault: &SchemaFault) -> Result<Vec<u8>, OutOfMemory>
     ensures { IfOk result (λ text. text.items ≡ no_value_text fault.now) }
-{
-    match fault {
-        Fault::Schema(fault) => schema_text(alloc, fault),
-        Fault::CannotRead(_, _)
-        | Fault::TooLarge(_)
-        | Fault::Policy(_)
-        | Fault::Run(_)
-        | Fault::NoMemory => Ok(Vec::new(alloc)),
-    }
-}
-
-fn schema_text(alloc: Global, fault: &SchemaFault) -> Result<Vec<u8>, OutOfMemory>
-    ensures { IfOk result (λ text. text.items ≡ schema_text fault.now) }
 {
     match fault {
         SchemaFault::Lex(fault) => lex_text(alloc, fault),

@@ -23,7 +23,7 @@ pub fn reached(
         (verdict_view verdict.now) numbers.items) }
 {
     match verdict {
-        Verdict::Pass => allowing_octets(alloc, policy, route, octets),
+        Verdict::Pass => Ok(allowing_octets(alloc, policy, route, octets)?.numbers),
         Verdict::DeniedBy(number) => Ok(Vec::from_slice(alloc, &[*number])?),
         _ => Ok(Vec::new(alloc)),
     }

@@ -1,8 +1,5 @@
 //! Which cases that are kept beside a policy come out as they should.
-ghost use Rattle.std.specs.Prelude.{◌≡◌, ◌⊎◌, ◌++◌, codes, option_map, string_bytes};
-ghost use Rattle.std.specs.Prelude.{Ok, Err, IfOk, IfErr, OnOk, IsTrue};
-ghost use Rattle.hex.specs.Hex.{decode_of};
-ghost use Rattle.hex.specs.declared.error.FromHexError.{FromHexError};
+ghost use Rattle.std.specs.Prelude.{◌≡◌, ◌++◌, option_map, string_bytes, IfOk, IfErr, OnOk, IsTrue};
 ghost use Rattle.toml.specs.Data.{Items};
 ghost use Rattle.toml.specs.View.{items_view};
 ghost use Rattle.guard_der.specs.Sound.{is_sound};
@@ -12,13 +9,11 @@ ghost use Rattle.guard_policy.specs.Policies.{declared_message};
 ghost use Rattle.guard_policy.specs.PolicyView.{policy_view, route_view};
 ghost use Rattle.guard_policy.specs.SaidView.{said_message_view};
 ghost use Rattle.guard_files.specs.Answers.{answer_view};
-ghost use Rattle.guard_files.specs.Devices.{device_of, IsUntouched};
-ghost use Rattle.guard_files.specs.Files.{Told, IsLater};
-ghost use Rattle.guard_files.specs.Reading.{AbstractLoaded, IsLoadedAt, IsNoPolicyAt, loaded_view};
-ghost use Rattle.guard_files.specs.Writing.{Tells};
+ghost use Rattle.guard_files.specs.Devices.{device_of};
+ghost use Rattle.guard_files.specs.Reading.{loaded_view};
 ghost use Rattle.guard_authors.specs.Cases.{case_view, SaysCases, IsCasesFault};
 ghost use Rattle.guard_authors.specs.Testing.{AreTried, ResultOfDigits, ResultOfOctets, ResultOfText, ResultOfValue};
-ghost use Rattle.guard_authors.specs.Testing.{IsCaseResult, IsTested, TestsFile, TestsText};
+ghost use Rattle.guard_authors.specs.Testing.{IsCaseResult, IsTested, TestsFile, TestsPolicy, TestsText};
 ghost use Rattle.guard_authors.specs.Testing.{case_result_view, trial_view};
 ghost use Rattle.guard_authors.specs.Testing.{case_line, case_route};
 ghost use Rattle.guard_authors.specs.Testing.{cases_path, differing_line, digits_in, failures, is_blank, is_wanted};
@@ -30,14 +25,14 @@ use crate::no_value::no_value_text;
 use crate::reached::{cover_lines, reached};
 use crate::written::encoded;
 use guard_files::{
-    Answer, Fault, Files, Loaded, Texts, add, first_word, read, tell, tell_no_memory, tell_text,
-    write,
+    Answer, Files, Loaded, add, first_word, read, tell, tell_no_memory, tell_text, write,
 };
 use guard_frames::Sink;
 use guard_model::OutOfMemory;
 use guard_notes::beside;
 use guard_policy::{Policy, Route, SaidMessage};
 use guard_report::verdict_text;
+use guard_schema::SchemaFault;
 use hex::FromHexError;
 use std::alloc::{AllocError, Global};
 use toml::Value;
@@ -67,24 +62,13 @@ pub fn test<F: Files, O: Sink, E: Sink>(
     out: &mut O,
     err: &mut E,
 ) -> u8
-    ensures { ((l : AbstractLoaded) × (later : Told) × IsLoadedAt (F.told files.old) (trial_view asked.now).policy l
-        × IsLater (F.told files.old) later
-        × TestsFile l (trial_view asked.now) later
-        (cases_path (trial_view asked.now).policy (trial_view asked.now).cases)
-        (device_of O.taken O.has_failed out.old out.new)
-        (device_of E.taken E.has_failed err.old err.new) result)
-        ⊎ ((f : Fault) × IsNoPolicyAt (F.told files.old) (trial_view asked.now).policy f
-        × IsUntouched (device_of O.taken O.has_failed out.old out.new)
-        × Tells f (device_of E.taken E.has_failed err.old err.new) result) }
+    ensures { TestsPolicy (F.told files.old) (trial_view asked.now) (device_of O.taken O.has_failed out.old out.new)
+        (device_of E.taken E.has_failed err.old err.new) result }
 {
-    let texts = match Texts::read(alloc, asked.policy, files) {
-        Ok(texts) => texts,
-        Err(fault) => return tell(alloc, &fault, err),
-    };
-    let mut trees = Vec::new(alloc);
-    match Loaded::of(alloc, &texts, &mut trees) {
+    let (mut texts, mut trees) = (None, Vec::new(alloc));
+    match Loaded::at(alloc, asked.policy, false, files, &mut texts, &mut trees) {
         Ok(loaded) => test_beside(alloc, &loaded, asked, files, out, err),
-        Err(fault) => tell(alloc, &fault, err),
+        Err(refusal) => tell(alloc, &refusal.fault, err),
     }
 }
 
@@ -281,17 +265,13 @@ fn add_name(lines: &mut Vec<u8>, name: Option<&str>) -> Result<(), OutOfMemory>
     ensures { OnOk result (lines.new.items ≡ lines.old.items ++ name_text (option_map (λ name. name.now) name.entry)) }
 {
     match name {
-        Some(name) => add_bracketed(lines, name),
+        Some(name) => {
+            add(lines, b" (")?;
+            add(lines, name.as_bytes())?;
+            add(lines, b")")
+        }
         None => Ok(()),
     }
-}
-
-fn add_bracketed(lines: &mut Vec<u8>, name: &str) -> Result<(), OutOfMemory>
-    ensures { OnOk result (lines.new.items ≡ lines.old.items ++ (codes " (" ++ name.now ++ codes ")")) }
-{
-    add(lines, b" (")?;
-    add(lines, name.as_bytes())?;
-    add(lines, b")")
 }
 
 /// What came is what is wanted, or its first word is.
@@ -406,7 +386,7 @@ fn result_of_value(
 {
     match encoded(alloc, &loaded.modules, message, text) {
         Ok((_, octets)) => result_of_octets(alloc, &loaded.policy, route, &octets),
-        Err(Fault::NoMemory) => Err(OutOfMemory),
+        Err(SchemaFault::OutOfMemory) => Err(OutOfMemory),
         Err(fault) => Ok(only(alloc, no_value_text(alloc, &fault)?)),
     }
 }

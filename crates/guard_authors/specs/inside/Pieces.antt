@@ -77,14 +77,12 @@ HasTaken c octets old left new out =
     (lines : List ℕ) × AreCompared c octets old left lines new × IsUnfinished left × TookAll lines out
 
 -- A length is too great, standard output failed, or memory ran out, before the lines were written or behind that.
+abbrev pub IsBroken : Uncompared → List ℕ → List ℕ → Device → Type 0
+IsBroken (Run run.FrameTooLong) left lines out = IsTooLong left × TookAll lines out
+IsBroken (Run run.WriteFailed) left lines out = TookPart lines out
+IsBroken (Run run.OutOfMemory) left lines out = TookAll lines out
+IsBroken _ left lines out = ⊥
+
 abbrev pub StopsTaking : AbstractComparison → List ℕ → Sums → Uncompared → Device → Type 0
-StopsTaking c octets old (Run run.FrameTooLong) out =
-    (left : List ℕ) × (lines : List ℕ) × (new : Sums) × AreCompared c octets old left lines new × IsTooLong left
-    × TookAll lines out
-StopsTaking c octets old (Run run.WriteFailed) out =
-    (left : List ℕ) × (lines : List ℕ) × (new : Sums) × AreCompared c octets old left lines new × TookPart lines out
-StopsTaking c octets old (Run run.OutOfMemory) out =
-    (left : List ℕ) × (lines : List ℕ) × (new : Sums) × AreCompared c octets old left lines new × TookAll lines out
-StopsTaking c octets old (Run run.TornFrame) out = ⊥
-StopsTaking c octets old (Run run.ReadFailed) out = ⊥
-StopsTaking c octets old BadRecord out = ⊥
+StopsTaking c octets old u out =
+    (left : List ℕ) × (lines : List ℕ) × (new : Sums) × AreCompared c octets old left lines new × IsBroken u left lines out

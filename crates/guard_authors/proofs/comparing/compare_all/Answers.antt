@@ -1,9 +1,9 @@
-use Rattle.std.proofs.Common.{◌<◌, ◌≤◌, ◌^◌, ℕ, arith, take}
-use Rattle.std.proofs.lemmas.Result.{err_from_is_err_and}
+use Rattle.std.proofs.Common.{◌<◌, ◌≤◌, ◌^◌, ◌∙◌, ℕ, arith, sym, take}
+use Rattle.std.proofs.lemmas.Result.{IfErr-weaker, IfOk-weaker, err_from_is_err_and}
 use Rattle.guard_frames.specs.Totals.{WentUpBy}
 use Rattle.guard_files.proofs.RecordLaws.{found_size, asked_more, asked_all}
 use Rattle.guard_authors.specs.inside.Pieces.{AddsPiece}
-use Rattle.guard_authors.proofs.FramesCompared.{none_compared, nothing_begun, one_taken, stopped_taking, ended_whole, ended_torn, stopped_reading, lost_at_last}
+use Rattle.guard_authors.proofs.FramesCompared.{none_compared, nothing_begun, one_taken, stopped_taking, all_compared, torn_at_end, stopped_reading, lost_at_last}
 use Rattle.guard_authors.proofs.comparing.compare_all.Goals as goal
 
 pub loop-init : goal.loop-init
@@ -29,13 +29,15 @@ returns-in_err-size-clause-stopped g c =
 
 pub returns-in_default-clause-all : goal.returns-in_default-clause-all
 returns-in_default-clause-all g c =
-    ended_whole _ _ _ _ _ _ _ _ c.loop.invariant.so_far _ _ _ _ (g.O.Sink.has_failed c.loop.out) c.ended.result
-    c.deref.result.now c.deref.ensures.value c.ended.ensures.whole (c.in_ok-size.ensures.end c.in_default.is)
+    IfOk-weaker c.ended.result _ _
+    (λ x h. all_compared _ _ _ _ _ _ _ _ c.loop.invariant.so_far _ _ _ _ (g.O.Sink.has_failed c.loop.out) x
+    (c.in_ok-size.ensures.end c.in_default.is) h.0 (sym c.deref.ensures.value ∙ h.1)) c.ended.ensures.whole
 
 pub returns-in_default-clause-stopped : goal.returns-in_default-clause-stopped
 returns-in_default-clause-stopped g c =
-    ended_torn _ _ _ _ _ _ _ _ c.loop.invariant.so_far _ _ _ _ _ c.ended.result c.deref.result.now c.deref.ensures.value
-    c.ended.ensures.torn (c.in_ok-size.ensures.end c.in_default.is)
+    IfErr-weaker c.ended.result _ _
+    (λ u h. torn_at_end _ _ _ _ _ _ _ _ c.loop.invariant.so_far _ _ _ _ (g.O.Sink.has_failed c.loop.out) u
+    (c.in_ok-size.ensures.end c.in_default.is) h.0 (rw c.deref.ensures.value at h.1)) c.ended.ensures.torn
 
 pub returns-in_err-take_piece-clause-stopped : goal.returns-in_err-take_piece-clause-stopped
 returns-in_err-take_piece-clause-stopped g c =

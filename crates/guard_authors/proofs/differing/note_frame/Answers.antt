@@ -1,19 +1,17 @@
 use Rattle.std.proofs.Common.{◌∙◌, sym, true≢false}
+use Rattle.std.proofs.lemmas.List.{append-nil}
 use Rattle.std.proofs.lemmas.Result.{on_ok_weaker}
-use Rattle.guard_authors.proofs.RowsCounted.{none_written, ok_if, one_written}
+use Rattle.guard_authors.proofs.RowsCounted.{ok_if}
 use Rattle.guard_authors.proofs.differing.note_frame.Goals as goal
 
 pub returns-then-comparison-clause-line : goal.returns-then-comparison-clause-line
-returns-then-comparison-clause-line c =
-    ok_if c.count.result (none_written c.args.comparison.now.summary c.args.lines.now.items c.args.line.now c.if-comparison.true)
+returns-then-comparison-clause-line c = ok_if c.count.result (rw c.if-comparison.true (sym (append-nil c.args.lines.now.items)))
 
 pub returns-then-comparison-clause-counted : goal.returns-then-comparison-clause-counted
 returns-then-comparison-clause-counted c = on_ok_weaker c.count.result (λ h asked. h) c.count.ensures.counted
 
 pub returns-else-comparison-clause-line : goal.returns-else-comparison-clause-line
-returns-else-comparison-clause-line c =
-    on_ok_weaker c.add.result (one_written c.args.comparison.now.summary c.args.lines.now.items c.add.new.text.items c.args.line.now c.if-comparison.false)
-    c.add.ensures
+returns-else-comparison-clause-line c = rw c.if-comparison.false c.add.ensures
 
 pub returns-else-comparison-clause-counted : goal.returns-else-comparison-clause-counted
 returns-else-comparison-clause-counted c =

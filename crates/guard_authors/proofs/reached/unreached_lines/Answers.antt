@@ -1,33 +1,24 @@
-use Rattle.std.proofs.Common.{◌≤◌, ◌∙◌, ◌++◌, List, length, sym, ap, arith}
-use Rattle.std.proofs.lemmas.List.{drop_all, append-nil}
-use Rattle.guard_policy.specs.Policies.{AbstractRule}
+use Rattle.std.proofs.Common.{arith, refl, sym}
 use Rattle.guard_policy.specs.PolicyView.{policy_view, said_view}
-use Rattle.guard_files.proofs.AllowingLaws.{none_of}
+use Rattle.guard_files.proofs.AllowingLaws.{none_of, past_all}
 use Rattle.guard_authors.specs.Reached.{unreached_lines}
-use Rattle.guard_authors.proofs.ReachedLaws.{one_unreached}
+use Rattle.guard_authors.proofs.ListingLaws.{one_told}
 use Rattle.guard_authors.proofs.reached.unreached_lines.Goals as goal
 
 pub unreachable-requires : goal.unreachable-requires
 unreachable-requires c =
-    let p = policy_view c.args.policy.now in
-    let within = c.loop-number-test.true in
-    let many = c.rules-number-end.ensures in
-    none_of p.rules c.loop-number.number (sym (rw c.in_default.is at c.rule.ensures)) (omega (arith, within, many))
+    none_of (policy_view c.args.policy.now).rules c.loop-number.number (sym (rw c.in_default.is at c.rule.ensures))
+    (omega (arith, c.loop-number-test.true, c.rules-number-end.ensures))
 
 pub loop-number-preserved : goal.loop-number-preserved
 loop-number-preserved c =
-    let p = policy_view c.args.policy.now in
-    let reached = c.args.reached.now in
+    let i = c.loop-number.number in
     rw c.in_ok-add_unreached.ensures
-    (one_unreached reached p.rules c.loop-number.number (said_view c.in-Some.rule) c.loop-number.lines.items (unreached_lines reached 0 p.rules) (sym c.in-Some.ensures) c.loop-number.invariant)
+    (one_told (unreached_lines c.args.reached.now i) (policy_view c.args.policy.now).rules i (said_view c.in-Some.rule) _ _ _ _
+    (sym c.in-Some.ensures) refl c.loop-number.invariant)
 
 pub returns : goal.returns
 returns c =
-    let p = policy_view c.args.policy.now in
-    let reached = c.args.reached.now in
-    let past = c.loop-number-test.false in
-    let many = c.rules-number-end.ensures in
-    let all : length p.rules ≤ c.loop-number.number = omega (arith, past, many) in
-    sym (append-nil c.loop-number.lines.items)
-    ∙ ap (λ (rest : List AbstractRule). c.loop-number.lines.items ++ unreached_lines reached c.loop-number.number rest) (sym (drop_all c.loop-number.number p.rules all))
-    ∙ c.loop-number.invariant
+    let i = c.loop-number.number in
+    past_all (unreached_lines c.args.reached.now i) (policy_view c.args.policy.now).rules i _ _ refl
+    (omega (arith, c.loop-number-test.false, c.rules-number-end.ensures)) c.loop-number.invariant

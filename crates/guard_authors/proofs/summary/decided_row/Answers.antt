@@ -3,7 +3,7 @@ use Rattle.guard_policy.specs.Decisions.{IsReason}
 use Rattle.guard_policy.specs.Policies.{AbstractRoute}
 use Rattle.guard_policy.specs.PolicyView.{policy_view, route_view}
 use Rattle.guard_policy.specs.Told.{IsAllowedBy}
-use Rattle.guard_policy.specs.Verdicts.{AbstractVerdict, verdict_view}
+use Rattle.guard_policy.specs.Verdicts.{verdict_view}
 use Rattle.guard_policy.proofs.Goes.{goes_from_passes}
 use Rattle.guard_authors.proofs.summary.decided_row.Goals as goal
 
@@ -16,10 +16,9 @@ reason_as_told-requires c = c.in-Stopped.ensures.1
 
 pub reason_of-requires : goal.reason_of-requires
 reason_of-requires c = λ passes.
-    let p = policy_view c.args.policy.now in
-    let route = route_view c.route_of-route.result in
-    let octets = c.args.body.now.message_octets.now in
-    c.in-Stopped.ensures.0 (goes_from_passes p route octets (subst (λ (w : AbstractVerdict). IsReason p route octets w) passes c.in_ok-verdict-in-Stopped.ensures))
+    c.in-Stopped.ensures.0
+    (goes_from_passes (policy_view c.args.policy.now) (route_view c.route_of-route.result) c.args.body.now.message_octets.now
+    (rw passes at c.in_ok-verdict-in-Stopped.ensures))
 
 pub returns-in_ok-verdict-in-Stopped : goal.returns-in_ok-verdict-in-Stopped
 returns-in_ok-verdict-in-Stopped c =

@@ -1,7 +1,9 @@
 -- Each stream is read as records and a rest with which no record begins.
-use Rattle.std.proofs.Common.{◌≡◌, ◌∙◌, ◌≤◌, ◌+◌, ◌⊎◌, inl, inr, ℕ, zero, suc, Bool, true, false, nat_eq, nat_le, List, [], ◌∷◌, ◌++◌, ap, refl, sym, subst, length, take, drop, get_or, arith, length-append}
+use Rattle.std.proofs.Common.{◌≡◌, ◌∙◌, ◌≤◌, ◌+◌, ◌⊎◌, inl, inr, ℕ, zero, suc, Bool, true, false, nat_le, List, [], ◌∷◌, ◌++◌, ap, refl, sym, subst, length, take, drop, get_or, arith, length-append, true≢false}
+use Rattle.std.specs.Str.{bytes_eq}
 use Rattle.std.specs.Int.{w16, w32, from_be_bytes}
 use Rattle.std.proofs.lemmas.List.Elements.{All-cons}
+use Rattle.std.proofs.lemmas.Slice.Eq.{bytes_eq-Decides}
 use Rattle.std.proofs.lemmas.Nat.{from_be_bytes-to_be_bytes_2, from_be_bytes-to_be_bytes_4}
 use Rattle.std.proofs.Math.Seq.{take-append_seam, drop-append_seam}
 use Rattle.guard_frames.proofs.Elements.{All_none}
@@ -15,22 +17,9 @@ le_by : (n m : ℕ) (b : Bool) → nat_le n m ≡ b → (n ≤ m) ⊎ (n ≤ m �
 le_by n m true e = inl (grind (arith, e))
 le_by n m false e = inr (λ h. grind (arith, e, h))
 
-eq_by : (n m : ℕ) (b : Bool) → nat_eq n m ≡ b → (n ≡ m) ⊎ (n ≡ m → ⊥)
-eq_by n m true e = inl (grind (arith, e))
-eq_by n m false e = inr (λ h. grind (arith, e, h))
-
-same_by : (xs ys : List ℕ) → (xs ≡ ys) ⊎ (xs ≡ ys → ⊥)
-same_by [] [] = inl refl
-same_by [] (y ∷ ys) = inr (λ e. cc)
-same_by (x ∷ xs) [] = inr (λ e. cc)
-same_by (x ∷ xs) (y ∷ ys) = elim (eq_by x y (nat_eq x y) refl) [
-  | inl first ↦ elim (same_by xs ys) [
-    | inl rest ↦ inl (cc (first, rest))
-    | inr differs ↦ inr
-        (λ e. differs (ap (λ (s : List ℕ). drop 1 s) e))
-  ]
-  | inr differs ↦ inr (λ e. differs (ap (λ (s : List ℕ). get_or s 0 0) e))
-]
+same_by : (xs ys : List ℕ) (b : Bool) → bytes_eq xs ys ≡ b → (xs ≡ ys) ⊎ (xs ≡ ys → ⊥)
+same_by xs ys true e = inl ((bytes_eq-Decides xs ys).0 e)
+same_by xs ys false e = inr (λ is. true≢false (sym ((bytes_eq-Decides xs ys).1 is) ∙ e))
 
 allowed_by : (r : Record) → IsAllowed r ⊎ (IsAllowed r → ⊥)
 allowed_by (piece link octets) = elim (le_by link 15 (nat_le link 15) refl) [
@@ -76,7 +65,7 @@ begins_with s r more is =
 
 first_of : (s : List ℕ) → ((r : Record) × IsAllowed r × Begins s r) ⊎ HasNoRecord s
 first_of s = elim (allowed_by (candidate s)) [
-  | inl ok ↦ elim (same_by s (record_octets (candidate s) ++ drop (length (record_octets (candidate s))) s)) [
+  | inl ok ↦ elim (same_by s (record_octets (candidate s) ++ drop (length (record_octets (candidate s))) s) _ refl) [
     | inl is ↦ inl (candidate s, ok, is)
     | inr differs ↦ inr (λ q more allowed is. differs (subst (Begins s)
         (sym (ap candidate is ∙ candidate_is q more allowed)) (begins_with s q more is)))

@@ -4,7 +4,6 @@ pub mod Filled
 pub mod Asked
 pub mod OneRequest
 pub mod Showing
-pub mod Meetings
 pub mod RecordsRead
 pub mod OwnRecords
 pub mod Statuses

@@ -1,16 +1,15 @@
 use Rattle.std.proofs.Common.{refl}
-use Rattle.guard_files.specs.Devices.{input_of, device}
+use Rattle.guard_files.specs.Devices.{device}
+use Rattle.guard_files.proofs.GivenAnswers.{gives}
 use Rattle.guard_streams.specs.Counting.{display_of}
 use Rattle.guard_messages.specs.FirstRun.{IsFirst, IsNoFirst}
-use Rattle.derguard_program.proofs.Meetings.{given}
 use Rattle.derguard_program.proofs.meeting.meet.Goals as goal
 
 pub returns-in-First : goal.returns-in-First
 returns-in-First g c =
-    let input = input_of (g.S.Source.tells c.args.input.now) (g.S.Source.tells c.args.input.now) (g.S.Source.takes c.args.input.now) (g.S.Source.takes c.args.input.now) (g.S.Source.has_failed c.args.input.now) in
     let out = device (g.O.Sink.taken c.args.out.now) (g.O.Sink.taken c.give.new.out) (g.O.Sink.has_failed c.give.new.out) in
     let err = device (g.E.Sink.taken c.args.err.now) (g.E.Sink.taken c.give.new.err) (g.E.Sink.has_failed c.give.new.err) in
-    rw c.in-First.is (given IsFirst IsNoFirst input out err c.give.result c.first_run.result (refl, refl) c.first_run.ensures.first c.first_run.ensures.none c.give.ensures.written c.give.ensures.told)
+    rw c.in-First.is ((refl, refl), gives IsFirst IsNoFirst out err c.give.result c.first_run.result c.first_run.ensures.first c.first_run.ensures.none c.give.ensures.written c.give.ensures.told)
 
 pub returns-in-Check : goal.returns-in-Check
 returns-in-Check g c = rw c.in-Check.is ((refl, refl), c.check.ensures)

@@ -15,24 +15,20 @@ use Rattle.guard_files.specs.declared.fault.Fault.TheVariants.{Run}
 use Rattle.guard_files.specs.Devices.{Input, Device}
 use Rattle.guard_files.specs.Files.{Told}
 use Rattle.guard_streams.specs.Shown.{Display}
-use Rattle.guard_streams.specs.Stream.{GuardsStream, GuardsToEnd, GuardsUnder, IsNoted, Opens, TellsEnd, TellsNone}
+use Rattle.guard_streams.specs.Stream.{GuardsStream, GuardsToEnd, GuardsUnder, IsNoted, Opens, TellsEnd}
 use Rattle.guard_streams.specs.declared.counts.Counts.{Counts}
 use Rattle.guard_streams.specs.declared.seen.Seen.{Seen}
 use Rattle.derguard_program.specs.RunHeadline.{KeepsHeadline, KeepsBetween}
-use Rattle.derguard_program.proofs.Statuses.{with_least}
+use Rattle.derguard_program.proofs.Statuses.{none_within, with_within}
 
 -- ---- a fault has a status of at least 2
 
-none_least : (verbose : Bool) (f : Fault) (err : Device) (status : ℕ) → TellsNone verbose f err status → 2 ≤ status
-none_least true f err status (line, is, told) = with_least f line err status told
-none_least false f err status told = with_least f _ err status told
-
-end_least : (verbose : Bool) (f : RunFault) (s : Seen) (err : Device) (status : ℕ) → TellsEnd verbose (Err f) s err status
-    → 2 ≤ status
-end_least true f s err status (inl (failed, same, is)) = omega (arith, is)
-end_least true f s err status (inr (said, is, told)) = with_least (Run f) _ err status told
-end_least false f s err status (inl (failed, same, is)) = omega (arith, is)
-end_least false f s err status (inr told) = with_least (Run f) _ err status told
+end_none : (verbose : Bool) (f : RunFault) (s : Seen) (err : Device) (status : ℕ) → TellsEnd verbose (Err f) s err status
+    → status ≤ 1 → ⊥
+end_none true f s err status (inl (failed, same, is)) low = omega (arith, is, low)
+end_none true f s err status (inr (said, is, told)) low = let least = (with_within (Run f) _ err status told).0 in omega (arith, least, low)
+end_none false f s err status (inl (failed, same, is)) low = omega (arith, is, low)
+end_none false f s err status (inr told) low = let least = (with_within (Run f) _ err status told).0 in omega (arith, least, low)
 
 -- ---- the headline
 
@@ -52,8 +48,7 @@ module _ (law : (p : AbstractPolicy) (read : List ℕ) (totals : Totals) (added 
         taken = g.taken;
         holds = law p g.read link.totals g.added g.holds.0.0;
       }
-  ended verbose (Err f) p digest place input out reports Silent link counts is_first display s err status g told low =
-      let least = end_least verbose f s err status told in absurd (omega (arith, least, low))
+  ended verbose (Err f) p digest place input out reports Silent link counts is_first display s err status g told low = absurd (end_none verbose f s err status told low)
 
   to_end : (verbose : Bool) (place : Option (List ℕ)) (p : AbstractPolicy) (digest : List ℕ) (display : Display)
       (input : Input) (out err : Device) (status : ℕ)
@@ -85,21 +80,25 @@ module _ (law : (p : AbstractPolicy) (read : List ℕ) (totals : Totals) (added 
   note_first (Some path) false a b (inr (inl said)) = (_, said)
   note_first (Some path) false a b (inr (inr (part, proper, said))) = (part, said)
 
+  plain_end : (result : Result (Unit {0}) RunFault) (s : Seen) (err : Device) (status : ℕ)
+      → TellsEnd false result s err status → status ≤ 1 → err.after ≡ err.before
+  plain_end (Ok done) s err status (same, is) low = same
+  plain_end (Err f) s err status told low = absurd (end_none false f s err status told low)
+
   notes_last : (verbose : Bool) (result : Result (Unit {0}) RunFault) (s : Seen) (err : Device) (status : ℕ)
       → TellsEnd verbose result s err status → status ≤ 1 → (last : List ℕ) × Appends err.before err.after last
   notes_last true (Ok done) s err status (inl (inl (all, is))) low = (_, all)
   notes_last true (Ok done) s err status (inl (inr (part, is))) low = absurd (omega (arith, is, low))
   notes_last true (Ok done) s err status (inr (inl (all, is))) low = absurd (omega (arith, is, low))
   notes_last true (Ok done) s err status (inr (inr (part, is))) low = absurd (omega (arith, is, low))
-  notes_last false (Ok done) s err status (same, is) low = ([], unchanged err.before err.after same)
-  notes_last verbose (Err f) s err status told low =
-      let least = end_least verbose f s err status told in absurd (omega (arith, least, low))
+  notes_last true (Err f) s err status told low = absurd (end_none true f s err status told low)
+  notes_last false result s err status told low = ([], unchanged err.before err.after (plain_end result s err status told low))
 
   pub keeps : (verbose : Bool) (place : Option (List ℕ)) (told : Told) (path : List ℕ) (display : Display) (input : Input)
       (out err : Device) (status : ℕ) → GuardsStream verbose place told path display input out err status → status ≤ 1
       → KeepsBetween told path input out err
   keeps verbose place told path display input out err status (inl (f, none, unread, untouched, same, tells)) low =
-      let least = none_least verbose f err status tells in absurd (omega (arith, least, low))
+      let least = (none_within verbose f err status tells).0 in absurd (omega (arith, least, low))
   keeps verbose place told path display input out err status (inr (p, digest, (text, modules, are, say, is), opens)) low =
       let o = opened verbose place p digest display input out err status _ opens low in
       let h = o.3 in
@@ -115,21 +114,14 @@ module _ (law : (p : AbstractPolicy) (read : List ℕ) (totals : Totals) (added 
         last.1,
       )
 
-  plain_end : (p : AbstractPolicy) (digest : List ℕ) (display : Display) (input : Input) (out err : Device) (status : ℕ)
-      (result : Result (Unit {0}) RunFault) (s : Seen) (reported : Option (List ℕ))
-      → TellsEnd false result s (record err { before = reported }) status → status ≤ 1 → err.after ≡ reported
-  plain_end p digest display input out err status (Ok done) s reported (same, is) low = same
-  plain_end p digest display input out err status (Err f) s reported told low =
-      let least = end_least false f s (record err { before = reported }) status told in absurd (omega (arith, least, low))
-
   pub keeps_plain : (told : Told) (path : List ℕ) (display : Display) (input : Input) (out err : Device) (status : ℕ)
       → GuardsStream false None told path display input out err status → status ≤ 1
       → KeepsHeadline told path input (out.before, out.after) (err.before, err.after)
   keeps_plain told path display input out err status (inl (f, none, unread, untouched, same, tells)) low =
-      let least = none_least false f err status tells in absurd (omega (arith, least, low))
+      let least = (none_within false f err status tells).0 in absurd (omega (arith, least, low))
   keeps_plain told path display input out err status (inr (p, digest, (text, modules, are, say, is), h)) low =
       let moves = to_end false None p digest display input out err status h low in
-      let last = plain_end p digest display input out err status h.result _ h.reported h.told low in (
+      let last = plain_end h.result _ (record err { before = h.reported }) status h.told low in (
         text,
         modules,
         p,

@@ -21,7 +21,7 @@ use Rattle.guard_files.specs.Records.{Record}
 use Rattle.guard_files.specs.Records.Record.{piece, end, reload}
 use Rattle.guard_files.specs.Writing.{IsFaultLine, TellsOctets, TellsWith}
 use Rattle.guard_streams.specs.AtFault.{IsFaultNote}
-use Rattle.guard_streams.specs.Muxing.{EndsGuarded, Finishes, GuardsLinks, TellsGuarded, TellsStop, TellsStopWith}
+use Rattle.guard_streams.specs.Muxing.{EndsGuarded, Finishes, GuardsLinks, TellsGuarded, TellsStopWith}
 use Rattle.guard_streams.specs.Passing.{marked, fault_line}
 use Rattle.guard_streams.specs.declared.seen.Seen.{Seen}
 use Rattle.guard_streams.specs.Shown.{Shown, Display}
@@ -31,54 +31,37 @@ use Rattle.guard_streams.specs.Verbose.{TellsNotes, fault_lines}
 use Rattle.guard_streams.specs.Turns.{AbstractMux, Written, Happens, PassesOn, InTurn, all_err, status_of, link_status, renewed_note, renewed_seen}
 use Rattle.guard_streams.proofs.Turning.{all_err-append, status_of-append}
 
-fault_most : (f : Fault) → fault_status f ≤ 3
-fault_most (CannotRead file obstacle) = omega arith
-fault_most (TooLarge file) = omega arith
-fault_most (Schema f) = omega arith
-fault_most (Policy f) = omega arith
-fault_most (Run f) = omega arith
-fault_most NoMemory = omega arith
+-- the status of a fault
+abbrev pub IsFaulty : ℕ → Type 0
+IsFaulty status = (2 ≤ status) × (status ≤ 3)
 
-fault_least : (f : Fault) → 2 ≤ fault_status f
-fault_least (CannotRead file obstacle) = omega arith
-fault_least (TooLarge file) = omega arith
-fault_least (Schema f) = omega arith
-fault_least (Policy f) = omega arith
-fault_least (Run f) = omega arith
-fault_least NoMemory = omega arith
+three : IsFaulty 3
+three = (omega arith, omega arith)
 
-octets_least : (octets : List ℕ) (k status : ℕ) (err : Device) → 2 ≤ k → TellsOctets octets k err status → 2 ≤ status
-octets_least octets k status err least (inl (all, same)) = omega (arith, same, least)
-octets_least octets k status err least (inr (part, same)) = omega (arith, same)
+fault_within : (f : Fault) → IsFaulty (fault_status f)
+fault_within (CannotRead file obstacle) = (omega arith, omega arith)
+fault_within (TooLarge file) = (omega arith, omega arith)
+fault_within (Schema f) = (omega arith, omega arith)
+fault_within (Policy f) = (omega arith, omega arith)
+fault_within (Run f) = three
+fault_within NoMemory = three
 
-pub with_least : (f : Fault) (note : List ℕ) (err : Device) (status : ℕ) → TellsWith f note err status → 2 ≤ status
-with_least f note err status (inl (text, is, told)) = octets_least _ (fault_status f) status err (fault_least f) told
-with_least f note err status (inr told) = octets_least _ 3 status err (omega arith) told
+octets_within : (octets : List ℕ) (k status : ℕ) (err : Device) → IsFaulty k → TellsOctets octets k err status → IsFaulty status
+octets_within octets k status err within (inl (all, same)) = subst IsFaulty (sym same) within
+octets_within octets k status err within (inr (part, same)) = subst IsFaulty (sym same) three
 
-octets_most : (octets : List ℕ) (k status : ℕ) (err : Device) → k ≤ 3 → TellsOctets octets k err status → status ≤ 3
-octets_most octets k status err most (inl (all, same)) = omega (arith, same, most)
-octets_most octets k status err most (inr (part, same)) = omega arith
+pub with_within : (f : Fault) (note : List ℕ) (err : Device) (status : ℕ) → TellsWith f note err status → IsFaulty status
+with_within f note err status (inl (text, is, told)) = octets_within _ (fault_status f) status err (fault_within f) told
+with_within f note err status (inr told) = octets_within _ 3 status err three told
 
-with_most : (f : Fault) (note : List ℕ) (err : Device) (status : ℕ) → TellsWith f note err status → status ≤ 3
-with_most f note err status (inl (text, is, told)) = octets_most _ (fault_status f) status err (fault_most f) told
-with_most f note err status (inr told) = octets_most _ 3 status err (omega arith) told
-
-none_most : (verbose : Bool) (f : Fault) (err : Device) (status : ℕ) → TellsNone verbose f err status → status ≤ 3
-none_most true f err status (line, is, told) = with_most f line err status told
-none_most false f err status told = with_most f [] err status told
+pub none_within : (verbose : Bool) (f : Fault) (err : Device) (status : ℕ) → TellsNone verbose f err status → IsFaulty status
+none_within true f err status (line, is, told) = with_within f line err status told
+none_within false f err status told = with_within f [] err status told
 
 notes_most : (octets : List ℕ) (k status : ℕ) (err : Device) → k ≤ 3 → TellsNotes octets k err status → status ≤ 3
-notes_most octets k status err most (inl told) = octets_most octets k status err most told
-notes_most octets k status err most (inr told) = octets_most _ 3 status err (omega arith) told
-
-stop_is : (s : Stop) (err : Device) (status : ℕ) → TellsStop s err status → status ≡ 3
-stop_is BadRecord err status (inl (all, same)) = same
-stop_is BadRecord err status (inr (part, same)) = same
-stop_is ReadFailed err status (inl (all, same)) = same
-stop_is ReadFailed err status (inr (part, same)) = same
-stop_is WriteFailed err status (inl (all, same)) = same
-stop_is WriteFailed err status (inr (part, same)) = same
-stop_is ErrorFailed err status (same, is) = is
+notes_most octets k status err most (inl (inl (all, same))) = omega (arith, same, most)
+notes_most octets k status err most (inl (inr (part, same))) = omega (arith, same)
+notes_most octets k status err most (inr told) = (octets_within _ 3 status err three told).1
 
 -- ---- one record
 
@@ -112,14 +95,9 @@ passed_silent : (link : ℕ) (seen : Option Seen) (g new : AbstractGateway) (e :
 passed_silent link seen g new e w h none =
     h.err ∙ link_silent seen g link e h.added.reports h.note h.answer h.noted (sym h.status ∙ none)
 
-line_most : (f : Fault) (line : List ℕ) (status : ℕ) → IsFaultLine f line status → status ≤ 3
-line_most f line status (inl (text, is, same, greatest)) = let most = fault_most f in omega (arith, greatest, most)
-line_most f line status (inr (same, greatest)) = omega arith
-
-line_some : (f : Fault) (line : List ℕ) (status : ℕ) → IsFaultLine f line status → status ≡ 0 → ⊥
-line_some f line status (inl (text, is, same, greatest)) none =
-    let least = fault_least f in omega (arith, least, greatest, none)
-line_some f line status (inr (same, greatest)) none = omega arith
+line_within : (f : Fault) (line : List ℕ) (status : ℕ) → IsFaultLine f line status → IsFaulty status
+line_within f line status (inl (text, is, same, greatest)) = subst IsFaulty (sym greatest) (fault_within f)
+line_within f line status (inr (same, greatest)) = subst IsFaulty (sym greatest) three
 
 happens_most : (path : List ℕ) (r : Record) (old new : AbstractMux) (w : Written) → Happens path old r w new
     → w.status ≤ 3
@@ -127,7 +105,7 @@ happens_most path (piece link octets) old new w h = passed_most link old.seen ol
 happens_most path (end link) old new w h = passed_most link old.seen old.gateway new.gateway _ w h.0
 happens_most path reload old new w (inl h, later) = let is : w.status ≡ 0 =
     ap (λ (x : Written). x.status) h.noted in omega (arith, is)
-happens_most path reload old new w (inr h, later) = line_most h.fault h.line w.status h.told
+happens_most path reload old new w (inr h, later) = (line_within h.fault h.line w.status h.told).1
 
 -- and no notes are asked for
 happens_silent : (path : List ℕ) (r : Record) (old new : AbstractMux) (w : Written) → Happens path old r w new
@@ -138,7 +116,7 @@ happens_silent path reload old new w (inl h, later) quiet none =
     ap (λ (x : Written). x.err) h.noted
     ∙ ap (λ (x : Option Seen). renewed_note x (length h.policy.messages) (length h.policy.rules) h.digest) quiet
 happens_silent path reload old new w (inr h, later) quiet none =
-    absurd (line_some h.fault h.line w.status h.told none)
+    let least = (line_within h.fault h.line w.status h.told).0 in absurd (omega (arith, least, none))
 
 seen_none : (p : AbstractPolicy) (old new : Option Seen) (answer : Result (Unit {0}) LinkFault) (added : Added)
     (links : List AbstractLink) → IsSeen p old answer added links new → old ≡ None → new ≡ None
@@ -181,31 +159,23 @@ turns_quiet path (r ∷ rs) old new ws h quiet =
 
 -- ---- what is said at the end
 
-stop_most : (seen : Option Seen) (s : Stop) (err : Device) (status : ℕ) → TellsStopWith seen s err status → status ≤ 3
-stop_most None s err status told = let three = stop_is s err status told in omega (arith, three)
-stop_most (Some seen) BadRecord err status told = notes_most _ 3 status err (omega arith) told
-stop_most (Some seen) ReadFailed err status (said, is, told) =
-    with_most (Run run.ReadFailed) (fault_lines run.ReadFailed said seen) err status told
-stop_most (Some seen) WriteFailed err status (said, is, told) =
-    with_most (Run run.WriteFailed) (fault_lines run.WriteFailed said seen) err status told
-stop_most (Some seen) ErrorFailed err status (same, is) = omega (arith, is)
+stop_within : (seen : Option Seen) (s : Stop) (err : Device) (status : ℕ) → TellsStopWith seen s err status → IsFaulty status
+stop_within None BadRecord err status told = octets_within _ 3 status err three told
+stop_within None ReadFailed err status told = octets_within _ 3 status err three told
+stop_within None WriteFailed err status told = octets_within _ 3 status err three told
+stop_within None ErrorFailed err status (same, is) = subst IsFaulty (sym is) three
+stop_within (Some seen) BadRecord err status (inl told) = octets_within _ 3 status err three told
+stop_within (Some seen) BadRecord err status (inr told) = octets_within _ 3 status err three told
+stop_within (Some seen) ReadFailed err status (said, is, told) =
+    with_within (Run run.ReadFailed) (fault_lines run.ReadFailed said seen) err status told
+stop_within (Some seen) WriteFailed err status (said, is, told) =
+    with_within (Run run.WriteFailed) (fault_lines run.WriteFailed said seen) err status told
+stop_within (Some seen) ErrorFailed err status (same, is) = subst IsFaulty (sym is) three
 
 guarded_most : (seen : Option Seen) (greatest : ℕ) (err : Device) (status : ℕ) → greatest ≤ 3
     → TellsGuarded (Ok tt) seen greatest err status → status ≤ 3
 guarded_most None greatest err status most (same, is) = omega (arith, is, most)
 guarded_most (Some seen) greatest err status most told = notes_most _ greatest status err most told
-
-stop_zero : (seen : Option Seen) (s : Stop) (err : Device) (status : ℕ) → TellsStopWith seen s err status → status ≡ 0 → ⊥
-stop_zero None s err status told none = let three = stop_is s err status told in omega (arith, three, none)
-stop_zero (Some seen) BadRecord err status (inl told) none =
-    let least = octets_least _ 3 status err (omega arith) told in omega (arith, least, none)
-stop_zero (Some seen) BadRecord err status (inr told) none =
-    let least = octets_least _ 3 status err (omega arith) told in omega (arith, least, none)
-stop_zero (Some seen) ReadFailed err status (said, is, told) none =
-    let least = with_least (Run run.ReadFailed) (fault_lines run.ReadFailed said seen) err status told in omega (arith, least, none)
-stop_zero (Some seen) WriteFailed err status (said, is, told) none =
-    let least = with_least (Run run.WriteFailed) (fault_lines run.WriteFailed said seen) err status told in omega (arith, least, none)
-stop_zero (Some seen) ErrorFailed err status (same, is) none = omega (arith, is, none)
 
 -- ---- the whole stream
 
@@ -224,7 +194,7 @@ ends_most : (result : Result (Unit {0}) Stop) (path : List ℕ) (place : Option 
 ends_most (Ok done) path place first input out err reported status last display (greatest, f, shows, told) =
     guarded_most f.after.seen greatest _ status (finishes_most path first input out _ greatest f) told
 ends_most (Err s) path place first input out err reported status last display (h, shows, told) =
-    stop_most _ s _ status told
+    (stop_within _ s _ status told).1
 
 opens_most : (verbose : Bool) (digest : List ℕ) (Nothing : Type 0) (err : Device) (status : ℕ) (So : Device → Type 0)
     → ((behind : Device) → So behind → status ≤ 3) → Opens verbose digest Nothing err status So → status ≤ 3
@@ -234,7 +204,7 @@ opens_most false digest Nothing err status So most so = most err so
 
 pub links_most : (verbose : Bool) (place : Option (List ℕ)) (told : Told) (path : List ℕ) (shows : Display) (input : Input)
     (out err : Device) (status : ℕ) → GuardsLinks verbose place told path shows input out err status → status ≤ 3
-links_most verbose place told path shows input out err status (inl h) = none_most verbose h.0 err status h.5
+links_most verbose place told path shows input out err status (inl h) = (none_within verbose h.0 err status h.5).1
 links_most verbose place told path shows input out err status (inr (p, digest, later, is, since, h)) =
     opens_most verbose digest _ err status _ (λ behind so. ends_most so.result path place _ input out _ so.reported status _ _ so.ends) h
 
@@ -254,11 +224,11 @@ ends_silent (Ok done) path place first input out err reported last display quiet
     (Appends_is err.before reported (all_err (f.all.written ++ f.closed)) []
     (all_err-append f.all.written f.closed ∙ ap (λ (s : List ℕ). s ++ all_err f.closed) front ∙ back) f.told)
 ends_silent (Err s) path place first input out err reported last display quiet (h, shows, told) =
-    absurd (stop_zero _ s _ 0 told refl)
+    let least = (stop_within _ s _ 0 told).0 in absurd (omega (arith, least))
 
 pub links_silent : (told : Told) (path : List ℕ) (shows : Display) (input : Input) (out err : Device)
     → GuardsLinks false None told path shows input out err 0 → Appends err.before err.after []
-links_silent told path shows input out err (inl h) = let least = with_least h.0 [] err 0 h.5 in absurd (omega (arith, least))
+links_silent told path shows input out err (inl h) = let least = (none_within false h.0 err 0 h.5).0 in absurd (omega (arith, least))
 links_silent told path shows input out err (inr (p, digest, later, is, since, h)) =
     subst (λ (s : Option (List ℕ)). Appends s err.after []) h.noted
     (ends_silent h.result path None _ input out (record err { before = h.said }) h.reported _ _ refl h.ends)

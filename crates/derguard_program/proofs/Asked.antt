@@ -1,24 +1,22 @@
 -- Words in which nothing is wrong ask for a request.
-use Rattle.std.proofs.Common.{◌≡◌, ◌∙◌, ◌&&◌, ◌||◌, ℕ, Bool, cond, true, false, not, refl, sym, List, [], ◌∷◌, codes, Option, Some, None, true≢false}
-use Rattle.std.specs.Prelude.{IfSome, is_some, option_and_then, option_map, slice_get}
-use Rattle.std.specs.List.{find, fold}
+use Rattle.std.proofs.Common.{◌≡◌, ◌∙◌, ◌&&◌, ◌||◌, ℕ, Bool, cond, true, false, not, refl, sym, List, [], ◌∷◌, codes, Option, Some, None, arith, true≢false}
+use Rattle.std.specs.Prelude.{IfSome, is_some, nat_eq, option_and_then, option_map, slice_get, unwrap_or}
+use Rattle.std.specs.List.{find, fold, list_all, list_any}
 use Rattle.std.specs.Option.{option_map_or}
 use Rattle.std.specs.Str.{bytes_eq}
 use Rattle.std.proofs.lemmas.Slice.Eq.{bytes_eq-Decides}
-use Rattle.clap.specs.Walk.{Held, Names, Outcome, Row, Rule, Step, Text, Waiting, Walk, after_flag, after_step, answers_to, arg_by_index, arg_by_long, bundle, done, first_of, idle, long_met, long_or_other, next, nothing_held, option, plain, plain_word, positional, refused, rows_after, short_or_plain, subcommand, subcommand_met, subcommand_or_other, to_positional, trailing, value, waits, walk, walk_from, walked, walked_from, word_met}
+use Rattle.clap.specs.Walk.{Held, Names, Outcome, Row, Rule, Step, Text, Waiting, Walk, action_of, after_flag, after_step, answers_to, arg_by_index, arg_by_long, bundle, done, first_of, idle, long_met, long_or_other, next, nothing_held, option, plain, plain_word, positional, refused, rows_after, short_or_plain, subcommand, subcommand_met, subcommand_or_other, to_positional, trailing, value, waits, walk, walk_from, walked, walked_from, word_met}
 use Rattle.clap.specs.Lexer.{long_of, short_of}
-use Rattle.clap.specs.Facts.{explicit_source}
+use Rattle.clap.specs.Facts.{explicit_source, unwrap_or_range}
 use Rattle.clap.specs.Takes.{is_given}
 use Rattle.clap.specs.Faults.{check_fault, defaults_fault, entered_fault, fault_of, level_fault, other_fault, settle_fault, step_fault, turn_fault, walk_fault, word_fault}
-use Rattle.clap.specs.Kinds.{Kinds, or_else}
-use Rattle.clap.specs.Simple.{App, Shape, argument_words, built, built_leaf, entered, filled, help_rule, help_shape, inherited, label_of, marked_built, names_of, rows_at, with_index, with_leaf_noted}
+use Rattle.clap.specs.Kinds.{Kinds, check_kinds, or_else}
+use Rattle.clap.specs.Simple.{App, Shape, argument_words, built, built_leaf, entered, help_shape, inherited, label_of, marked_built, names_of, rows_at, with_leaf_noted}
+use Rattle.clap.specs.declared.builder.action.ArgAction.{ArgAction}
+use Rattle.clap.specs.declared.builder.action.ArgAction.TheVariants.{Help, Set, SetTrue}
 use Rattle.clap.specs.declared.error.kind.ErrorKind.TheVariants as kind
-use Rattle.guard_messages.specs.Questions.{AbstractQuestion}
-use Rattle.guard_authors.specs.Comparing.{AbstractComparing}
-use Rattle.guard_authors.specs.Encodes.{AbstractEncoding}
-use Rattle.guard_authors.specs.Testing.{AbstractTrial}
-use Rattle.derguard_program.specs.Requests.{AbstractRequest, first, check, decide, show, encode, test, compare, run, ask, mux}
-use Rattle.derguard_program.specs.Words.{AreFound, IsCommand, ask_shape, check_shape, compare_shape, decide_shape, encode_shape, flag_of, flag_rule, free_option_rule, free_place_rule, mux_shape, option_rule, place_rule, run_shape, show_shape, test_shape, the_app}
+use Rattle.derguard_program.specs.Requests.{AbstractRequest, check, decide, show, encode, test, compare, run, ask, mux}
+use Rattle.derguard_program.specs.Words.{AreFound, IsCommand, ask_shape, check_shape, checking_at, compare_shape, comparing_at, decide_shape, decision_at, encode_shape, encoding_at, flag_of, mux_shape, run_shape, show_shape, showing_at, test_shape, the_app, trial_at, value_of}
 use Rattle.derguard_program.proofs.Filled.{AllFill, Filled, Fills, IsFilled, both_none, finished_filled, flag_fills, help_fills, set_fills, some_kind, walk_filled}
 
 -- ---- a walk in which nothing is wrong stops at no word help
@@ -105,9 +103,9 @@ module _ (s : Shape) (names : Names) (offered : s.disable_help_subcommand ≡ fa
 
 -- ---- what is required has a value
 
-head_of : (vs : List Text) → IsFilled vs → (v : Text) × (slice_get vs 0 ≡ Some v)
+head_of : (vs : List Text) → IsFilled vs → slice_get vs 0 ≡ Some (unwrap_or (slice_get vs 0) [])
 head_of [] h = absurd h
-head_of (v ∷ vs) h = (v, refl)
+head_of (v ∷ vs) h = refl
 
 found_filled : (p : Row → Bool) (rows : List Row) → Filled rows → IfSome (find p rows) (λ r. IsFilled r.values)
 found_filled p [] h = tt
@@ -117,18 +115,36 @@ found_filled p (r ∷ rs) h = go (p r) (found_filled p rs h.1)
     go true rest = h.0
     go false rest = rest
 
-pub given_value : (id : Text) (rows : List Row) → Filled rows → is_given id rows ≡ true → (v : Text) × (first_of id rows ≡ Some v)
+given_value : (id : Text) (rows : List Row) → Filled rows → is_given id rows ≡ true → first_of id rows ≡ Some (value_of id rows)
 given_value id rows h given = go (find (λ r. bytes_eq r.id id) rows) (found_filled (λ r. bytes_eq r.id id) rows h) given
   where
     go : (o : Option Row) → IfSome o (λ r. IsFilled r.values) → option_map_or (λ r. explicit_source r.source) o false ≡ true
-        → (v : Text) × (option_and_then (λ r. slice_get r.values 0) o ≡ Some v)
+        → option_and_then (λ r. slice_get r.values 0) o ≡ Some (unwrap_or (option_and_then (λ r. slice_get r.values 0) o) [])
     go None filled e = absurd (true≢false (sym e))
     go (Some r) filled e = head_of r.values filled
 
--- the next of the required arguments is given, and so are the others
-given_next : (a b : Bool) → ◌≡◌ {A = Kinds} (cond (not a || b) (kind.MissingRequiredArgument ∷ []) []) [] → (a ≡ true) × (◌≡◌ {A = Kinds} (cond b (kind.MissingRequiredArgument ∷ []) []) [])
-given_next true b e = (refl, e)
-given_next false b e = absurd (some_kind _ _ e)
+AllThere : List Rule → List Row → Type 0
+AllThere [] rows = Unit {0}
+AllThere (a ∷ c) rows = (a.required ≡ true → first_of a.id rows ≡ Some (value_of a.id rows)) × AllThere c rows
+
+all_there : (c : List Rule) (rows : List Row) → Filled rows → list_any (λ a. a.required && not (is_given a.id rows)) c ≡ false → AllThere c rows
+unfolding AllThere
+all_there [] rows filled e = tt
+all_there (a ∷ c) rows filled e =
+    let parts = go a.required (is_given a.id rows) (list_any (λ a. a.required && not (is_given a.id rows)) c) e in
+    (λ is. given_value a.id rows filled (parts.0 is), all_there c rows filled parts.1)
+  where
+    go : (required given others : Bool) → (required && not given || others) ≡ false → (required ≡ true → given ≡ true) × (others ≡ false)
+    go true true others e = (λ _. refl, e)
+    go true false others e = absurd (true≢false e)
+    go false given others e = (λ is. absurd (true≢false (sym is)), e)
+
+none_missing : (wants_help wants_command negates missing : Bool) → check_kinds wants_help wants_command (not (negates && false) && missing) ≡ [] → missing ≡ false
+none_missing true wants_command negates missing e = absurd (some_kind _ _ e)
+none_missing false true negates missing e = absurd (some_kind _ _ e)
+none_missing false false true true e = absurd (some_kind _ _ e)
+none_missing false false false true e = absurd (some_kind _ _ e)
+none_missing false false negates false e = refl
 
 module _ (s : Shape) (names : Names) (words : List Text) (has : Bool) (below : Kinds) (e : level_fault s names nothing_held words has below ≡ []) where
   walk_none : walk_fault s names (walk_from nothing_held) words ≡ []
@@ -155,208 +171,39 @@ module _ (s : Shape) (names : Names) (words : List Text) (has : Bool) (below : K
 abbrev ready : App
 ready = built the_app
 
-abbrev built_check : Shape
-built_check = built_leaf (inherited (with_leaf_noted (marked_built the_app.top)) check_shape)
+abbrev ready_leaf : Shape → Shape
+ready_leaf s = built_leaf (inherited (with_leaf_noted (marked_built the_app.top)) s)
 
-abbrev built_decide : Shape
-built_decide = built_leaf (inherited (with_leaf_noted (marked_built the_app.top)) decide_shape)
+-- a use of an argument with such an action leaves a value
+abbrev leaves_value : ArgAction → List Text → ℕ → Bool
+leaves_value Set missing least = nat_eq least 1
+leaves_value SetTrue (v ∷ []) least = true
+leaves_value Help missing least = true
+leaves_value action missing least = false
 
-abbrev built_show : Shape
-built_show = built_leaf (inherited (with_leaf_noted (marked_built the_app.top)) show_shape)
+fills_by : (a : Rule) (action : ArgAction) (missing : List Text) (least : ℕ) → action_of a ≡ action → a.missing ≡ missing
+    → (unwrap_or_range a.range).start_inclusive ≡ least → leaves_value action missing least ≡ true → Fills a
+fills_by a Set missing least acts none few e = set_fills a acts (few ∙ grind (arith, e))
+fills_by a SetTrue (v ∷ []) least acts none few e = flag_fills a acts v none
+fills_by a Help missing least acts none few e = help_fills a acts
+fills_by a action missing least acts none few e = absurd (true≢false (sym e))
 
-abbrev built_encode : Shape
-built_encode = built_leaf (inherited (with_leaf_noted (marked_built the_app.top)) encode_shape)
+both_true : (a b : Bool) → (a && b) ≡ true → (a ≡ true) × (b ≡ true)
+both_true true b e = (refl, e)
+both_true false b e = absurd (true≢false (sym e))
 
-abbrev built_test : Shape
-built_test = built_leaf (inherited (with_leaf_noted (marked_built the_app.top)) test_shape)
+abbrev leave_values : List Rule → Bool
+leave_values c = list_all (λ a. leaves_value (action_of a) a.missing (unwrap_or_range a.range).start_inclusive) c
 
-abbrev built_compare : Shape
-built_compare = built_leaf (inherited (with_leaf_noted (marked_built the_app.top)) compare_shape)
+all_fill : (c : List Rule) → leave_values c ≡ true → AllFill c
+all_fill [] e = tt
+all_fill (a ∷ c) e =
+    let parts = both_true _ _ e in
+    (fills_by a _ _ _ refl refl refl parts.0, all_fill c parts.1)
 
-abbrev built_run : Shape
-built_run = built_leaf (inherited (with_leaf_noted (marked_built the_app.top)) run_shape)
-
-abbrev built_ask : Shape
-built_ask = built_leaf (inherited (with_leaf_noted (marked_built the_app.top)) ask_shape)
-
-abbrev built_mux : Shape
-built_mux = built_leaf (inherited (with_leaf_noted (marked_built the_app.top)) mux_shape)
-
--- each argument as it is built at a place
-abbrev ready_rule : ℕ → Rule → Rule
-ready_rule place rule = with_index place (filled rule)
-
-place_fills : (place : ℕ) (id : Text) → Fills (ready_rule place (place_rule id))
-place_fills place id = set_fills (ready_rule place (place_rule id)) refl refl
-
-option_fills : (name : Text) → Fills (ready_rule 2 (option_rule name))
-option_fills name = set_fills (ready_rule 2 (option_rule name)) refl refl
-
-free_place_fills : (place : ℕ) (id : Text) → Fills (ready_rule place (free_place_rule id))
-free_place_fills place id = set_fills (ready_rule place (free_place_rule id)) refl refl
-
-free_option_fills : (name : Text) → Fills (ready_rule 2 (free_option_rule name))
-free_option_fills name = set_fills (ready_rule 2 (free_option_rule name)) refl refl
-
-switch_fills : (place : ℕ) (name : Text) → Fills (ready_rule place (flag_rule name))
-switch_fills place name = flag_fills (ready_rule place (flag_rule name)) refl (codes "true") refl
-
-help_flag_fills : (place : ℕ) → Fills (ready_rule place help_rule)
-help_flag_fills place = help_fills (ready_rule place help_rule) refl
-
-check_fills : AllFill built_check.rules
-check_fills = (place_fills 1 (codes "policy"), (switch_fills 2 (codes "explain"), (switch_fills 2 (codes "strict"), (switch_fills 2 (codes "digest"), (switch_fills 2 (codes "json"), (help_flag_fills 2, tt))))))
-
-decide_fills : AllFill built_decide.rules
-decide_fills =
-    (place_fills 1 (codes "policy"), (free_option_fills (codes "from"), (free_option_fills (codes "to"), (free_option_fills (codes "message"), (free_place_fills 2 (codes "hex"), (free_option_fills (codes "der"), (free_option_fills (codes "frame"), (free_option_fills (codes "link"), (switch_fills 3 (codes "explain"), (switch_fills 3 (codes "json"), (help_flag_fills 3, tt)))))))))))
-
-show_fills : AllFill built_show.rules
-show_fills =
-    (place_fills 1 (codes "policy"), (free_option_fills (codes "message"), (free_place_fills 2 (codes "hex"), (free_option_fills (codes "der"), (free_option_fills (codes "frame"), (free_option_fills (codes "link"), (switch_fills 3 (codes "capture"), (switch_fills 3 (codes "explain"), (switch_fills 3 (codes "json"), (help_flag_fills 3, tt))))))))))
-
-encode_fills : AllFill built_encode.rules
-encode_fills =
-    (place_fills 1 (codes "policy"), (option_fills (codes "message"), (free_place_fills 2 (codes "value"), (free_option_fills (codes "from"), (free_option_fills (codes "to"), (switch_fills 3 (codes "der"), (help_flag_fills 3, tt)))))))
-
-test_fills : AllFill built_test.rules
-test_fills = (place_fills 1 (codes "policy"), (free_place_fills 2 (codes "cases"), (switch_fills 3 (codes "cover"), (switch_fills 3 (codes "explain"), (switch_fills 3 (codes "json"), (help_flag_fills 3, tt))))))
-
-compare_fills : AllFill built_compare.rules
-compare_fills =
-    (place_fills 1 (codes "old"), (place_fills 2 (codes "new"), (switch_fills 3 (codes "by-place"), (switch_fills 3 (codes "summary"), (free_option_fills (codes "link"), (switch_fills 3 (codes "json"), (help_flag_fills 3, tt)))))))
-
-run_fills : AllFill built_run.rules
-run_fills = (place_fills 1 (codes "policy"), (switch_fills 2 (codes "verbose"), (free_option_fills (codes "counts"), (switch_fills 2 (codes "json"), (help_flag_fills 2, tt)))))
-
-ask_fills : AllFill built_ask.rules
-ask_fills = (place_fills 1 (codes "policy"), (switch_fills 2 (codes "json"), (help_flag_fills 2, tt)))
-
-mux_fills : AllFill built_mux.rules
-mux_fills = (place_fills 1 (codes "policy"), (switch_fills 2 (codes "verbose"), (free_option_fills (codes "counts"), (switch_fills 2 (codes "json"), (help_flag_fills 2, tt)))))
-
--- a command with these words asks for a request
-abbrev Requests : Shape → List Text → Type 0
-Requests s words = (request : AbstractRequest) × IsCommand s.name (rows_after s.rules [] words) request
-
-check_asks : (words : List Text) → level_fault built_check [] nothing_held words false [] ≡ [] → Requests built_check words
-check_asks words e =
-    let rows = rows_filled built_check [] words false [] e check_fills in
-    let policy = given_next _ _ (check_none built_check [] words false [] e) in
-    let path = given_value (codes "policy") (rows_after built_check.rules [] words) rows policy.0 in
-    (check (record { policy = path.0; explain = flag_of (codes "explain") (rows_after built_check.rules [] words); strict = flag_of (codes "strict") (rows_after built_check.rules [] words); digest = flag_of (codes "digest") (rows_after built_check.rules [] words) }), (refl, path.1, refl, refl, refl))
-
-show_asks : (words : List Text) → level_fault built_show [] nothing_held words false [] ≡ [] → Requests built_show words
-show_asks words e =
-    let rows = rows_after built_show.rules [] words in
-    let filled = rows_filled built_show [] words false [] e show_fills in
-    let policy = given_next _ _ (check_none built_show [] words false [] e) in
-    let p = given_value (codes "policy") rows filled policy.0 in
-    let asked : AbstractQuestion = record {
-      policy = p.0;
-      from = None;
-      to = None;
-      message = first_of (codes "message") rows;
-      hex = first_of (codes "hex") rows;
-      der = first_of (codes "der") rows;
-      frame = first_of (codes "frame") rows;
-      link = first_of (codes "link") rows;
-      explain = flag_of (codes "explain") rows;
-      capture = flag_of (codes "capture") rows;
-      json = flag_of (codes "json") rows;
-    } in
-    (show asked, (refl, p.1, refl, refl, refl, refl, refl, refl, refl, refl, refl, refl))
-
-encode_asks : (words : List Text) → level_fault built_encode [] nothing_held words false [] ≡ [] → Requests built_encode words
-encode_asks words e =
-    let rows = rows_after built_encode.rules [] words in
-    let filled = rows_filled built_encode [] words false [] e encode_fills in
-    let policy = given_next _ _ (check_none built_encode [] words false [] e) in
-    let message = given_next _ _ policy.1 in
-    let p = given_value (codes "policy") rows filled policy.0 in
-    let m = given_value (codes "message") rows filled message.0 in
-    let asked : AbstractEncoding = record {
-      policy = p.0;
-      message = m.0;
-      value = first_of (codes "value") rows;
-      from = first_of (codes "from") rows;
-      to = first_of (codes "to") rows;
-      der = flag_of (codes "der") rows;
-    } in
-    (encode asked, (refl, p.1, m.1, refl, refl, refl, refl))
-
-test_asks : (words : List Text) → level_fault built_test [] nothing_held words false [] ≡ [] → Requests built_test words
-test_asks words e =
-    let rows = rows_after built_test.rules [] words in
-    let filled = rows_filled built_test [] words false [] e test_fills in
-    let policy = given_next _ _ (check_none built_test [] words false [] e) in
-    let p = given_value (codes "policy") rows filled policy.0 in
-    let asked : AbstractTrial = record {
-      policy = p.0;
-      cases = first_of (codes "cases") rows;
-      cover = flag_of (codes "cover") rows;
-      explain = flag_of (codes "explain") rows;
-    } in
-    (test asked, (refl, p.1, refl, refl, refl))
-
-compare_asks : (words : List Text) → level_fault built_compare [] nothing_held words false [] ≡ [] → Requests built_compare words
-compare_asks words e =
-    let rows = rows_after built_compare.rules [] words in
-    let filled = rows_filled built_compare [] words false [] e compare_fills in
-    let old = given_next _ _ (check_none built_compare [] words false [] e) in
-    let new = given_next _ _ old.1 in
-    let p = given_value (codes "old") rows filled old.0 in
-    let q = given_value (codes "new") rows filled new.0 in
-    let asked : AbstractComparing = record {
-      old = p.0;
-      new = q.0;
-      by_place = flag_of (codes "by-place") rows;
-      summary = flag_of (codes "summary") rows;
-      link = first_of (codes "link") rows;
-    } in
-    (compare asked, (refl, p.1, q.1, refl, refl, refl))
-
-run_asks : (words : List Text) → level_fault built_run [] nothing_held words false [] ≡ [] → Requests built_run words
-run_asks words e =
-    let rows = rows_filled built_run [] words false [] e run_fills in
-    let policy = given_next _ _ (check_none built_run [] words false [] e) in
-    let path = given_value (codes "policy") (rows_after built_run.rules [] words) rows policy.0 in
-    (run path.0 (flag_of (codes "verbose") (rows_after built_run.rules [] words)) (first_of (codes "counts") (rows_after built_run.rules [] words)), (refl, path.1, refl, refl))
-
-ask_asks : (words : List Text) → level_fault built_ask [] nothing_held words false [] ≡ [] → Requests built_ask words
-ask_asks words e =
-    let rows = rows_filled built_ask [] words false [] e ask_fills in
-    let policy = given_next _ _ (check_none built_ask [] words false [] e) in
-    let path = given_value (codes "policy") (rows_after built_ask.rules [] words) rows policy.0 in
-    (ask path.0, (refl, path.1))
-
-mux_asks : (words : List Text) → level_fault built_mux [] nothing_held words false [] ≡ [] → Requests built_mux words
-mux_asks words e =
-    let rows = rows_filled built_mux [] words false [] e mux_fills in
-    let policy = given_next _ _ (check_none built_mux [] words false [] e) in
-    let path = given_value (codes "policy") (rows_after built_mux.rules [] words) rows policy.0 in
-    (mux path.0 (flag_of (codes "verbose") (rows_after built_mux.rules [] words)) (first_of (codes "counts") (rows_after built_mux.rules [] words)), (refl, path.1, refl, refl))
-
-decide_asks : (words : List Text) → level_fault built_decide [] nothing_held words false [] ≡ [] → Requests built_decide words
-decide_asks words e =
-    let rows = rows_after built_decide.rules [] words in
-    let filled = rows_filled built_decide [] words false [] e decide_fills in
-    let policy = given_next _ _ (check_none built_decide [] words false [] e) in
-    let p = given_value (codes "policy") rows filled policy.0 in
-    let asked : AbstractQuestion = record {
-      policy = p.0;
-      from = first_of (codes "from") rows;
-      to = first_of (codes "to") rows;
-      message = first_of (codes "message") rows;
-      hex = first_of (codes "hex") rows;
-      der = first_of (codes "der") rows;
-      frame = first_of (codes "frame") rows;
-      link = first_of (codes "link") rows;
-      explain = flag_of (codes "explain") rows;
-      capture = false;
-      json = false;
-    } in
-    (decide asked, (refl, p.1, refl, refl, refl, refl, refl, refl, refl, refl, refl, refl))
+-- a command with these values asks for a request
+abbrev Requests : Text → List Row → Type 0
+Requests name rows = (request : AbstractRequest) × IsCommand name rows request
 
 -- ---- the command that the words name
 
@@ -364,7 +211,7 @@ abbrev Enters : Text × List Text → Option Shape → Type 0
 Enters p found =
     (request : AbstractRequest) × (name : Text) × (rows : List Row) × (option_map (λ s. rows_at s p.1) found ≡ Some (name, rows)) × IsCommand name rows request
 
-as_entered : (p : Text × List Text) (s : Shape) → Requests s p.1 → Enters p (Some s)
+as_entered : (p : Text × List Text) (s : Shape) → Requests s.name (rows_after s.rules [] p.1) → Enters p (Some s)
 as_entered p s h = (h.0, s.name, rows_after s.rules [] p.1, refl, h.1)
 
 not_help_met : (name : Text) → bytes_eq name (codes "help") ≡ false → (bytes_eq (codes "help") name || false) ≡ true → ⊥
@@ -382,11 +229,11 @@ module _ (p : Text × List Text) where
   Picks found =
       option_map_or (λ s. level_fault s [] nothing_held p.1 false []) found [] ≡ [] → is_some (option_map (λ s. rows_at s p.1) found) ≡ true → Enters p found
 
-  or_next : (is : Bool) (s : Shape) (rest : Option Shape) → ((words : List Text) → level_fault s [] nothing_held words false [] ≡ [] → Requests s words) → Picks rest
+  or_next : (is : Bool) (s : Shape) (rest : Option Shape) → leave_values s.rules ≡ true → ((rows : List Row) → AllThere s.rules rows → Requests s.name rows) → Picks rest
       → Picks (cond is (Some s) rest)
   unfolding Picks
-  or_next true s rest asks more e there = as_entered p s (asks p.1 e)
-  or_next false s rest asks more e there = more e there
+  or_next true s rest fill asks more e there = as_entered p s (asks _ (all_there s.rules _ (rows_filled s [] p.1 false [] e (all_fill s.rules fill)) (none_missing _ _ _ _ (check_none s [] p.1 false [] e))))
+  or_next false s rest fill asks more e there = more e there
 
   no_help : (is : Bool) → (is ≡ true → ⊥) → Picks (cond is (Some (built_leaf help_shape)) None)
   unfolding Picks
@@ -395,20 +242,20 @@ module _ (p : Text × List Text) where
 
 entered_asks : (stop : Option (Text × List Text)) → NotHelp stop → entered_fault ready stop ≡ [] → is_some (entered ready stop) ≡ true
     → (request : AbstractRequest) × (name : Text) × (rows : List Row) × (entered ready stop ≡ Some (name, rows)) × IsCommand name rows request
-unfolding Picks
+unfolding Picks AllThere
 entered_asks None another e there = absurd (true≢false (sym there))
 entered_asks (Some p) another e there =
-    let is : Shape → Bool = λ s. answers_to p.0 (label_of s) in
-    or_next p (is built_check) built_check _ check_asks
-    (or_next p (is built_decide) built_decide _ decide_asks
-    (or_next p (is built_show) built_show _ show_asks
-    (or_next p (is built_encode) built_encode _ encode_asks
-    (or_next p (is built_test) built_test _ test_asks
-    (or_next p (is built_compare) built_compare _ compare_asks
-    (or_next p (is built_run) built_run _ run_asks
-    (or_next p (is built_ask) built_ask _ ask_asks
-    (or_next p (is built_mux) built_mux _ mux_asks
-    (no_help p (is (built_leaf help_shape)) (not_help_met p.0 another)))))))))) e there
+    let is : Shape → Bool = λ s. answers_to p.0 (label_of (ready_leaf s)) in
+    or_next p (is check_shape) (ready_leaf check_shape) _ refl (λ rows h. (check (checking_at rows), (refl, h.0 refl, refl)))
+    (or_next p (is decide_shape) (ready_leaf decide_shape) _ refl (λ rows h. (decide (decision_at rows), (refl, h.0 refl, refl)))
+    (or_next p (is show_shape) (ready_leaf show_shape) _ refl (λ rows h. (show (showing_at rows), (refl, h.0 refl, refl)))
+    (or_next p (is encode_shape) (ready_leaf encode_shape) _ refl (λ rows h. (encode (encoding_at rows), (refl, h.0 refl, h.1.0 refl, refl)))
+    (or_next p (is test_shape) (ready_leaf test_shape) _ refl (λ rows h. (test (trial_at rows), (refl, h.0 refl, refl)))
+    (or_next p (is compare_shape) (ready_leaf compare_shape) _ refl (λ rows h. (compare (comparing_at rows), (refl, h.0 refl, h.1.0 refl, refl)))
+    (or_next p (is run_shape) (ready_leaf run_shape) _ refl (λ rows h. (run (value_of (codes "policy") rows) (flag_of (codes "verbose") rows) (first_of (codes "counts") rows), (refl, h.0 refl, refl, refl)))
+    (or_next p (is ask_shape) (ready_leaf ask_shape) _ refl (λ rows h. (ask (value_of (codes "policy") rows), (refl, h.0 refl)))
+    (or_next p (is mux_shape) (ready_leaf mux_shape) _ refl (λ rows h. (mux (value_of (codes "policy") rows) (flag_of (codes "verbose") rows) (first_of (codes "counts") rows), (refl, h.0 refl, refl, refl)))
+    (no_help p (answers_to p.0 (label_of (built_leaf help_shape))) (not_help_met p.0 another)))))))))) e there
 
 command_there : (b : Bool) (others : Kinds)
     → ◌≡◌ {A = Kinds} (cond (not b && false) (kind.DisplayHelpOnMissingArgumentOrSubcommand ∷ []) (cond (not b && true) (kind.MissingSubcommand ∷ []) others)) [] → b ≡ true

@@ -1,10 +1,15 @@
 -- Which words of the command line are which request, in the terms of `clap`: its definitions say what is found in words
 -- of a command, and what is wrong with them.
-use Rattle.std.specs.Prelude.{◌≡◌, Bool, ◌||◌, true, false, List, [], ◌∷◌, ◌++◌, Some, None, codes, bytes_eq, if◌then◌else◌}
+use Rattle.std.specs.Prelude.{◌≡◌, Bool, ◌||◌, true, false, List, [], ◌∷◌, ◌++◌, Some, None, codes, bytes_eq, unwrap_or, if◌then◌else◌}
 use Rattle.std.specs.Option.{option_map_or}
 use Rattle.clap.specs.Words.{App, Rule, Row, Shape, Text, first_of, fault_of, new_rule, subcommand_of}
 use Rattle.clap.specs.Simple.{new_shape}
 use Rattle.clap.specs.declared.builder.action.ArgAction.TheVariants.{Set, SetTrue}
+use Rattle.guard_messages.specs.Questions.{AbstractQuestion}
+use Rattle.guard_authors.specs.Checked.{AbstractChecking}
+use Rattle.guard_authors.specs.Comparing.{AbstractComparing}
+use Rattle.guard_authors.specs.Encodes.{AbstractEncoding}
+use Rattle.guard_authors.specs.Testing.{AbstractTrial}
 use Rattle.derguard_program.specs.Requests.{AbstractRequest, first, check, decide, show, encode, test, compare, run, ask, mux}
 
 -- the program's version
@@ -113,46 +118,94 @@ the_app = record {
 abbrev pub flag_of : Text → List Row → Bool
 flag_of id rows = option_map_or (λ value. bytes_eq value (codes "true")) (first_of id rows) false
 
--- what a command with these values asks for
+-- the value of what must be given, and an empty one where it isn't
+abbrev pub value_of : Text → List Row → Text
+value_of id rows = unwrap_or (first_of id rows) []
+
+-- what each command asks for by its values
+abbrev pub checking_at : List Row → AbstractChecking
+checking_at rows = record {
+  policy = value_of (codes "policy") rows;
+  explain = flag_of (codes "explain") rows;
+  strict = flag_of (codes "strict") rows;
+  digest = flag_of (codes "digest") rows;
+}
+
+abbrev pub decision_at : List Row → AbstractQuestion
+decision_at rows = record {
+  policy = value_of (codes "policy") rows;
+  from = first_of (codes "from") rows;
+  to = first_of (codes "to") rows;
+  message = first_of (codes "message") rows;
+  hex = first_of (codes "hex") rows;
+  der = first_of (codes "der") rows;
+  frame = first_of (codes "frame") rows;
+  link = first_of (codes "link") rows;
+  explain = flag_of (codes "explain") rows;
+  capture = false;
+  json = false;
+}
+
+-- as to decide; with no names of sender and receiver, and by two more flags
+abbrev pub showing_at : List Row → AbstractQuestion
+showing_at rows = record (decision_at rows) {
+  from = None;
+  to = None;
+  capture = flag_of (codes "capture") rows;
+  json = flag_of (codes "json") rows;
+}
+
+abbrev pub encoding_at : List Row → AbstractEncoding
+encoding_at rows = record {
+  policy = value_of (codes "policy") rows;
+  message = value_of (codes "message") rows;
+  value = first_of (codes "value") rows;
+  from = first_of (codes "from") rows;
+  to = first_of (codes "to") rows;
+  der = flag_of (codes "der") rows;
+}
+
+abbrev pub trial_at : List Row → AbstractTrial
+trial_at rows = record {
+  policy = value_of (codes "policy") rows;
+  cases = first_of (codes "cases") rows;
+  cover = flag_of (codes "cover") rows;
+  explain = flag_of (codes "explain") rows;
+}
+
+abbrev pub comparing_at : List Row → AbstractComparing
+comparing_at rows = record {
+  old = value_of (codes "old") rows;
+  new = value_of (codes "new") rows;
+  by_place = flag_of (codes "by-place") rows;
+  summary = flag_of (codes "summary") rows;
+  link = first_of (codes "link") rows;
+}
+
+-- what a command with these values asks for: what must be given is
 abbrev pub IsCommand : Text → List Row → AbstractRequest → Type 0
 IsCommand name rows first = ⊥
 IsCommand name rows (check asked) =
-    (name ≡ codes "check") × (first_of (codes "policy") rows ≡ Some asked.policy)
-    × (asked.explain ≡ flag_of (codes "explain") rows) × (asked.strict ≡ flag_of (codes "strict") rows)
-    × (asked.digest ≡ flag_of (codes "digest") rows)
+    (name ≡ codes "check") × (first_of (codes "policy") rows ≡ Some asked.policy) × (asked ≡ checking_at rows)
 IsCommand name rows (decide q) =
-    (name ≡ codes "decide") × (first_of (codes "policy") rows ≡ Some q.policy) × (first_of (codes "from") rows ≡ q.from)
-    × (first_of (codes "to") rows ≡ q.to) × (first_of (codes "message") rows ≡ q.message)
-    × (first_of (codes "hex") rows ≡ q.hex) × (first_of (codes "der") rows ≡ q.der)
-    × (first_of (codes "frame") rows ≡ q.frame) × (first_of (codes "link") rows ≡ q.link)
-    × (q.explain ≡ flag_of (codes "explain") rows) × (q.capture ≡ false)
-    × (q.json ≡ false)
+    (name ≡ codes "decide") × (first_of (codes "policy") rows ≡ Some q.policy) × (q ≡ decision_at rows)
 IsCommand name rows (show q) =
-    (name ≡ codes "show") × (first_of (codes "policy") rows ≡ Some q.policy) × (q.from ≡ None) × (q.to ≡ None)
-    × (first_of (codes "message") rows ≡ q.message) × (first_of (codes "hex") rows ≡ q.hex)
-    × (first_of (codes "der") rows ≡ q.der) × (first_of (codes "frame") rows ≡ q.frame)
-    × (first_of (codes "link") rows ≡ q.link) × (q.explain ≡ flag_of (codes "explain") rows)
-    × (q.capture ≡ flag_of (codes "capture") rows) × (q.json ≡ flag_of (codes "json") rows)
+    (name ≡ codes "show") × (first_of (codes "policy") rows ≡ Some q.policy) × (q ≡ showing_at rows)
 IsCommand name rows (encode asked) =
     (name ≡ codes "encode") × (first_of (codes "policy") rows ≡ Some asked.policy)
-    × (first_of (codes "message") rows ≡ Some asked.message) × (first_of (codes "value") rows ≡ asked.value)
-    × (first_of (codes "from") rows ≡ asked.from) × (first_of (codes "to") rows ≡ asked.to)
-    × (asked.der ≡ flag_of (codes "der") rows)
+    × (first_of (codes "message") rows ≡ Some asked.message) × (asked ≡ encoding_at rows)
 IsCommand name rows (test asked) =
-    (name ≡ codes "test") × (first_of (codes "policy") rows ≡ Some asked.policy)
-    × (first_of (codes "cases") rows ≡ asked.cases) × (asked.cover ≡ flag_of (codes "cover") rows)
-    × (asked.explain ≡ flag_of (codes "explain") rows)
+    (name ≡ codes "test") × (first_of (codes "policy") rows ≡ Some asked.policy) × (asked ≡ trial_at rows)
 IsCommand name rows (compare asked) =
     (name ≡ codes "compare") × (first_of (codes "old") rows ≡ Some asked.old)
-    × (first_of (codes "new") rows ≡ Some asked.new) × (asked.by_place ≡ flag_of (codes "by-place") rows)
-    × (asked.summary ≡ flag_of (codes "summary") rows) × (first_of (codes "link") rows ≡ asked.link)
+    × (first_of (codes "new") rows ≡ Some asked.new) × (asked ≡ comparing_at rows)
 IsCommand name rows (run path verbose counts) =
     (name ≡ codes "run") × (first_of (codes "policy") rows ≡ Some path) × (verbose ≡ flag_of (codes "verbose") rows)
-    × (first_of (codes "counts") rows ≡ counts)
+    × (counts ≡ first_of (codes "counts") rows)
 IsCommand name rows (ask path) = (name ≡ codes "ask") × (first_of (codes "policy") rows ≡ Some path)
 IsCommand name rows (mux path verbose counts) =
     (name ≡ codes "mux") × (first_of (codes "policy") rows ≡ Some path) × (verbose ≡ flag_of (codes "verbose") rows)
-    × (first_of (codes "counts") rows ≡ counts)
+    × (counts ≡ first_of (codes "counts") rows)
 
 -- ---- the words
 

@@ -1,5 +1,5 @@
 //! The words of the command line. `clap` splits them.
-ghost use Rattle.std.specs.Prelude.{◌≡◌, ℕ, List, Some, None, codes, false, map, option_map, string_bytes, IfOk, IfErr};
+ghost use Rattle.std.specs.Prelude.{◌≡◌, List, Some, codes, false, map, option_map, string_bytes, IfOk, IfErr};
 ghost use Rattle.clap.specs.Words.{HasKind, Row, Text, app_of, fault_of, first_of, found_of};
 ghost use Rattle.clap.specs.Words.{rows_of, rule_of, shape_of, subcommand_rows_of};
 ghost use Rattle.guard_messages.specs.Questions.{question_view};
@@ -8,10 +8,10 @@ ghost use Rattle.guard_authors.specs.Encodes.{encoding_view};
 ghost use Rattle.guard_authors.specs.Testing.{trial_view};
 ghost use Rattle.derguard_program.specs.Requests.{AbstractRequest, request_view};
 ghost use Rattle.derguard_program.specs.Words.{AreFound, IsCommand, ask_shape, check_shape, compare_shape};
-ghost use Rattle.derguard_program.specs.Words.{decide_shape, encode_shape};
+ghost use Rattle.derguard_program.specs.Words.{comparing_at, decide_shape, decision_at, encode_shape, encoding_at};
 ghost use Rattle.derguard_program.specs.Words.{flag_of, flag_rule, free_option_rule, free_place_rule, free_rule};
 ghost use Rattle.derguard_program.specs.Words.{mux_shape, option_rule, place_rule, required_rule, run_shape};
-ghost use Rattle.derguard_program.specs.Words.{show_shape, test_shape, the_app};
+ghost use Rattle.derguard_program.specs.Words.{show_shape, showing_at, test_shape, the_app, trial_at, value_of};
 
 use crate::help::{
     ABOUT, ASK_EXAMPLE, BY_PLACE, CHECK_EXAMPLE, COMPARE_EXAMPLE, COUNTS, DECIDE_EXAMPLE,
@@ -86,18 +86,7 @@ fn request_of<'a>(matches: &ArgMatches<'a>) -> Request<'a>
 
 /// What `decide` asks for. The policy is required, so it is there.
 fn question_to_decide<'a>(found: &ArgMatches<'a>) -> Question<'a>
-    ensures policy { (path : List ℕ) → first_of (codes "policy") (rows_of (found_of found.now)) ≡ Some path
-        → (question_view result).policy ≡ path }
-    ensures sender { (question_view result).from ≡ first_of (codes "from") (rows_of (found_of found.now)) }
-    ensures receiver { (question_view result).to ≡ first_of (codes "to") (rows_of (found_of found.now)) }
-    ensures message { (question_view result).message ≡ first_of (codes "message") (rows_of (found_of found.now)) }
-    ensures digits { (question_view result).hex ≡ first_of (codes "hex") (rows_of (found_of found.now)) }
-    ensures file { (question_view result).der ≡ first_of (codes "der") (rows_of (found_of found.now)) }
-    ensures frame { (question_view result).frame ≡ first_of (codes "frame") (rows_of (found_of found.now)) }
-    ensures link { (question_view result).link ≡ first_of (codes "link") (rows_of (found_of found.now)) }
-    ensures explain { (question_view result).explain ≡ flag_of (codes "explain") (rows_of (found_of found.now)) }
-    ensures capture { (question_view result).capture ≡ false }
-    ensures json { (question_view result).json ≡ false }
+    ensures { question_view result ≡ decision_at (rows_of (found_of found.now)) }
 {
     Question {
         policy: text(found, "policy"),
@@ -116,44 +105,20 @@ fn question_to_decide<'a>(found: &ArgMatches<'a>) -> Question<'a>
 
 /// What `show` asks for, which takes no sender and no receiver.
 fn question_to_show<'a>(found: &ArgMatches<'a>) -> Question<'a>
-    ensures policy { (path : List ℕ) → first_of (codes "policy") (rows_of (found_of found.now)) ≡ Some path
-        → (question_view result).policy ≡ path }
-    ensures sender { (question_view result).from ≡ None }
-    ensures receiver { (question_view result).to ≡ None }
-    ensures message { (question_view result).message ≡ first_of (codes "message") (rows_of (found_of found.now)) }
-    ensures digits { (question_view result).hex ≡ first_of (codes "hex") (rows_of (found_of found.now)) }
-    ensures file { (question_view result).der ≡ first_of (codes "der") (rows_of (found_of found.now)) }
-    ensures frame { (question_view result).frame ≡ first_of (codes "frame") (rows_of (found_of found.now)) }
-    ensures link { (question_view result).link ≡ first_of (codes "link") (rows_of (found_of found.now)) }
-    ensures explain { (question_view result).explain ≡ flag_of (codes "explain") (rows_of (found_of found.now)) }
-    ensures capture { (question_view result).capture ≡ flag_of (codes "capture") (rows_of (found_of found.now)) }
-    ensures json { (question_view result).json ≡ flag_of (codes "json") (rows_of (found_of found.now)) }
+    ensures { question_view result ≡ showing_at (rows_of (found_of found.now)) }
 {
     Question {
-        policy: text(found, "policy"),
         from: None,
         to: None,
-        message: given(found, "message"),
-        hex: given(found, "hex"),
-        der: given(found, "der"),
-        frame: given(found, "frame"),
-        link: given(found, "link"),
-        explain: flag(found, "explain"),
         capture: flag(found, "capture"),
         json: flag(found, "json"),
+        ..question_to_decide(found)
     }
 }
 
 /// What `encode` asks for. The policy and the message's name are required, so they are there.
 fn encoding_of<'a>(found: &ArgMatches<'a>) -> Encoding<'a>
-    ensures policy { (path : List ℕ) → first_of (codes "policy") (rows_of (found_of found.now)) ≡ Some path
-        → (encoding_view result).policy ≡ path }
-    ensures message { (name : List ℕ) → first_of (codes "message") (rows_of (found_of found.now)) ≡ Some name
-        → (encoding_view result).message ≡ name }
-    ensures value { (encoding_view result).value ≡ first_of (codes "value") (rows_of (found_of found.now)) }
-    ensures sender { (encoding_view result).from ≡ first_of (codes "from") (rows_of (found_of found.now)) }
-    ensures receiver { (encoding_view result).to ≡ first_of (codes "to") (rows_of (found_of found.now)) }
-    ensures der { (encoding_view result).der ≡ flag_of (codes "der") (rows_of (found_of found.now)) }
+    ensures { encoding_view result ≡ encoding_at (rows_of (found_of found.now)) }
 {
     Encoding {
         policy: text(found, "policy"),
@@ -167,11 +132,7 @@ fn encoding_of<'a>(found: &ArgMatches<'a>) -> Encoding<'a>
 
 /// What `test` asks for. The policy is required, so it is there.
 fn trial_of<'a>(found: &ArgMatches<'a>) -> Trial<'a>
-    ensures policy { (path : List ℕ) → first_of (codes "policy") (rows_of (found_of found.now)) ≡ Some path
-        → (trial_view result).policy ≡ path }
-    ensures cases { (trial_view result).cases ≡ first_of (codes "cases") (rows_of (found_of found.now)) }
-    ensures cover { (trial_view result).cover ≡ flag_of (codes "cover") (rows_of (found_of found.now)) }
-    ensures explain { (trial_view result).explain ≡ flag_of (codes "explain") (rows_of (found_of found.now)) }
+    ensures { trial_view result ≡ trial_at (rows_of (found_of found.now)) }
 {
     Trial {
         policy: text(found, "policy"),
@@ -183,13 +144,7 @@ fn trial_of<'a>(found: &ArgMatches<'a>) -> Trial<'a>
 
 /// What `compare` asks for. Both policies are required, so they are there.
 fn comparing_of<'a>(found: &ArgMatches<'a>) -> Comparing<'a>
-    ensures old { (path : List ℕ) → first_of (codes "old") (rows_of (found_of found.now)) ≡ Some path
-        → (comparing_view result).old ≡ path }
-    ensures new { (path : List ℕ) → first_of (codes "new") (rows_of (found_of found.now)) ≡ Some path
-        → (comparing_view result).new ≡ path }
-    ensures by_place { (comparing_view result).by_place ≡ flag_of (codes "by-place") (rows_of (found_of found.now)) }
-    ensures summary { (comparing_view result).summary ≡ flag_of (codes "summary") (rows_of (found_of found.now)) }
-    ensures link { (comparing_view result).link ≡ first_of (codes "link") (rows_of (found_of found.now)) }
+    ensures { comparing_view result ≡ comparing_at (rows_of (found_of found.now)) }
 {
     Comparing {
         old: text(found, "old"),
@@ -201,9 +156,13 @@ fn comparing_of<'a>(found: &ArgMatches<'a>) -> Comparing<'a>
 }
 
 fn text<'a>(matches: &ArgMatches<'a>, id: &str) -> &'a str
-    ensures { (value : List ℕ) → first_of id.now (rows_of (found_of matches.now)) ≡ Some value → result.now ≡ value }
+    ensures value { result.now ≡ value_of id.now (rows_of (found_of matches.now)) }
+    ensures given { (value : Text) → first_of id.now (rows_of (found_of matches.now)) ≡ Some value → result.now ≡ value }
 {
-    matches.get_str(id).unwrap_or("")
+    match matches.get_str(id) {
+        Some(value) => value,
+        None => "",
+    }
 }
 
 /// The value, where it was given.

@@ -1,5 +1,5 @@
 -- What comes to a sink behind one of plain lines.
-use Rattle.std.proofs.Common.{◌≡◌, ◌∙◌, ℕ, Bool, true, false, List, [], Option, Some, ap, sym, subst}
+use Rattle.std.proofs.Common.{◌≡◌, ◌∙◌, ℕ, Bool, true, false, List, [], Option, ap, sym, subst}
 use Rattle.std.specs.Io.KnownBytes.{Appends}
 use Rattle.guard_files.specs.Devices.{Device, device}
 use Rattle.guard_json.specs.Taken.{IsJsonOf, told, lines_begin, lines_taken_by}

@@ -10,7 +10,6 @@ use Rattle.guard_frames.specs.OfPolicy.{decision_of}
 use Rattle.guard_frames.specs.Runs.{RunsToEnd}
 use Rattle.guard_frames.specs.declared.running.RunFault.{RunFault}
 use Rattle.guard_frames.specs.declared.totals.Totals.{Totals}
-use Rattle.guard_files.specs.declared.fault.Fault.{Fault}
 use Rattle.guard_files.specs.declared.fault.Fault.TheVariants.{Run}
 use Rattle.guard_files.specs.Devices.{Input, Device}
 use Rattle.guard_files.specs.Files.{Told}

@@ -15,6 +15,7 @@ pub mod Throughout
 -- ---- the schema
 pub mod ByNames
 -- ---- lists that are too long
+pub mod ListsInOrder
 pub mod LongLists
 -- ---- values that stand alone
 pub mod Alone

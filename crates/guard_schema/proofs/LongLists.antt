@@ -1,36 +1,33 @@
 -- Lists of which no element is kept: what is read of their elements in turn, and that so long a list is refused, by the
 -- first fault of its elements where one denotes nothing.
 use Rattle.std.proofs.Common.{◌≡◌, inl, inr, ℕ, suc, ◌+◌, ◌-◌, ◌≤◌, ◌<◌, Bool, true, false, ◌&&◌, cond, List, [], ◌∷◌, ◌++◌, length, map, drop, get_or, Option, Some, None, Ok, Err, refl, sym, ap, subst, ◌∙◌, IsTrue, arith, append_assoc}
-use Rattle.std.specs.Prelude.{nat_le, nat_eq, slice_get, IfSome}
+use Rattle.std.specs.Prelude.{nat_le, slice_get, IfSome}
 use Rattle.std.specs.Option.{is_some}
-use Rattle.std.proofs.lemmas.Bool.{and_parts, and_from, le-leb, lt-leb, eqb-true}
+use Rattle.std.proofs.lemmas.Bool.{and_parts, and_from, le-leb, lt-leb}
 use Rattle.std.proofs.lemmas.List.{at_drop_more, at_drop_all, append-nil, length-append}
-use Rattle.std.specs.Global.{Box, Vec}
+use Rattle.std.specs.Global.{Vec}
 use Rattle.guard_model.specs.declared.site.Site.{Site}
 use Rattle.guard_model.specs.declared.tag.Tag.{Tag}
-use Rattle.guard_model.specs.declared.ty.Cons.{Cons}
-use Rattle.guard_model.specs.declared.ty.Kind.{Kind, SequenceOf}
 use Rattle.guard_model.specs.declared.ty.Kind.TheViews.{out-Ty}
 use Rattle.guard_model.specs.declared.ty.Ty.{Ty}
-use Rattle.guard_model.specs.AbstractType as type
-use Rattle.guard_model.specs.AbstractType.{AbstractType, AbstractKind, Constraints, type_of, no_constraints}
+use Rattle.guard_model.specs.AbstractType.{AbstractType, AbstractKind, Constraints, type_of}
 use Rattle.guard_model.specs.AbstractValue as value
 use Rattle.guard_model.specs.AbstractValue.{AbstractValue, items_of}
-use Rattle.guard_model.specs.Kinds.{kind_of}
+use Rattle.guard_model.specs.Kinds.{kind_of, element_of}
 use Rattle.guard_model.specs.Limits.{deepest_nesting}
 use Rattle.guard_model.proofs.Results.{same_Err}
 use Rattle.guard_model.specs.TypeView.{type_view, kind_view, constraint_view, constraints_of}
-use Rattle.guard_model.proofs.TypeViews.{type_view_is, kind_view_sequence_of}
-use Rattle.guard_tagcheck.specs.Limits.{nesting, is_tagged, are_low}
+use Rattle.guard_tagcheck.specs.Limits.{nesting}
+use Rattle.guard_tagging.specs.Types.{of_kind}
 use Rattle.guard_der.specs.Der.{der, contents_octets}
 use Rattle.guard_der.specs.Encoding.{longest_encoding, short_length, length_in}
 use Rattle.guard_der.specs.Fits.{fits}
 use Rattle.guard_der.specs.ProperConstraints.{is_short}
-use Rattle.guard_der.specs.Sound.{is_sound, is_proper, has_distinct_tags, are_proper_constraints}
+use Rattle.guard_der.specs.Sound.{is_sound, is_proper, has_distinct_tags}
 use Rattle.guard_der.proofs.Functions.Soundness.{told_where_short}
 use Rattle.guard_eval.specs.Elements.{every_item}
 use Rattle.guard_eval.specs.Member.{is_member, all_hold, parts_are_members}
-use Rattle.guard_syntax.specs.declared.tree.Collection.TheVariants as collection
+use Rattle.guard_syntax.specs.declared.tree.Collection.{Collection}
 use Rattle.guard_syntax.specs.declared.tree.EntryTree.{EntryTree}
 use Rattle.guard_syntax.specs.Trees as written
 use Rattle.guard_syntax.specs.declared.tree.EntryTree.TheViews.{out-ValueTree}
@@ -41,6 +38,7 @@ use Rattle.guard_syntax.specs.Trees.{WrittenValue, WrittenEntries, WrittenEntry,
 use Rattle.guard_syntax.specs.Views.{entry_view, value_view, value_form_view}
 use Rattle.guard_values.specs.declared.fault.ValueFault.{ValueFault}
 use Rattle.guard_values.specs.declared.fault.ValueFault.TheVariants as value_fault
+use Rattle.guard_values.specs.Arrangement.{are_short}
 use Rattle.guard_values.specs.Denotes.{Says, EntriesSay, Denotes}
 use Rattle.guard_values.specs.Faults.{faults_of, faults_of_elements, faults_of_element_name, faults_of_count}
 use Rattle.guard_values.specs.FirstFault.{IsFirstFault}
@@ -57,8 +55,8 @@ use Rattle.guard_schema.specs.Counting.{held, value_nodes, nodes_of_items, all_h
 use Rattle.guard_schema.specs.Faults.{AbstractFault, Value, DefaultOutside, TooLarge, Outcome}
 use Rattle.guard_schema.specs.Known.{Built, Known}
 use Rattle.guard_schema.specs.Outcomes.{Is, Then, RefusesBy}
-use Rattle.guard_schema.specs.inside.LongLists.{AreRead, IsFirstOfElements, ReadsAndHolds}
-use Rattle.guard_schema.proofs.Sound.Shaped.{element_shaped}
+use Rattle.guard_schema.specs.inside.LongLists.{AreRead, IsFirstOfElements, ReadsAndHolds, IsToldBySize}
+use Rattle.guard_schema.proofs.ListsInOrder.{in_order, list_value, parts_in_order, length_in_order, items_in_order, octets_in_order, says_list, faults_of_list, takes, list_type}
 
 -- ---- elements in turn
 
@@ -75,6 +73,13 @@ every_last : (test : AbstractValue → Bool) (vs : List AbstractValue) (v : Abst
 every_last test [] v = and_true (test v)
 every_last test (w ∷ ws) v = ap (λ (b : Bool). test w && b) (every_last test ws v)
     ∙ and_grouped (test w) (every_item test (items_of ws)) (test v)
+
+short_last : (u : AbstractType) (vs : List AbstractValue) (v : AbstractValue) → IsTrue (are_short u vs)
+    → IsTrue (is_short (der u v)) → IsTrue (are_short u (vs ++ v ∷ []))
+short_last u [] v h short = and_from (is_short (der u v)) true short refl
+short_last u (w ∷ ws) v h short =
+    let p = and_parts (is_short (der u w)) (are_short u ws) h in
+    and_from (is_short (der u w)) (are_short u (ws ++ v ∷ [])) p.0 (short_last u ws v p.1 short)
 
 -- the first fault of some is that of these and more
 first_then : (fs more : List ValueFault) (f : ValueFault) → slice_get fs 0 ≡ Some f → slice_get (fs ++ more) 0 ≡ Some f
@@ -113,6 +118,7 @@ module _ (m : Meaning) (u : AbstractType) where
         × (all ≡ every_item (is_member u) (items_of vs))
         × (short_length (items_joined u vs) ≡ Some (longest_encoding - room)) × (length vs ≡ i)
         × (faults_of_elements m u (left i) ≡ faults_of_elements m u (entries_of (map entry_view entries)))
+        × IsTrue (are_short u vs)
 
     pub one_read : (i room n : ℕ) (all after : Bool) (e : EntryTree) (v : AbstractValue)
         → i < length entries → e ≡ get_or entries i e → (entry_view e).name ≡ None
@@ -137,6 +143,7 @@ module _ (m : Meaning) (u : AbstractType) where
           (last_counted u h.0 v w.site room (room - n) h.3 low took).0,
           length-append h.0 (v ∷ []) ∙ ap (λ (k : ℕ). k + 1) h.4,
           sym (ap (faults_of_elements m u) here ∙ faultless) ∙ h.5,
+          short_last u h.0 v h.6 (sym (told_where_short (der u v)) ∙ ap is_some (sym counted)),
         )
 
     -- the fault that is told of the next one
@@ -164,43 +171,8 @@ module _ (m : Meaning) (u : AbstractType) where
           h.2,
           h.3,
           h.4 ∙ end,
+          h.6,
         )
-
--- ---- types of such lists
-
-pub listed_type : (ty : Ty) (element : Box Ty) → (out-Ty ty).kind ≡ SequenceOf element → (out-Ty ty).cons.items ≡ []
-    → type_view ty ≡ type_of (out-Ty ty).tags.items (type.sequence_of (type_view element.value)) no_constraints
-listed_type ty element is none =
-    type_view_is ty
-    ∙ ap (λ (k : Kind). type_of (out-Ty ty).tags.items (kind_view k)
-    (constraints_of (map constraint_view (out-Ty ty).cons.items))) is
-    ∙ ap (λ (k : AbstractKind). type_of (out-Ty ty).tags.items k
-    (constraints_of (map constraint_view (out-Ty ty).cons.items))) (kind_view_sequence_of element)
-    ∙ ap (λ (cs : List Cons). type_of (out-Ty ty).tags.items (type.sequence_of (type_view element.value))
-    (constraints_of (map constraint_view cs))) none
-
-empty_list : {A : Type 0} (xs : List A) → length xs ≡ 0 → xs ≡ []
-empty_list [] e = refl
-empty_list (x ∷ xs) e = absurd (let more : suc (length xs) ≡ 0 = e in omega (arith, more))
-
-pub no_items : {A : Type 0} (xs : Vec A) → nat_eq xs.len 0 ≡ true → xs.items ≡ []
-no_items xs e =
-    let none : xs.len ≡ 0 = eqb-true xs.len 0 e in
-    empty_list xs.items (omega (arith, none, xs.ok.0))
-
-pub element_sound : (tags : List Tag) (u : AbstractType) (cons : Constraints)
-    → IsTrue (is_sound (type_of tags (type.sequence_of u) cons)) → IsTrue (is_sound u)
-element_sound tags u cons h =
-    let t = type_of tags (type.sequence_of u) cons in
-    let a = and_parts (is_proper t && has_distinct_tags t) (nat_le (nesting t) deepest_nesting) h in
-    let b = and_parts (is_proper t) (has_distinct_tags t) a.0 in
-    let proper = and_parts (is_tagged tags (type.sequence_of u) && are_low tags && are_proper_constraints cons t)
-    (is_proper u) b.0 in
-    let shaped = element_shaped collection.Sequence tags u cons
-    (and_from (has_distinct_tags t) (nat_le (nesting t) deepest_nesting) b.1 a.1) in
-    let s = and_parts (has_distinct_tags u) (nat_le (nesting u) deepest_nesting) shaped in
-    and_from (is_proper u && has_distinct_tags u) (nat_le (nesting u) deepest_nesting)
-    (and_from (is_proper u) (has_distinct_tags u) proper.1 s.0) s.1
 
 -- ---- refused
 
@@ -226,47 +198,48 @@ a_node_each (v ∷ vs) =
     both
 
 -- what the contents have in their tags
-short_whole : (ty : Ty) (u : AbstractType)
-    → type_view ty ≡ type_of (out-Ty ty).tags.items (type.sequence_of u) no_constraints → (octets : ℕ) (whole : Option ℕ)
+short_whole : (ty : Ty) (kind : AbstractKind) → kind_of (type_view ty) ≡ kind → (octets : ℕ) (whole : Option ℕ)
     → whole ≡ length_in (out-Ty ty).tags.items (Some octets) → is_some whole ≡ true → (v : AbstractValue)
-    → Some octets ≡ short_length (contents_octets (type.sequence_of u) v) → is_short (der (type_view ty) v) ≡ true
-short_whole ty u is octets whole counted short v contents =
-    let within = contents ∙ ap (λ (t : AbstractType). short_length (contents_octets (kind_of t) v)) (sym is) in
+    → Some octets ≡ short_length (contents_octets kind v) → is_short (der (type_view ty) v) ≡ true
+short_whole ty kind is octets whole counted short v contents =
+    let within = contents ∙ ap (λ (k : AbstractKind). short_length (contents_octets k v)) (sym is) in
     sym (told_where_short (der (type_view ty) v))
     ∙ ap is_some (sym (in_tags_counted ty v (Some octets) whole within (λ _. counted))) ∙ short
 
-module _ (names : Visible) (fit : AreFitting names.values) (t : AbstractType) (tags : List Tag) (u : AbstractType)
-    (is : t ≡ type_of tags (type.sequence_of u) no_constraints) (site : Site) (es : WrittenEntries) (count : ℕ)
-    (all : Bool) (octets : ℕ) (sound : IsTrue (is_sound t)) (read : AreRead names.values u es count (all, octets))
-    (few : count ≤ 4294967295)
-    (short : (v : AbstractValue) → Some octets ≡ short_length (contents_octets (type.sequence_of u) v)
+module _ (names : Visible) (fit : AreFitting names.values) (t : AbstractType) (k : Collection) (tags : List Tag)
+    (u : AbstractType) (cons : Constraints) (is : t ≡ type_of tags (of_kind k u) cons) (site : Site)
+    (es : WrittenEntries) (count : ℕ) (kept all : Bool) (octets : ℕ) (sound : IsTrue (is_sound t))
+    (read : AreRead names.values u es count (all, octets)) (few : count ≤ 4294967295)
+    (sizes : IsToldBySize count (all_hold cons) kept)
+    (short : (v : AbstractValue) → Some octets ≡ short_length (contents_octets (of_kind k u) v)
     → is_short (der t v) ≡ true) where
   abbrev tree : WrittenValue
   tree = value_node site (written.list es)
 
   abbrev v : AbstractValue
-  v = value.items (items_of read.0)
+  v = list_value k u read.0
 
   denoted : Denotes names.values t tree v
   denoted =
       let counted : length read.0 ≡ count = read.4 in
       let low : length read.0 ≤ 4294967295 = omega (arith, few, counted) in (
         subst (λ (x : AbstractType). Says names.values x tree v) (sym is)
-            (read.0, read.1, le-leb (length read.0) 4294967295 low, refl),
-        short v (sym read.3),
+            (says_list names.values k tags u cons site es read.0 read.1 low read.5),
+        short v (sym (octets_in_order k u read.0 ∙ read.3)),
       )
 
-  member : is_member t v ≡ all
+  member : is_member t v ≡ (kept && all)
   member =
       let a = and_parts (is_proper t && has_distinct_tags t) (nat_le (nesting t) deepest_nesting) sound in
       let proper = (and_parts (is_proper t) (has_distinct_tags t) a.0).0 in
       let fitting = sym (ap (λ (x : AbstractType). fits x v) is) ∙ says_fits names.values fit tree t v proper denoted.0 in
       ap (λ (x : AbstractType). is_member x v) is
-      ∙ ap (λ (b : Bool). b && all_hold no_constraints (type.sequence_of u) v && parts_are_members (type.sequence_of u) v)
-      fitting
-      ∙ sym read.2
+      ∙ ap (λ (b : Bool). b && all_hold cons (of_kind k u) v && parts_are_members (of_kind k u) v) fitting
+      ∙ ap (λ (b : Bool). b && parts_are_members (of_kind k u) v) (sizes (of_kind k u) (takes k u)
+      (items_of (in_order k u read.0)) (items_in_order k u read.0 ∙ read.4))
+      ∙ ap (λ (b : Bool). kept && b) (parts_in_order k u read.0 ∙ sym read.2)
 
-  one_outside : (before : ℕ) (name : Site) → all ≡ false
+  one_outside : (before : ℕ) (name : Site) → (kept && all) ≡ false
       → ReadsAndHolds before name names t tree (Err (DefaultOutside site))
   one_outside before name none = inr (
     DefaultOutside site,
@@ -282,30 +255,35 @@ module _ (names : Visible) (fit : AreFitting names.values) (t : AbstractType) (t
     refl,
   )
 
-  too_large : (before : ℕ) (name : Site) → all ≡ true → 100000 ≤ count
+  too_large : (before : ℕ) (name : Site) → (kept && all) ≡ true → 100000 ≤ count
       → ReadsAndHolds before name names t tree (Err (TooLarge name))
   too_large before name each long =
       let counted : length read.0 ≡ count = read.4 in
-      let nodes : length read.0 ≤ nodes_of_items (items_of read.0) = a_node_each read.0 in
-      let over : 100000 < before + (held t + suc (nodes_of_items (items_of read.0))) = omega (arith, long, counted, nodes) in
+      let ordered : length (in_order k u read.0) ≡ length read.0 = length_in_order k u read.0 in
+      let nodes : length (in_order k u read.0) ≤ nodes_of_items (items_of (in_order k u read.0)) =
+      a_node_each (in_order k u read.0) in
+      let over : 100000 < before + (held t + suc (nodes_of_items (items_of (in_order k u read.0)))) =
+      omega (arith, long, counted, ordered, nodes) in
       inl (v, inl (v, denoted, inl (tt, member ∙ each, refl)), (refl, lt-leb _ 100000 over))
 
   one_refused : (before : ℕ) (name : Site) → 100000 ≤ count
-      → ReadsAndHolds before name names t tree (Err (cond all (TooLarge name) (DefaultOutside site)))
-  one_refused before name long = by all refl where
-    by : (b : Bool) → all ≡ b → ReadsAndHolds before name names t tree (Err (cond b (TooLarge name)
+      → ReadsAndHolds before name names t tree (Err (cond (kept && all) (TooLarge name) (DefaultOutside site)))
+  one_refused before name long = by (kept && all) refl where
+    by : (b : Bool) → (kept && all) ≡ b → ReadsAndHolds before name names t tree (Err (cond b (TooLarge name)
         (DefaultOutside site)))
     by true e = too_large before name e long
     by false e = one_outside before name e
 
 -- ---- refused by a fault of an element
 
-module _ (names : Visible) (t : AbstractType) (tags : List Tag) (u : AbstractType)
-    (is : t ≡ type_of tags (type.sequence_of u) no_constraints) (site : Site) (es : WrittenEntries)
+module _ (names : Visible) (t : AbstractType) (k : Collection) (tags : List Tag) (u : AbstractType)
+    (cons : Constraints) (is : t ≡ type_of tags (of_kind k u) cons) (site : Site) (es : WrittenEntries)
     (sound : IsTrue (is_sound t)) (f : ValueFault) (first : IsFirstOfElements names.values u es f) where
   first_of_list : IsFirstFault names.values t (value_node site (written.list es)) f
   first_of_list =
-      inl (subst (λ x. slice_get (faults_of names.values x (value_node site (written.list es))) 0 ≡ Some f) (sym is)
+      inl (subst (λ fs. slice_get fs 0 ≡ Some f)
+      (sym (ap (λ (x : AbstractType). faults_of names.values x (value_node site (written.list es))) is
+      ∙ faults_of_list names.values k tags u cons site es))
       (first_then (faults_of_elements names.values u es) (faults_of_count site es) f first.1))
 
   element_refused : (before : ℕ) (name : Site)
@@ -326,28 +304,32 @@ module _ (names : Visible) (t : AbstractType) (tags : List Tag) (u : AbstractTyp
 
 -- ---- as the code has it
 
-pub record Listed (ty : Ty) (element : Box Ty) (tree : ValueTree) (entries : Vec EntryTree) : Type 0 where
+abbrev pub constraints : Ty → Constraints
+constraints ty = constraints_of (map constraint_view (out-Ty ty).cons.items)
+
+pub record Listed (ty : Ty) (u : AbstractType) (tree : ValueTree) (entries : Vec EntryTree) : Type 0 where
   pub sound : IsTrue (is_sound (type_view ty))
   pub listed : (out-ValueTree tree).form ≡ variant.List entries
-  pub kind : (out-Ty ty).kind ≡ SequenceOf element
-  pub alone : (out-Ty ty).cons.items ≡ []
+  pub element : element_of (kind_view (out-Ty ty).kind) ≡ Some u
 
--- such a list of which all elements are read
-pub record Counted (names : Visible) (ty : Ty) (element : Box Ty) (entries : Vec EntryTree) (all : Bool) (octets : ℕ)
-    : Type 0 where
+-- such a list of which all elements are read, and the constraints are asked for its size
+pub record Counted (names : Visible) (ty : Ty) (u : AbstractType) (entries : Vec EntryTree) (kept all : Bool)
+    (octets : ℕ) : Type 0 where
   pub fit : AreFitting names.values
-  pub read : AreRead names.values (type_view element.value) (entries_of (map entry_view entries.items))
-      (length entries.items) (all, octets)
+  pub read : AreRead names.values u (entries_of (map entry_view entries.items)) (length entries.items) (all, octets)
   pub few : length entries.items ≤ 4294967295
+  pub sizes : IsToldBySize (length entries.items) (all_hold (constraints ty)) kept
   pub whole : Option ℕ
   pub counted : whole ≡ length_in (out-Ty ty).tags.items (Some octets)
   pub short : is_some whole ≡ true
 
-module _ (names : Visible) (ty : Ty) (element : Box Ty) (tree : ValueTree) (entries : Vec EntryTree)
-    (l : Listed ty element tree entries) where
-  type_is : type_view ty
-      ≡ type_of (out-Ty ty).tags.items (type.sequence_of (type_view element.value)) no_constraints
-  type_is = listed_type ty element l.kind l.alone
+module _ (names : Visible) (ty : Ty) (u : AbstractType) (tree : ValueTree) (entries : Vec EntryTree)
+    (l : Listed ty u tree entries) where
+  abbrev k : Collection
+  k = (list_type ty u l.element).0
+
+  type_is : type_view ty ≡ type_of (out-Ty ty).tags.items (of_kind k u) (constraints ty)
+  type_is = (list_type ty u l.element).1
 
   abbrev es : WrittenEntries
   es = entries_of (map entry_view entries.items)
@@ -357,21 +339,22 @@ module _ (names : Visible) (ty : Ty) (element : Box Ty) (tree : ValueTree) (entr
       ∙ ap (λ (f : ValueForm). value_node (out-ValueTree tree).site (value_form_view f)) l.listed
       ∙ ap (value_node (out-ValueTree tree).site) (form_list entries)
 
-  pub refused : (all : Bool) (octets : ℕ) → Counted names ty element entries all octets
+  pub refused : (kept all : Bool) (octets : ℕ) → Counted names ty u entries kept all octets
       → 100000 ≤ length entries.items → (site : Site) (before : ℕ)
       → ReadsAndHolds before site names (type_view ty) (value_view tree)
-      (Err (cond all (TooLarge site) (DefaultOutside (out-ValueTree tree).site)))
-  refused all octets c long site before =
-      subst (λ w. ReadsAndHolds before site names (type_view ty) w (Err (cond all (TooLarge site) (DefaultOutside
-      (out-ValueTree tree).site)))) (sym tree_is) (one_refused names c.fit (type_view ty) (out-Ty ty).tags.items
-      (type_view element.value) type_is (out-ValueTree tree).site es (length entries.items) all octets l.sound c.read
-      c.few (short_whole ty (type_view element.value) type_is octets c.whole c.counted c.short) before site long)
+      (Err (cond (kept && all) (TooLarge site) (DefaultOutside (out-ValueTree tree).site)))
+  refused kept all octets c long site before =
+      subst (λ w. ReadsAndHolds before site names (type_view ty) w (Err (cond (kept && all) (TooLarge site)
+      (DefaultOutside (out-ValueTree tree).site)))) (sym tree_is) (one_refused names c.fit (type_view ty) k
+      (out-Ty ty).tags.items u (constraints ty) type_is (out-ValueTree tree).site es (length entries.items) kept all
+      octets l.sound c.read c.few c.sizes (short_whole ty (of_kind k u) (ap kind_of type_is) octets c.whole c.counted
+      c.short) before site long)
 
-  pub faulty : (f : ValueFault) → IsFirstOfElements names.values (type_view element.value) es f → (site : Site)
-      (before : ℕ) → ReadsAndHolds before site names (type_view ty) (value_view tree) (Err (Value f))
+  pub faulty : (f : ValueFault) → IsFirstOfElements names.values u es f → (site : Site) (before : ℕ)
+      → ReadsAndHolds before site names (type_view ty) (value_view tree) (Err (Value f))
   faulty f first site before =
       subst (λ w. ReadsAndHolds before site names (type_view ty) w (Err (Value f))) (sym tree_is)
-      (element_refused names (type_view ty) (out-Ty ty).tags.items (type_view element.value) type_is
+      (element_refused names (type_view ty) k (out-Ty ty).tags.items u (constraints ty) type_is
       (out-ValueTree tree).site es l.sound f first before site)
 
 -- ---- what the definition has then

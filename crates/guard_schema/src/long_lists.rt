@@ -1,6 +1,6 @@
 //! Assigned values that are lists of so many values with places for components that no schema may hold them. A value
 //! takes memory for each place, also where nothing is in it, so each element is read and dropped.
-ghost use Rattle.std.specs.Prelude.{◌≡◌, ◌≤◌, ℕ, length, map, Some, None, IsTrue, IfOk, IfErr, IfSome, if◌then◌else◌};
+ghost use Rattle.std.specs.Prelude.{◌≡◌, ◌≤◌, ◌&&◌, ℕ, length, map, Some, None, IsTrue, IfOk, IfErr, IfSome, if◌then◌else◌};
 ghost use Rattle.guard_constraints.specs.Views.{visible_in};
 ghost use Rattle.guard_der.specs.Encoding.{longest_encoding};
 ghost use Rattle.guard_der.specs.Fits.{fits};
@@ -17,6 +17,7 @@ ghost use Rattle.guard_values.specs.Denotes.{Says};
 ghost use Rattle.guard_values.specs.Views as values;
 
 use crate::fault::SchemaFault;
+use crate::list_sizes::all_allow;
 use guard_der::{LONGEST_ENCODING, encoded_length, length_in};
 use guard_eval::proper_member;
 use guard_model::{Comp, Kind, MOST_ITEMS, Presence, Site, Ty, Value};
@@ -29,8 +30,10 @@ use std::sync::Arc;
 const LONG: usize = 100_000;
 
 /// Refuses a value assignment, whose name is at the site, where its value is a list that is longer than may be: by the
-/// first fault of its elements where one denotes nothing, S2 where an element is no member, else S3. Of other values
-/// nothing is said, nor of a list whose encoding, or that of an element before its first fault, may be too long.
+/// first fault of its elements where one denotes nothing, S2 where an element is no member or the list itself has a
+/// size that its type doesn't allow, else S3. Of other values nothing is said, nor of a list whose type has a
+/// constraint that may look at elements (a single value, a contained subtype, WITH COMPONENT), nor of one whose
+/// encoding, or that of an element before its first fault, may be too long.
 pub fn check_length(
     alloc: Global,
     scope: Scope,
@@ -43,15 +46,16 @@ pub fn check_length(
     ensures { IfErr result (λ e. (before : ℕ) → RefusesBy (named e) (ReadsAndHolds before site
         (visible_in scope.entry) (type_view ty.now) (trees.value_view tree.now))) }
 {
-    let (ValueForm::List(entries), Kind::SequenceOf(element)) = (&tree.form, &ty.kind) else {
+    let (ValueForm::List(entries), Some(element)) = (&tree.form, ty.kind.element()) else {
         return Ok(());
     };
-    if !ty.cons.is_empty()
-        || !is_long(entries.len(), &element.kind)
-        || !has_small_defaults(element)
-    {
+    let count = entries.len();
+    if !is_long(count, &element.kind) || !has_small_defaults(element) {
         return Ok(());
     }
+    let Some(is_allowed) = all_allow(alloc, &ty.cons, count) else {
+        return Ok(());
+    };
     let (are_members, octets) = match elements_read(alloc, scope, entries, element) {
         Ok(read) => read,
         Err(Some(fault)) => return Err(SchemaFault::Value(fault)),
@@ -60,14 +64,14 @@ pub fn check_length(
     if length_in(&ty.tags, octets).is_none() {
         return Ok(());
     }
-    Err(refusal(are_members, tree.site, site))
+    Err(refusal(is_allowed, are_members, tree.site, site))
 }
 
-/// S3 at the name, or S2 at the value where an element is no member.
-fn refusal(are_members: bool, value: Site, name: Site) -> SchemaFault
-    ensures { named result ≡ Some (if are_members then TooLarge name else DefaultOutside value) }
+/// S3 at the name, or S2 at the value where its size isn't allowed or an element is no member.
+fn refusal(is_allowed: bool, are_members: bool, value: Site, name: Site) -> SchemaFault
+    ensures { named result ≡ Some (if is_allowed && are_members then TooLarge name else DefaultOutside value) }
 {
-    if are_members {
+    if is_allowed && are_members {
         SchemaFault::TooLarge(name)
     } else {
         SchemaFault::DefaultOutside(value)

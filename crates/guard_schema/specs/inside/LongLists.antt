@@ -1,16 +1,20 @@
--- Assigned lists of which no element is kept: what is found out about their elements, and how they are refused.
-use Rattle.std.specs.Prelude.{◌≡◌, ℕ, Bool, List, length, slice_get, Some}
+-- Assigned lists of which no element is kept: what is found out about their elements and from how many there are, and how
+-- they are refused.
+use Rattle.std.specs.Prelude.{◌≡◌, ℕ, Bool, not, ◌&&◌, List, [], length, slice_get, Option, Some, None, IsTrue}
 use Rattle.guard_model.specs.declared.site.Site.{Site}
 use Rattle.guard_model.specs.AbstractType as type
-use Rattle.guard_model.specs.AbstractType.{AbstractType}
+use Rattle.guard_model.specs.AbstractType.{AbstractType, AbstractKind, Constraint}
 use Rattle.guard_model.specs.AbstractValue as value
-use Rattle.guard_model.specs.AbstractValue.{AbstractValue, items_of}
+use Rattle.guard_model.specs.AbstractValue.{AbstractValue, Items, items_of}
+use Rattle.guard_model.specs.Counts.{item_count}
 use Rattle.guard_der.specs.Der.{contents_octets}
 use Rattle.guard_der.specs.Encoding.{short_length}
-use Rattle.guard_eval.specs.Elements.{every_item}
-use Rattle.guard_eval.specs.Member.{is_member}
+use Rattle.guard_der.specs.ProperConstraints.{takes_size}
+use Rattle.guard_eval.specs.Elements.{every_item, some_passes}
+use Rattle.guard_eval.specs.Member.{is_member, holds}
 use Rattle.guard_syntax.specs.Trees.{WrittenValue, WrittenEntries}
 use Rattle.guard_values.specs.declared.fault.ValueFault.{ValueFault}
+use Rattle.guard_values.specs.Arrangement.{are_short}
 use Rattle.guard_values.specs.Denotes.{EntriesSay}
 use Rattle.guard_values.specs.Faults.{faults_of_elements}
 use Rattle.guard_values.specs.Meanings.{Meaning}
@@ -21,13 +25,13 @@ use Rattle.guard_schema.specs.Faults.{Outcome, IsNamed}
 use Rattle.guard_schema.specs.Outcomes.{Then}
 use Rattle.guard_schema.specs.Readings.{ReadsMember}
 
--- The entries say so many values of the type, in turn: whether all are members, and how many octets they have as the
--- contents of a SEQUENCE OF.
+-- The entries say so many values of the type, in turn, each with an encoding that is short enough: whether all are
+-- members, and how many octets they have as the contents of a SEQUENCE OF.
 abbrev pub AreRead : Meaning → AbstractType → WrittenEntries → ℕ → Bool × ℕ → Type 0
 AreRead m u es count x =
     (vs : List AbstractValue) × EntriesSay m u es vs × (x.0 ≡ every_item (is_member u) (items_of vs))
     × (short_length (contents_octets (type.sequence_of u) (value.items (items_of vs))) ≡ Some x.1)
-    × (length vs ≡ count)
+    × (length vs ≡ count) × IsTrue (are_short u vs)
 
 -- the first fault of the entries for elements, encodings that are too long aside
 abbrev pub IsFirstOfElements : Meaning → AbstractType → WrittenEntries → ValueFault → Type 0
@@ -37,3 +41,20 @@ IsFirstOfElements m u es f = IsNamed value_views.named f × (slice_get (faults_o
 abbrev pub ReadsAndHolds : ℕ → Site → Visible → AbstractType → WrittenValue → Outcome (Unit {0}) → Type 0
 ReadsAndHolds before site names t tree =
     Then (ReadsMember names t tree) (λ v. KeepsLimit before site (record { ty = t; value = Some v }))
+
+-- ---- by how many elements there are
+
+-- the answer of a test, whichever list of so many elements it is asked of, on any kind that has a size
+abbrev pub IsToldBySize : ℕ → (AbstractKind → AbstractValue → Bool) → Bool → Type 0
+IsToldBySize count test b =
+    (kind : AbstractKind) → IsTrue (takes_size kind) → (vs : Items) → item_count vs ≡ count
+    → test kind (value.items vs) ≡ b
+
+-- whether the constraint on INTEGER, inside SIZE, has this size (X.680 51.5)
+abbrev pub is_size_in : Constraint → ℕ → Bool
+is_size_in c count = some_passes (holds c (type.integer [])) (Some count)
+
+-- in the one and not in the other, where both are known
+abbrev pub without : Option Bool → Option Bool → Option Bool
+without (Some kept) (Some taken) = Some (kept && not taken)
+without _ _ = None

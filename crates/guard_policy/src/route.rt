@@ -7,6 +7,17 @@ ghost use Rattle.guard_policy.specs.Names.{is_name, is_name_octet, is_party, is_
 /// The most octets of a name.
 const LONGEST_NAME: usize = 63;
 
+// Each octet of a name stands at its own place, and a comma at every other place.
+static NAME_OCTETS: [u8; 256] = *b"\
+    ,,,,,,,,,,,,,,,,,,,,,,,,,,,,,,,,\
+    ,,,,,,,,,,,,,-.,0123456789,,,,,,\
+    ,ABCDEFGHIJKLMNOPQRSTUVWXYZ,,,,_\
+    ,abcdefghijklmnopqrstuvwxyz,,,,,\
+    ,,,,,,,,,,,,,,,,,,,,,,,,,,,,,,,,\
+    ,,,,,,,,,,,,,,,,,,,,,,,,,,,,,,,,\
+    ,,,,,,,,,,,,,,,,,,,,,,,,,,,,,,,,\
+    ,,,,,,,,,,,,,,,,,,,,,,,,,,,,,,,,";
+
 /// What a rule says for every sender, or for every receiver.
 pub(crate) const ANYONE: &str = "*";
 
@@ -60,10 +71,5 @@ fn are_name_octets(octets: &[u8]) -> bool
 fn is_name_octet(octet: u8) -> bool
     ensures { result ≡ is_name_octet octet }
 {
-    octet.is_ascii_lowercase()
-        || octet.is_ascii_digit()
-        || octet.is_ascii_uppercase()
-        || octet == b'-'
-        || octet == b'_'
-        || octet == b'.'
+    NAME_OCTETS[octet as usize] != b','
 }

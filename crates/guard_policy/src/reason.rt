@@ -89,14 +89,14 @@ pub(crate) fn told_by(rules: &RouteRules, numbers: &[usize], members: &Slots) ->
     ensures { IfSome result (IsToldBy rules.now numbers.now members.now) }
 {
     let denying = common(&rules.denying, members);
-    if let Some(number) = first_in(&denying, numbers) {
-        return Some(PlainReason::DeniedBy(number));
-    }
-    if denying != Slots::none() || meets(&rules.allowing, members) {
-        return None;
+    if denying != Slots::none() {
+        return Some(PlainReason::DeniedBy(first_in(&denying, numbers)?));
     }
     if rules.allow_nothing() {
-        Some(PlainReason::NoRule)
+        return Some(PlainReason::NoRule);
+    }
+    if meets(&rules.allowing, members) {
+        None
     } else {
         Some(PlainReason::NotAllowed)
     }

@@ -67,12 +67,12 @@ impl Parties {
     }
 
     /// The rules that speak of the party of this name.
-    fn rules(&self, name: &[u8]) -> Slots
-        ensures { result ≡ slots_for self.now name.now }
+    fn rules(&self, name: &[u8]) -> &Slots
+        ensures { result.now ≡ slots_for self.now name.now }
     {
         match self.named.get(OctetsOf { octets: name }) {
-            Some(slots) => *slots,
-            None => self.others,
+            Some(slots) => slots,
+            None => &self.others,
         }
     }
 }
@@ -98,7 +98,7 @@ impl Routing {
         ensures { result ≡ route_rules self.now (route_view route.now) }
     {
         let of_sender = self.senders.rules(route.from);
-        let speaking = common(&of_sender, &self.receivers.rules(route.to));
+        let speaking = common(of_sender, self.receivers.rules(route.to));
         RouteRules {
             allowing: common(&speaking, &self.allowing),
             denying: common(&speaking, &self.denying),

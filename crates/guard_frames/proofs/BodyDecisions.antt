@@ -9,7 +9,7 @@ use Rattle.guard_policy.specs.declared.passing.Passing.TheVariants as passing
 use Rattle.guard_policy.specs.NamedRoutes.{with_length, IsGiven}
 use Rattle.guard_policy.specs.Policies.{AbstractPolicy, AbstractRoute, AbstractRule}
 use Rattle.guard_policy.specs.Told.{Tells}
-use Rattle.guard_frames.specs.Bodies.{AbstractBody, IsBody, HasNames, named, parts_in, has_names}
+use Rattle.guard_frames.specs.Bodies.{AbstractBody, IsBody, HasNames, header_of, named, parts_in, has_names}
 use Rattle.guard_frames.specs.OfPolicy.{route_of, decision_of, lets_of, reasons_of}
 use Rattle.guard_frames.specs.Outcomes.{IsDecided}
 use Rattle.guard_frames.specs.declared.decision.Decided.{Decided}
@@ -18,26 +18,25 @@ use Rattle.guard_frames.proofs.HeaderLaws.{names_in, names_again, parts_take, sa
 
 -- ---- the names, and the message after them
 
-split_of : (octets : List ℕ) (b : AbstractBody) → Some b ≡ parts_in octets → octets ≡ (named b.sender ++ (named b.receiver ++ named b.name)) ++ b.message_octets
+split_of : (octets : List ℕ) (b : AbstractBody) → Some b ≡ parts_in octets → octets ≡ header_of b ++ b.message_octets
 split_of octets b e =
     parts_take octets b (sym e)
     ∙ sym (append_assoc (named b.sender) (named b.receiver ++ named b.name) b.message_octets
     ∙ ap (λ (rest : List ℕ). named b.sender ++ rest) (append_assoc (named b.receiver) (named b.name) b.message_octets))
 
 pub message_within : (octets : List ℕ) (b : AbstractBody) → Some b ≡ parts_in octets → length b.message_octets ≤ length octets
-message_within octets b e =
-    let front : List ℕ = named b.sender ++ (named b.receiver ++ named b.name) in
-    omega (arith, ap length (split_of octets b e), length-append front b.message_octets)
+message_within octets b e = omega (arith, ap length (split_of octets b e), length-append (header_of b) b.message_octets)
 
--- what lies before the message, and the message
+-- what lies before the message
+pub header_first : (octets : List ℕ) (b : AbstractBody) → Some b ≡ parts_in octets → take (length octets - length b.message_octets) octets ≡ header_of b
+header_first octets b e =
+    let split : octets ≡ header_of b ++ b.message_octets = split_of octets b e in
+    let long : length octets - length b.message_octets ≡ length (header_of b) = omega (arith, ap length split, length-append (header_of b) b.message_octets) in
+    ap (λ k. take k octets) long ∙ ap (take (length (header_of b))) split ∙ take-append_seam (header_of b) b.message_octets
+
+-- and the message
 pub names_before : (octets : List ℕ) (b : AbstractBody) → Some b ≡ parts_in octets → octets ≡ take (length octets - length b.message_octets) octets ++ b.message_octets
-names_before octets b e =
-    let front : List ℕ = named b.sender ++ (named b.receiver ++ named b.name) in
-    let split : octets ≡ front ++ b.message_octets = split_of octets b e in
-    let long : length octets - length b.message_octets ≡ length front = omega (arith, ap length split, length-append front b.message_octets) in
-    let first : take (length octets - length b.message_octets) octets ≡ front =
-    ap (λ k. take k octets) long ∙ ap (take (length front)) split ∙ take-append_seam front b.message_octets in
-    split ∙ ap (λ (x : List ℕ). x ++ b.message_octets) (sym first)
+names_before octets b e = split_of octets b e ∙ ap (λ (x : List ℕ). x ++ b.message_octets) (sym (header_first octets b e))
 
 -- ---- what is told of the body that the octets are
 

@@ -51,6 +51,10 @@ body_in octets = do
 abbrev pub named : List ℕ → List ℕ
 named name = with_length name
 
+-- the three names, as the header has them
+abbrev pub header_of : AbstractBody → List ℕ
+header_of b = named b.sender ++ (named b.receiver ++ named b.name)
+
 -- the sender, the receiver and the name of the message are names
 pub record HasNames (b : AbstractBody) : Type 0 where
   pub sender : is_name b.sender ≡ true

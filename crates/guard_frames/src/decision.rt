@@ -1,8 +1,8 @@
 //! What decides which messages go.
 
-ghost use Rattle.std.specs.Prelude.{ℕ, List, IfOk, IfSome, OnOk};
+ghost use Rattle.std.specs.Prelude.{◌≡◌, ℕ, List, IfOk, IfSome, OnOk};
 ghost use Rattle.guard_policy.specs.declared.verdict.PlainReason.{PlainReason};
-ghost use Rattle.guard_frames.specs.Bodies.{AbstractBody, body_view, HasNames};
+ghost use Rattle.guard_frames.specs.Bodies.{AbstractBody, body_view, header_of, HasNames};
 ghost use Rattle.guard_frames.specs.Calls.{EndsLine};
 ghost use Rattle.guard_frames.specs.Outcomes.{Decision, IsDecided};
 ghost use Rattle.guard_frames.specs.declared.why.Reason.{Reason};
@@ -55,17 +55,19 @@ pub trait Decide {
 
     /// Puts the report line of the frame of this number and with this body, with its line feed, in the place of what
     /// `line` has, and answers the reason that it gives. One list serves many lines, and keeps its memory. Conditions:
-    /// the body has three names, it is decided to stay, and a reason that is given is the one that `goes` told of it, so
-    /// that no more is asked of its message than this reason leaves open. OutOfMemory is the only error, which leaves
-    /// some octets in `line`.
+    /// the header is that of the body, which has three names and is decided to stay, and a reason that is given is the
+    /// one that `goes` told of it, so that no more is asked of its message than this reason leaves open. OutOfMemory is
+    /// the only error, which leaves some octets in `line`.
     fn line(
         &self,
         alloc: Global,
         line: &mut Vec<u8>,
         number: u64,
+        header: &[u8],
         body: &Body,
         told: Option<PlainReason>,
     ) -> Result<Reason, OutOfMemory>
+        requires header { header.now ≡ header_of (body_view body.now) }
         requires names { HasNames (body_view body.now) }
         requires stays { (decides self.now).LetsGo (body_view body.now) → ⊥ }
         requires told { IfSome told (reasons_of self.now (body_view body.now)) }

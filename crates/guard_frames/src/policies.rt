@@ -1,10 +1,12 @@
 //! A policy decides which bodies go: those whose message goes.
 
-ghost use Rattle.std.specs.Prelude.{◌≡◌, IfOk, IfSome, None, Some};
+ghost use Rattle.std.specs.Prelude.{◌≡◌, IfOk, IfSome, None, OnOk, Some};
+ghost use Rattle.guard_policy.specs.NamedRoutes.{route_octets};
 ghost use Rattle.guard_policy.specs.PolicyView.{policy_view, route_view};
-ghost use Rattle.guard_policy.specs.Verdicts.{verdict_view, reason_view, pass};
+ghost use Rattle.guard_policy.specs.Verdicts.{reason_view};
 ghost use Rattle.guard_report.specs.Lines.{line_octets};
-ghost use Rattle.guard_frames.specs.Bodies.{body_view};
+ghost use Rattle.guard_frames.specs.Bodies.{body_view, HasNames};
+ghost use Rattle.guard_frames.specs.Calls.{EndsLine};
 ghost use Rattle.guard_frames.specs.OfPolicy.{route_of, decision_of, lets_of, reasons_of, gives_of};
 ghost use Rattle.guard_frames.specs.Outcomes.{IsDecided};
 ghost use Rattle.guard_frames.specs.Reasons.{reason_of};
@@ -15,7 +17,7 @@ use crate::decision::{Decide, Decided, Known};
 use crate::header::{cut_body, has_names};
 use crate::why::{Reason, reason_of, reason_told};
 use guard_model::OutOfMemory;
-use guard_policy::{LastRoute, Passing, PlainReason, Policy, Route, Verdict};
+use guard_policy::{LastRoute, Passing, PlainReason, Policy, Route};
 use guard_report::{add_line, add_line_told};
 use std::alloc::Global;
 
@@ -40,16 +42,14 @@ impl Decide for Policy {
         alloc: Global,
         line: &mut Vec<u8>,
         number: u64,
+        header: &[u8],
         body: &Body,
         told: Option<PlainReason>,
     ) -> Result<Reason, OutOfMemory> {
-        let route = route_of(body);
-        // A verdict is large: of a reason that is told none is made.
         if let Some(reason) = told_whole(told) {
-            return put_line_told(line, number, &route, reason, self);
+            return put_line_told(line, number, header, &route_of(body), reason, self);
         }
-        let verdict = self.reason_as_told(alloc, &route, body.message_octets, told)?;
-        put_line(line, number, &route, &verdict, self)
+        put_line_found(alloc, line, number, body, told, self)
     }
 }
 
@@ -64,41 +64,50 @@ fn told_whole(told: Option<PlainReason>) -> Option<PlainReason>
 }
 
 /// Puts the line of the verdict with this reason in the place of what `line` has, and answers the reason that it gives.
-/// Condition: the reason has a verdict.
+/// Conditions: the header has the route's names, and the reason has a verdict.
 fn put_line_told(
     line: &mut Vec<u8>,
     number: u64,
+    header: &[u8],
     route: &Route,
     reason: PlainReason,
     policy: &Policy,
 ) -> Result<Reason, OutOfMemory>
-    requires { reason_view reason ≡ None → ⊥ }
+    requires header { header.now ≡ route_octets (route_view route.now) }
+    requires verdict { reason_view reason ≡ None → ⊥ }
     ensures { IfOk result (λ said. IfSome (reason_view reason) (λ w.
         (line.new.items ≡ line_octets (policy_view policy.now) (route_view route.now) number w)
         × (reason_of w ≡ Some said))) }
 {
     line.clear();
-    add_line_told(line, number, route, reason, policy)?;
+    add_line_told(line, number, header, route, reason, policy)?;
     Ok(reason_told(reason))
 }
 
-/// Puts the line of a verdict in the place of what `line` has, and answers the reason that it gives. Condition: the
-/// verdict isn't to pass.
-fn put_line(
+/// What `line` does where the reason has to be found, or violations of it. A verdict is made, which is large: room for
+/// it is cleared here alone.
+#[inline(never)]
+fn put_line_found(
+    alloc: Global,
     line: &mut Vec<u8>,
     number: u64,
-    route: &Route,
-    verdict: &Verdict,
+    body: &Body,
+    told: Option<PlainReason>,
     policy: &Policy,
 ) -> Result<Reason, OutOfMemory>
-    requires { verdict_view verdict.now ≡ pass → ⊥ }
-    ensures { IfOk result (λ reason.
-        (line.new.items ≡ line_octets (policy_view policy.now) (route_view route.now) number (verdict_view verdict.now))
-        × (reason_of (verdict_view verdict.now) ≡ Some reason)) }
+    requires names { HasNames (body_view body.now) }
+    requires stays { (decision_of (policy_view policy.now)).LetsGo (body_view body.now) → ⊥ }
+    requires told { IfSome told (reasons_of (policy_view policy.now) (body_view body.now)) }
+    ensures reports { OnOk result
+        ((decision_of (policy_view policy.now)).Reports number (body_view body.now) line.new.items) }
+    ensures ends { OnOk result (EndsLine line.new.items) }
+    ensures gives { IfOk result (λ reason. gives_of (policy_view policy.now) reason line.new.items) }
 {
+    let route = route_of(body);
+    let verdict = policy.reason_as_told(alloc, &route, body.message_octets, told)?;
     line.clear();
-    add_line(line, number, route, verdict, policy)?;
-    Ok(reason_of(verdict))
+    add_line(line, number, &route, &verdict, policy)?;
+    Ok(reason_of(&verdict))
 }
 
 /// What is decided of a frame that has three names, by what is told of its message.

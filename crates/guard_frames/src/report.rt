@@ -5,7 +5,7 @@ ghost use Rattle.std.specs.Io.KnownBytes.{Appends};
 ghost use Rattle.guard_frames.specs.Calls.{EndsLine, AsksLines};
 ghost use Rattle.guard_frames.specs.Prefix.{IsProperPrefix};
 ghost use Rattle.guard_frames.specs.inside.Judged.{IsReportOf, ReportEnds, ReportGives, report_line};
-ghost use Rattle.guard_frames.specs.Bodies.{HasNames, body_view};
+ghost use Rattle.guard_frames.specs.Bodies.{HasNames, body_view, header_of};
 ghost use Rattle.guard_frames.specs.Guarding.{Adds};
 ghost use Rattle.guard_frames.specs.Outcomes.{IsKnown, staying};
 
@@ -42,21 +42,24 @@ pub fn report_on<D: Decide>(
             let Some(body) = cut_body(frame.body) else {
                 unreachable!()
             };
-            report_of(alloc, policy, number, &body, told, line)
+            let header = &frame.body[..frame.body.len() - body.message_octets.len()];
+            report_of(alloc, policy, number, header, &body, told, line)
         }
     }
 }
 
-/// Why the frame of this number and with this body stays, for this reason where one is told; its line as `report_on`
-/// says.
+/// Why the frame of this number, with this body and its header, stays, for this reason where one is told; its line as
+/// `report_on` says.
 fn report_of<D: Decide>(
     alloc: Global,
     policy: &D,
     number: u64,
+    header: &[u8],
     body: &Body,
     told: Option<PlainReason>,
     line: &mut Vec<u8>,
 ) -> Why
+    requires header { header.now ≡ header_of (body_view body.now) }
     requires names { HasNames (body_view body.now) }
     requires stays { (D.decides policy.now).LetsGo (body_view body.now) → ⊥ }
     requires told { IfSome told (D.reasons_of policy.now (body_view body.now)) }
@@ -64,7 +67,7 @@ fn report_of<D: Decide>(
     ensures ends { ReportEnds result line.new.items }
     ensures gives { ReportGives (D.gives policy.now) result line.new.items }
 {
-    match policy.line(alloc, line, number, body, told) {
+    match policy.line(alloc, line, number, header, body, told) {
         Ok(reason) => Why::Decided(reason),
         Err(_) => Why::NoMemory,
     }

@@ -1,6 +1,6 @@
 //! Frames that go, one after another, by one rule: a watch is told of them at once.
 
-ghost use Rattle.std.specs.Prelude.{◌≡◌, ◌≤◌};
+ghost use Rattle.std.specs.Prelude.{◌≡◌, ◌<◌, ◌≤◌};
 ghost use Rattle.guard_frames.specs.inside.Untold.{none_from, IsToldOf, IsOneMore};
 
 use crate::why::Watch;
@@ -30,16 +30,26 @@ impl Untold {
 
     /// Tells the watch of these, the last of so many frames, which end here, if there are any. Conditions: they don't
     /// begin behind their end, and no more frames come before them than there are.
-    #[cold]
-    #[inline(never)]
+    #[inline(always)]
     pub(crate) fn tell<W: Watch>(&self, watch: &mut W, frames: usize, end: usize)
         requires ordered { self.now.start ≤ end }
         requires among { self.now.before ≤ frames }
         ensures { IsToldOf W.notes self.now frames end watch.old watch.new }
     {
         if self.before < frames {
-            watch.goes(frames - self.before, end - self.start, self.rule);
+            self.tell_some(watch, frames, end);
         }
+    }
+
+    /// What `tell` does where there are some.
+    #[cold]
+    #[inline(never)]
+    fn tell_some<W: Watch>(&self, watch: &mut W, frames: usize, end: usize)
+        requires ordered { self.now.start ≤ end }
+        requires some { self.now.before < frames }
+        ensures { IsToldOf W.notes self.now frames end watch.old watch.new }
+    {
+        watch.goes(frames - self.before, end - self.start, self.rule);
     }
 
     /// One more frame follows so many, which end here, and goes by the rule of this number. Where that is the rule of

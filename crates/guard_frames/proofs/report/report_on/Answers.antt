@@ -1,6 +1,7 @@
 use Rattle.std.proofs.Common.{subst}
 use Rattle.guard_frames.specs.Bodies.{body_view}
 use Rattle.guard_frames.specs.Outcomes.{IsKnown}
+use Rattle.guard_frames.proofs.BodyDecisions.{message_within, header_first}
 use Rattle.guard_frames.proofs.Reporting.{known_there, not_without, stays_by_body}
 use Rattle.guard_frames.proofs.report.report_on.Goals as goal
 
@@ -9,6 +10,12 @@ unreachable-requires g c =
     let octets = c.args.frame.now.body.now in
     let known = subst (IsKnown (g.D.Decide.decides c.args.policy.now) (g.D.Decide.reasons_of c.args.policy.now) octets) c.in-Named.is c.requires.known in
     not_without octets known.0 known.1 c.in_default.ensures
+
+pub slice_bounds-header-count : goal.slice_bounds-header-count
+slice_bounds-header-count g c = message_within c.args.frame.now.body.now (body_view c.in-Some.body) c.in-Some.ensures
+
+pub report_of-requires-clause-header : goal.report_of-requires-clause-header
+report_of-requires-clause-header g c = header_first c.args.frame.now.body.now (body_view c.in-Some.body) c.in-Some.ensures
 
 pub report_of-requires-clause-names : goal.report_of-requires-clause-names
 report_of-requires-clause-names g c =

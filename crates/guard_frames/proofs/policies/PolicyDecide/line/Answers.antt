@@ -3,10 +3,9 @@ use Rattle.std.specs.Prelude.{IfOk, IfSome, codes, decimal}
 use Rattle.guard_policy.specs.Policies.{AbstractPolicy, AbstractRoute}
 use Rattle.guard_policy.specs.PolicyView.{policy_view, route_view}
 use Rattle.guard_policy.specs.declared.verdict.PlainReason.{PlainReason}
-use Rattle.guard_policy.specs.Verdicts.{AbstractVerdict, verdict_view, reason_view}
+use Rattle.guard_policy.specs.Verdicts.{AbstractVerdict, reason_view}
 use Rattle.guard_policy.specs.Decisions.{IsReason}
 use Rattle.guard_policy.specs.Told.{IsToldReason}
-use Rattle.guard_policy.proofs.Goes.{goes_from_passes}
 use Rattle.guard_policy.proofs.Reasons.{if_ok_map}
 use Rattle.guard_report.specs.Lines.{line_octets, route_text}
 use Rattle.guard_report.specs.Text.{verdict_octets}
@@ -51,17 +50,17 @@ pub returns-in-Some-clause-reports : goal.returns-in-Some-clause-reports
 returns-in-Some-clause-reports c =
     let p = policy_view c.args.self.now in
     let b = body_view c.args.body.now in
-    let r = route_view c.route_of-route.result in
+    let r = route_view c.route_of.result in
     let text = c.put_line_told.new.line.items in
     let line = told_line (λ w x. (text ≡ line_octets p r c.args.number w) × (reason_of w ≡ Some x)) p b c.args.told c.in-Some.reason c.put_line_told.result
     c.in-Some.ensures c.requires.told c.put_line_told.ensures in
-    reports text p b r c.args.number line.0 c.put_line_told.result c.route_of-route.ensures line.1 line.2
+    reports text p b r c.args.number line.0 c.put_line_told.result c.route_of.ensures line.1 line.2
 
 pub returns-in-Some-clause-ends : goal.returns-in-Some-clause-ends
 returns-in-Some-clause-ends c =
     let p = policy_view c.args.self.now in
     let b = body_view c.args.body.now in
-    let r = route_view c.route_of-route.result in
+    let r = route_view c.route_of.result in
     let text = c.put_line_told.new.line.items in
     let line = told_line (λ w x. (text ≡ line_octets p r c.args.number w) × (reason_of w ≡ Some x)) p b c.args.told c.in-Some.reason c.put_line_told.result
     c.in-Some.ensures c.requires.told c.put_line_told.ensures in
@@ -72,38 +71,8 @@ pub returns-in-Some-clause-gives : goal.returns-in-Some-clause-gives
 returns-in-Some-clause-gives c =
     let p = policy_view c.args.self.now in
     let b = body_view c.args.body.now in
-    let r = route_view c.route_of-route.result in
+    let r = route_view c.route_of.result in
     let text = c.put_line_told.new.line.items in
     let line = told_line (λ w x. (text ≡ line_octets p r c.args.number w) × (reason_of w ≡ Some x)) p b c.args.told c.in-Some.reason c.put_line_told.result
     c.in-Some.ensures c.requires.told c.put_line_told.ensures in
-    gives text p b r c.args.number line.0 c.put_line_told.result c.route_of-route.ensures line.1 line.2 c.requires.names
-
-pub reason_as_told-requires : goal.reason_as_told-requires
-reason_as_told-requires c =
-    let b = body_view c.args.body.now in
-    subst (λ (r : AbstractRoute). IfSome c.args.told (λ x. IsToldReason (policy_view c.args.self.now) r b.message_octets (reason_view x)))
-    (sym c.route_of-route.ensures) c.requires.told
-
-pub put_line-requires : goal.put_line-requires
-put_line-requires c = λ passes.
-    let p = policy_view c.args.self.now in
-    let b = body_view c.args.body.now in
-    c.requires.stays (goes_from_passes p (route_of b) b.message_octets
-    (subst (λ (w : AbstractVerdict). IsReason p (route_of b) b.message_octets w) passes
-    (subst (λ (r : AbstractRoute). IsReason p r b.message_octets (verdict_view c.in_ok-verdict.verdict)) c.route_of-route.ensures c.in_ok-verdict.ensures)))
-
-pub returns-clause-reports : goal.returns-clause-reports
-returns-clause-reports c =
-    let p = policy_view c.args.self.now in
-    let b = body_view c.args.body.now in
-    let w = verdict_view c.in_ok-verdict.verdict in
-    reports c.put_line.new.line.items p b (route_view c.route_of-route.result) c.args.number w c.put_line.result c.route_of-route.ensures
-    (subst (λ (r : AbstractRoute). IsReason p r b.message_octets w) c.route_of-route.ensures c.in_ok-verdict.ensures) c.put_line.ensures
-
-pub returns-clause-gives : goal.returns-clause-gives
-returns-clause-gives c =
-    let p = policy_view c.args.self.now in
-    let b = body_view c.args.body.now in
-    let w = verdict_view c.in_ok-verdict.verdict in
-    gives c.put_line.new.line.items p b (route_view c.route_of-route.result) c.args.number w c.put_line.result c.route_of-route.ensures
-    (subst (λ (r : AbstractRoute). IsReason p r b.message_octets w) c.route_of-route.ensures c.in_ok-verdict.ensures) c.put_line.ensures c.requires.names
+    gives text p b r c.args.number line.0 c.put_line_told.result c.route_of.ensures line.1 line.2 c.requires.names

@@ -139,6 +139,13 @@ impl Link {
         self.totals
     }
 
+    /// Whether the link takes no more: its stream has ended, was at fault, or one of its sinks has failed.
+    pub fn is_closed(&self) -> bool
+        ensures { result ≡ (link_view self.now).closed }
+    {
+        self.closed
+    }
+
     /// What the fault that closed the link left of the frame behind the last whole one: where that is too long, the
     /// length that it states, above 1,048,576; where it is torn, how many octets of it there were, 1 to 1,048,579. It
     /// is 0 where the link is open, has ended between two frames, or was closed as a sink had failed.

@@ -2,9 +2,9 @@
 -- system's.
 use Rattle.std.specs.Prelude.{◌≡◌, ◌<◌, ◌⊎◌, ℕ, List, [], ◌++◌, length, slice_index, codes, string_bytes, Option, Some, None}
 use Rattle.guard_frames.specs.declared.running.RunFault.{RunFault}
-use Rattle.guard_frames.specs.declared.running.RunFault.TheVariants.{WriteFailed, ReadFailed}
+use Rattle.guard_frames.specs.declared.running.RunFault.TheVariants.{FrameTooLong, WriteFailed, TornFrame, ReadFailed, OutOfMemory}
 use Rattle.guard_files.specs.declared.fault.Fault.{Fault}
-use Rattle.guard_files.specs.declared.fault.Fault.TheVariants.{CannotRead}
+use Rattle.guard_files.specs.declared.fault.Fault.TheVariants.{CannotRead, TooLarge, Schema, Policy, Run, NoMemory}
 use Rattle.guard_files.specs.Devices.{Device}
 use Rattle.guard_files.specs.Explaining.{TellsWith}
 use Rattle.guard_streams.specs.declared.seen.Seen.{Seen}
@@ -25,12 +25,18 @@ IsSaid name line = (line ≡ []) ⊎ ((text : List ℕ) × HasNoLineFeed text ×
 abbrev pub IsSaidOfRun : RunFault → List ℕ → Type 0
 IsSaidOfRun ReadFailed line = IsSaid (codes "standard input") line
 IsSaidOfRun WriteFailed line = IsSaid (codes "standard output") line
-IsSaidOfRun _ line = line ≡ []
+IsSaidOfRun FrameTooLong line = line ≡ []
+IsSaidOfRun TornFrame line = line ≡ []
+IsSaidOfRun OutOfMemory line = line ≡ []
 
 -- of a file that can't be read
 abbrev pub IsSaidOfFault : Fault → List ℕ → Type 0
 IsSaidOfFault (CannotRead file obstacle) line = IsSaid (string_bytes file) line
-IsSaidOfFault _ line = line ≡ []
+IsSaidOfFault (TooLarge file) line = line ≡ []
+IsSaidOfFault (Schema f) line = line ≡ []
+IsSaidOfFault (Policy f) line = line ≡ []
+IsSaidOfFault (Run f) line = line ≡ []
+IsSaidOfFault NoMemory line = line ≡ []
 
 -- Of a policy that can't be had anew while a stream runs, where notes are asked for: what the system says, and which one
 -- stays; or nothing, where there is no memory for that.

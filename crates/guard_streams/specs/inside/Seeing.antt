@@ -1,7 +1,7 @@
 -- What the code sees of a piece.
-use Rattle.std.specs.Prelude.{Option, Some, None, List, Result, Err}
+use Rattle.std.specs.Prelude.{Option, Some, None, List, Result, Ok, Err}
 use Rattle.guard_frames.specs.declared.link.LinkFault.{LinkFault}
-use Rattle.guard_frames.specs.declared.link.LinkFault.TheVariants.{WriteFailed}
+use Rattle.guard_frames.specs.declared.link.LinkFault.TheVariants.{FrameTooLong, WriteFailed, Closed, TornFrame}
 use Rattle.guard_frames.specs.LinkView.{AbstractLink}
 use Rattle.guard_frames.specs.Totals.{no_frames}
 use Rattle.guard_streams.specs.declared.counts.Counts.{Counts}
@@ -16,8 +16,11 @@ counts_in (Some s) = s.counts
 
 -- the new counts, unless the piece is answered so that they aren't known
 abbrev pub known_counts : Result (Unit {0}) LinkFault → Counts → Counts → Counts
+known_counts (Ok done) old new = new
+known_counts (Err FrameTooLong) old new = new
 known_counts (Err WriteFailed) old new = old
-known_counts _ old new = new
+known_counts (Err Closed) old new = new
+known_counts (Err TornFrame) old new = new
 
 abbrev pub seen_after : Option Seen → Result (Unit {0}) LinkFault → List AbstractLink → Counts → Option Seen
 seen_after None answer links counts = None

@@ -47,7 +47,7 @@ use Rattle.guard_streams.specs.inside.Seeing.{counts_in, seen_after}
 use Rattle.guard_streams.specs.Turns.{AbstractMux, Written, PassesOn, link_status}
 use Rattle.guard_streams.proofs.PassingLaws.{all_records}
 use Rattle.guard_streams.proofs.TallyLaws.{seen_is}
-use Rattle.guard_streams.specs.inside.Doing.{AreEmpty, IsReady, IsFed, ArePassed, AreCut, mux_of, IsTaken, IsCut, is_closed, Is, HadEnded}
+use Rattle.guard_streams.specs.inside.Doing.{AreEmpty, IsReady, IsFed, ArePassed, AreCut, mux_of, IsTaken, IsCut}
 
 -- ---- one place of a list
 
@@ -325,31 +325,9 @@ module _ (path : List ℕ) (told : Told) (old : Links) (link : ℕ) (octets : Li
 
 -- ---- a link is ended
 
-set_same : {X : Type 0} (xs : List X) (i : ℕ) (x : X) → slice_get xs i ≡ Some x → slice_set xs i x ≡ xs
-set_same [] i x h = absurd (none-some x h)
-set_same (y ∷ ys) zero x h = ap (λ z. z ∷ ys) (sym (same_Some y x h))
-set_same (y ∷ ys) (suc i) x h = ap (λ zs. y ∷ zs) (set_same ys i x h)
-
-pub not_both : (b : Bool) → b ≡ true → b ≡ false → ⊥
-not_both b p q = cc
-
--- it is open before, where it answers anything but that it takes no more
-closes_open : (l l₁ : AbstractLink) (answer : Result (Unit {0}) LinkFault) → is_closed answer ≡ false
-    → Ended l answer l₁ → l.closed ≡ false
-closes_open l l₁ answer is (inl h) = absurd (not_both (is_closed answer) (ap is_closed h.answered) is)
-closes_open l l₁ answer is (inr h) = h.open_before
-
 pub held_some : (held : List ℕ) → (held ≡ []) ⊎ (0 < length held)
 held_some [] = inl refl
 held_some (o ∷ held) = inr (omega arith)
-
-closed_stays : (l l₁ : AbstractLink) (answer : Result (Unit {0}) LinkFault) → is_closed answer ≡ true
-    → Ended l answer l₁ → (l.closed ≡ true) × (l₁ ≡ l)
-closed_stays l l₁ answer is (inl h) = (h.closed, h.same)
-closed_stays l l₁ answer is (inr h) = elim (held_some l.held) [
-  | inl none ↦ absurd (not_both (is_closed answer) is (ap is_closed (h.whole none)))
-  | inr some ↦ absurd (not_both (is_closed answer) is (ap is_closed (h.torn some)))
-]
 
 module _ (old : Links) (link : ℕ) (answer : Result (Unit {0}) LinkFault) (g : Gateway Kept)
     (step : Step (gateway_view old.gateway) (event.end link) (step_answer answer) nothing (gateway_view g))
@@ -400,42 +378,6 @@ module _ (old : Links) (link : ℕ) (answer : Result (Unit {0}) LinkFault) (g : 
     sent = Appends_none o;
     told = said;
   }
-
-module _ (old : Links) (link : ℕ) (answer : Result (Unit {0}) LinkFault) (g : Gateway Kept)
-    (step : Step (gateway_view old.gateway) (event.end link) (step_answer answer) nothing (gateway_view g)) where
-  pub was_open : is_closed answer ≡ false → Is false link old
-  was_open is = elim step [
-    | inl h ↦ absurd (not_answered answer h.answered)
-    | inr h ↦
-        let same : answer ≡ h.0.link_answer = same_answer answer h.0.link_answer h.0.answered in
-        record {
-          one = h.0.old_link;
-          there = h.0.there;
-          is =
-              closes_open h.0.old_link h.0.new_link h.0.link_answer (ap is_closed (sym same) ∙ is) h.0.does;
-        }
-  ]
-
-  pub had_ended : is_closed answer ≡ true → (e : Option (List ℕ)) → IsReady g
-      → HadEnded link old (record { gateway = g; status = old.status; seen = old.seen; followed = old.followed }) (e, e)
-  had_ended is e ready = elim step [
-    | inl h ↦ absurd (not_answered answer h.answered)
-    | inr h ↦
-        let same : answer ≡ h.0.link_answer = same_answer answer h.0.link_answer h.0.answered in
-        let stays = closed_stays h.0.old_link h.0.new_link h.0.link_answer (ap is_closed (sym same) ∙ is) h.0.does in
-        let links : slice_set (gateway_view old.gateway).links link h.0.new_link ≡ (gateway_view old.gateway).links =
-        ap (λ (l : AbstractLink). slice_set (gateway_view old.gateway).links link l) stays.1
-        ∙ set_same (gateway_view old.gateway).links link h.0.old_link h.0.there in
-        record {
-          before = record { one = h.0.old_link; there = h.0.there; is = stays.0 };
-          same = h.0.others ∙ ap (λ (ls : List AbstractLink). record (gateway_view old.gateway) { links = ls }) links;
-          told = refl;
-          status = refl;
-          seen = refl;
-          counted = refl;
-          ready = ready;
-        }
-  ]
 
 -- ---- what a call answered
 

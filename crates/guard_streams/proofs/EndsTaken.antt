@@ -17,7 +17,7 @@ use Rattle.guard_files.specs.Records.Record.{end}
 use Rattle.guard_streams.specs.declared.links.Links.{Links}
 use Rattle.guard_streams.specs.Muxing.{WritesPart, BreaksErr}
 use Rattle.guard_streams.specs.Turns.{AbstractMux, Written, InTurn, all_out, all_err, status_of, ends_left}
-use Rattle.guard_streams.specs.inside.Doing.{mux_of, IsTaken, Is, HadEnded, AreEnded, IsEndCut}
+use Rattle.guard_streams.specs.inside.Doing.{mux_of, IsTaken, Is, AreEnded, IsEndCut}
 use Rattle.guard_streams.proofs.Turning.{one_more, all_out-more, told_more, status_of-more, after, ends_closed, ends_open, drop_there, drop_set}
 
 -- Those before this link were taken, and these are left.
@@ -57,20 +57,17 @@ left_closed l link h =
     ap (ends_left link) (drop_there (gateway_view l.gateway).links link h.one h.there)
     ∙ ends_closed link h.one (drop (suc link) (gateway_view l.gateway).links) h.is
 
-pub closed_more : (path : List ℕ) (told : Told) (old now new : Links) (e e₁ e₂ : Option (List ℕ)) (link : ℕ)
-    → HadEnded link now new (e₁, e₂)
-    → EndedSoFar path told old now e e₁ link → EndedSoFar path told old new e e₂ (link + 1)
-closed_more path told old now new e e₁ e₂ link h so_far = record {
+pub closed_more : (path : List ℕ) (told : Told) (old now : Links) (e e₁ : Option (List ℕ)) (link : ℕ) → Is true link now
+    → EndedSoFar path told old now e e₁ link → EndedSoFar path told old now e e₁ (link + 1)
+closed_more path told old now e e₁ link closed so_far = record {
   before = so_far.before;
   closed = so_far.closed;
-  in_turn = subst (λ (m : AbstractMux). InTurn path (mux_of told old) so_far.before so_far.closed m)
-      (sym (λ i. record { told = told; gateway = h.same i; seen = h.seen i; counted = h.counted i })) so_far.in_turn;
-  left = so_far.left ∙ ap (λ (rs : List Record). so_far.before ++ rs) (left_closed now link h.before
-      ∙ ap (λ x. ends_left (suc link) (drop (suc link) x.links)) (sym h.same))
-      ∙ ap (λ (n : ℕ). so_far.before ++ ends_left n (drop n (gateway_view new.gateway).links)) (sym (add-one link));
+  in_turn = so_far.in_turn;
+  left = so_far.left ∙ ap (λ (rs : List Record). so_far.before ++ rs) (left_closed now link closed)
+      ∙ ap (λ (n : ℕ). so_far.before ++ ends_left n (drop n (gateway_view now.gateway).links)) (sym (add-one link));
   silent = so_far.silent;
-  reported = subst (λ (x : Option (List ℕ)). Appends e x (all_err so_far.closed)) (sym h.told) so_far.reported;
-  status = h.status ∙ so_far.status;
+  reported = so_far.reported;
+  status = so_far.status;
 }
 
 -- what an end leaves of the links after it

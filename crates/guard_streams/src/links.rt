@@ -2,7 +2,6 @@
 ghost use Rattle.std.specs.Prelude.{◌≡◌, ◌++◌, ℕ, List, IfOk};
 ghost use Rattle.guard_streams.specs.InForce.{kept_note};
 ghost use Rattle.guard_streams.specs.Saying.{IsSaidOfFault};
-ghost use Rattle.guard_streams.specs.inside.Doing.{is_closed};
 ghost use Rattle.guard_streams.specs.inside.Seeing.{known_counts};
 
 use crate::counted::Counted;
@@ -35,8 +34,8 @@ pub struct Links {
 }
 
 impl Links {
-    ghost use Rattle.std.specs.Prelude.{◌≡◌, ◌≤◌, ◌⊎◌, Option, List, [], ℕ, Bool, true};
-    ghost use Rattle.std.specs.Prelude.{false, max, length, Err, IfOk, OnOk, IfErr};
+    ghost use Rattle.std.specs.Prelude.{◌≡◌, ◌≤◌, Option, List, [], ℕ, Bool, true};
+    ghost use Rattle.std.specs.Prelude.{max, length, Err, IfOk, OnOk, IfErr};
     ghost use Rattle.std.specs.Option.{option_map};
     ghost use Rattle.std.specs.Io.KnownBytes.{Appends};
     ghost use Rattle.guard_frames.specs.GatewayView.{gateway_view};
@@ -50,14 +49,14 @@ impl Links {
     ghost use Rattle.guard_files.specs.Records.Record.{piece, end, reload};
     ghost use Rattle.guard_streams.specs.Counters.{force_of, force_view};
     ghost use Rattle.guard_streams.specs.LinksCounted.{ended_counted, maybe_counted, renewed_counted};
-    ghost use Rattle.guard_streams.specs.Muxing.{new_mux, WritesPart, BreaksErr};
+    ghost use Rattle.guard_streams.specs.Muxing.{new_mux};
     ghost use Rattle.guard_streams.specs.Saying.{IsUnreadNote};
     ghost use Rattle.guard_streams.specs.Turns.{link_status, renewed_note, renewed_seen};
     ghost use Rattle.guard_streams.specs.inside.Following.{piece_counted};
     ghost use Rattle.guard_streams.specs.inside.Noting.{noted_link, answer_lines};
     ghost use Rattle.guard_streams.specs.inside.Seeing.{counts_in, seen_after};
     ghost use Rattle.guard_streams.specs.inside.Doing.{IsReady, mux_of, IsTaken, IsCut};
-    ghost use Rattle.guard_streams.specs.inside.Doing.{Is, HadEnded, AreEnded, IsEndCut};
+    ghost use Rattle.guard_streams.specs.inside.Doing.{Is, AreEnded, IsEndCut};
 
     /// Sixteen open links under this policy. Notes are asked for where something is seen, and more is counted where
     /// something is.
@@ -192,6 +191,7 @@ impl Links {
         ensures cut { IfErr result (λ s. (path : List ℕ) (told : Told) (out : Option (List ℕ)) (failed : Bool) →
             IsCut s path (mux_of told self.old) (end link) (device out out failed)
             (device_of E.taken E.has_failed err.old err.new)) }
+        ensures error { IfErr result (λ s. s ≡ ErrorFailed) }
         ensures seen { self.new.seen ≡ self.old.seen }
     {
         let answer = end_link(alloc, &mut self.gateway, link);
@@ -223,34 +223,24 @@ impl Links {
             (device_of E.taken E.has_failed err.old err.new))) }
     {
         for link in 0..LINKS {
-            self.end_unless_ended(alloc, link, err)?;
+            if self.is_closed(link) {
+                continue;
+            }
+            self.end(alloc, link, err)?;
         }
         Ok(())
     }
 
-    /// The end of a link's stream, unless it has ended.
-    fn end_unless_ended<E: Sink>(
-        &mut self,
-        alloc: Global,
-        link: u16,
-        err: &mut E,
-    ) -> Result<(), Stop>
+    /// Whether the link of this number takes no more.
+    fn is_closed(&self, link: u16) -> bool
         requires link { link ≤ 15 }
-        requires ready { IsReady self.old.gateway }
-        ensures done { OnOk result (HadEnded link self.old self.new (E.taken err.old, E.taken err.new)
-            ⊎ (Is false link self.old × ((path : List ℕ) (told : Told) (out : Option (List ℕ)) →
-            IsTaken path told self.old (end link) told self.new (out, out) (E.taken err.old, E.taken err.new)))) }
-        ensures cut { IfErr result (λ s. (s ≡ ErrorFailed) × Is false link self.old
-            × ((path : List ℕ) (told : Told) (out : Option (List ℕ)) (failed : Bool)
-            → WritesPart path (mux_of told self.old) (end link) []
-            (device out out failed) (device_of E.taken E.has_failed err.old err.new) BreaksErr)) }
+        requires ready { IsReady self.now.gateway }
+        ensures { Is result link self.now }
     {
-        let answer = end_link(alloc, &mut self.gateway, link);
-        if is_closed(answer) {
-            return Ok(());
-        }
-        self.count_end(answer);
-        self.tell_answer(link, answer, err)
+        let Some(one) = self.gateway.link(link) else {
+            unreachable!()
+        };
+        one.is_closed()
     }
 
     /// Reads the policy at the path again, and notes that where notes are asked for. Where there is none, that is
@@ -430,11 +420,4 @@ fn known_counts(answer: Result<(), LinkFault>, old: Counts, new: Counts) -> Coun
         | Err(LinkFault::TornFrame) => new,
         Err(LinkFault::WriteFailed) => old,
     }
-}
-
-/// Whether a link that takes no more has answered.
-fn is_closed(answer: Result<(), LinkFault>) -> bool
-    ensures { result ≡ is_closed answer }
-{
-    matches!(answer, Err(LinkFault::Closed))
 }

@@ -126,29 +126,11 @@ EndsWith result path first input out err links =
     → TellsGuarded result links.seen links.status (device err.after after failed) status
     → EndsGuarded result path place first input out (device err.before after failed) err.after status last display
 
--- the answer of a link that takes no more
-abbrev pub is_closed : Result (Unit {0}) LinkFault → Bool
-is_closed (Ok done) = false
-is_closed (Err FrameTooLong) = false
-is_closed (Err link_fault.WriteFailed) = false
-is_closed (Err Closed) = true
-is_closed (Err TornFrame) = false
-
 -- This link takes no more; or it does.
 pub record Is (closed : Bool) (link : ℕ) (l : Links) : Type 0 where
   pub one : AbstractLink
   pub there : slice_get (gateway_view l.gateway).links link ≡ Some one
   pub is : one.closed ≡ closed
-
--- The link had ended before, and nothing changes.
-pub record HadEnded (link : ℕ) (old new : Links) (err : Octets) : Type 0 where
-  pub before : Is true link old
-  pub same : gateway_view new.gateway ≡ gateway_view old.gateway
-  pub told : err.1 ≡ err.0
-  pub status : new.status ≡ old.status
-  pub seen : new.seen ≡ old.seen
-  pub counted : maybe_counted new.followed.counted ≡ maybe_counted old.followed.counted
-  pub ready : IsReady new.gateway
 
 -- ---- the ends of the links that are open
 

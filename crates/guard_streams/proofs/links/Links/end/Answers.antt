@@ -41,3 +41,6 @@ returns-clause-cut g c =
     e.ensures.step note noted
     path told out (g.E.Sink.taken c.args.err.now) (g.E.Sink.taken t.new.err) failed
     (g.E.Sink.has_failed t.new.err) p.1 p.2.0 p.2.1 p.2.2))
+
+pub returns-clause-error : goal.returns-clause-error
+returns-clause-error g c = told_err c.tell_answer.result c.tell_answer.ensures.part (λ s p. p.0)

@@ -1,4 +1,4 @@
-use Rattle.std.proofs.Common.{[], Some, None, arith, inl, inr}
+use Rattle.std.proofs.Common.{[], Some, None, arith}
 use Rattle.std.proofs.lemmas.Result.{err_from_is_err_and}
 use Rattle.guard_streams.proofs.EndsTaken.{none_ended, closed_more, open_more, end_cut_at, all_ended}
 use Rattle.guard_streams.proofs.links.Links.end_all.Goals as goal
@@ -10,36 +10,37 @@ loop-link-init g c = record {
       λ path told. none_ended path told c.args.self.now (g.E.Sink.taken c.args.err.now);
 }
 
+pub loop-link-preserved-then-is_closed : goal.loop-link-preserved-then-is_closed
+loop-link-preserved-then-is_closed g c = record {
+  ready = c.loop-link.invariant.ready;
+  ended = λ path told. closed_more path told c.args.self.now c.loop-link.self (g.E.Sink.taken c.args.err.now)
+      (g.E.Sink.taken c.loop-link.err) c.loop-link.link (rw c.if-is_closed.true at c.is_closed.ensures)
+      (c.loop-link.invariant.ended path told);
+}
+
 pub loop-link-preserved : goal.loop-link-preserved
 loop-link-preserved g c =
-    let i = c.loop-link.invariant in
-    let n = c.end_unless_ended.new in
-    elim c.in_ok-end_unless_ended.ensures.done [
-      | inl h ↦ record {
-        ready = h.ready;
-        ended = λ path told. closed_more path told c.args.self.now c.loop-link.self n.self
-            (g.E.Sink.taken c.args.err.now) (g.E.Sink.taken c.loop-link.err) (g.E.Sink.taken n.err)
-            c.loop-link.link h (i.ended path told);
-      }
-      | inr h ↦ record {
-        ready = (h.1 [] (λ k p. None) (Some [])).ready;
-        ended = λ path told. open_more path told c.args.self.now c.loop-link.self n.self
-            (g.E.Sink.taken c.args.err.now) (g.E.Sink.taken c.loop-link.err) (g.E.Sink.taken n.err)
-            c.loop-link.link h.0 (h.1 path told (Some [])) (i.ended path told);
-      }
-    ]
+    let n = c.end.new in
+    let done = c.in_ok-end.ensures.done in
+    record {
+      ready = (done [] (λ k p. None) (Some [])).ready;
+      ended = λ path told. open_more path told c.args.self.now c.loop-link.self n.self
+          (g.E.Sink.taken c.args.err.now) (g.E.Sink.taken c.loop-link.err) (g.E.Sink.taken n.err)
+          c.loop-link.link (rw c.if-is_closed.false at c.is_closed.ensures) (done path told (Some []))
+          (c.loop-link.invariant.ended path told);
+    }
 
-pub returns-in_err-end_unless_ended-clause-cut : goal.returns-in_err-end_unless_ended-clause-cut
-returns-in_err-end_unless_ended-clause-cut g c =
+pub returns-in_err-end-clause-cut : goal.returns-in_err-end-clause-cut
+returns-in_err-end-clause-cut g c =
     let e = err_from_is_err_and c.from_residual.result c.from_residual.ensures.1 in
-    let i = c.loop-link.invariant in
-    let n = c.end_unless_ended.new in
-    let cut = c.in_err-end_unless_ended.ensures.cut in
+    let n = c.end.new in
+    let cut = c.in_err-end.ensures in
     rw (e.1, e.2) (
-      cut.0,
+      cut.error,
       λ path told out failed. end_cut_at path told c.args.self.now c.loop-link.self out
           (g.E.Sink.taken c.args.err.now) (g.E.Sink.taken c.loop-link.err) (g.E.Sink.taken n.err)
-          failed (g.E.Sink.has_failed n.err) c.loop-link.link cut.1 (i.ended path told) (cut.2 path told out failed),
+          failed (g.E.Sink.has_failed n.err) c.loop-link.link (rw c.if-is_closed.false at c.is_closed.ensures)
+          (c.loop-link.invariant.ended path told) (rw cut.error at (cut.cut path told out failed)),
     )
 
 pub returns-clause-done : goal.returns-clause-done

@@ -1,6 +1,6 @@
 -- Values of SEQUENCE OF and SET OF, with their elements in the order that a value has them: each has all that its elements
 -- have in turn. And the types of such lists.
-use Rattle.std.proofs.Common.{◌≡◌, ◌≤◌, Bool, true, false, ◌&&◌, cond, List, [], ◌∷◌, ◌++◌, length, map, Some, refl, sym, ap, subst, ◌∙◌, IsTrue}
+use Rattle.std.proofs.Common.{◌≡◌, ◌≤◌, Bool, true, false, ◌&&◌, cond, List, [], ◌∷◌, ◌++◌, length, map, Option, Some, refl, sym, ap, subst, ◌∙◌, IsTrue}
 use Rattle.std.specs.Prelude.{nat_le}
 use Rattle.std.proofs.lemmas.Bool.{and_parts, and_from, le-leb}
 use Rattle.std.proofs.lemmas.Option.{same_Some}
@@ -9,11 +9,11 @@ use Rattle.guard_model.specs.declared.tag.Tag.{Tag}
 use Rattle.guard_model.specs.declared.ty.Kind.TheViews.{out-Ty}
 use Rattle.guard_model.specs.declared.ty.Ty.{Ty}
 use Rattle.guard_model.specs.AbstractType as type
-use Rattle.guard_model.specs.AbstractType.{AbstractType, AbstractKind, Constraints, type_of}
+use Rattle.guard_model.specs.AbstractType.{AbstractType, AbstractKind, Constraint, Constraints, type_of}
 use Rattle.guard_model.specs.AbstractValue as value
 use Rattle.guard_model.specs.AbstractValue.{AbstractValue, items_of}
 use Rattle.guard_model.specs.Counts.{item_count}
-use Rattle.guard_model.specs.Kinds.{element_of}
+use Rattle.guard_model.specs.Kinds.{kind_of, element_of}
 use Rattle.guard_model.specs.Limits.{deepest_nesting}
 use Rattle.guard_model.specs.TypeView.{type_view, kind_view, constraint_view, constraints_of}
 use Rattle.guard_model.proofs.Components.{item_count_is}
@@ -26,6 +26,7 @@ use Rattle.guard_der.specs.ProperConstraints.{takes_size}
 use Rattle.guard_der.specs.Sound.{is_sound, is_proper, is_proper_kind, has_distinct_tags, are_proper_constraints}
 use Rattle.guard_eval.specs.Elements.{every_item}
 use Rattle.guard_eval.specs.Member.{is_member, parts_are_members}
+use Rattle.guard_eval.specs.Presence.{element_kind}
 use Rattle.guard_syntax.specs.declared.tree.Collection.{Collection}
 use Rattle.guard_syntax.specs.declared.tree.Collection.TheVariants as collection
 use Rattle.guard_syntax.specs.Trees as written
@@ -36,6 +37,7 @@ use Rattle.guard_values.specs.Faults.{faults_of, faults_of_elements, faults_of_c
 use Rattle.guard_values.specs.Meanings.{Meaning}
 use Rattle.guard_values.proofs.Counting.CountedLists.{arranged_short}
 use Rattle.guard_values.proofs.Fitting.DenotedValuesFit.{length_arranged}
+use Rattle.guard_schema.specs.inside.LongLists.{each_has, is_kept}
 use Rattle.guard_schema.proofs.Sound.Shaped.{element_shaped}
 
 -- ---- in the order of the value
@@ -48,10 +50,22 @@ in_order collection.Set u vs = arranged u vs
 abbrev pub list_value : Collection → AbstractType → List AbstractValue → AbstractValue
 list_value k u vs = value.items (items_of (in_order k u vs))
 
+pub and_true : (a : Bool) → (a && true) ≡ a
+and_true true = refl
+and_true false = refl
+
+pub and_grouped : (a b c : Bool) → (a && (b && c)) ≡ ((a && b) && c)
+and_grouped true b c = refl
+and_grouped false b c = refl
+
 and_swapped : (a b c : Bool) → (a && (b && c)) ≡ (b && (a && c))
 and_swapped true b c = refl
 and_swapped false true c = refl
 and_swapped false false c = refl
+
+pub and_crossed : (a b c d : Bool) → ((a && b) && (c && d)) ≡ ((a && c) && (b && d))
+and_crossed true b c d = and_swapped b c d
+and_crossed false b c d = refl
 
 every_inserted : (test : AbstractValue → Bool) (u : AbstractType) (v : AbstractValue) (ws : List AbstractValue)
     → every_item test (items_of (inserted u v ws)) ≡ (test v && every_item test (items_of ws))
@@ -69,11 +83,20 @@ every_arranged test u [] = refl
 every_arranged test u (v ∷ vs) = every_inserted test u v (arranged u vs)
     ∙ ap (λ (b : Bool). test v && b) (every_arranged test u vs)
 
--- whether all are members doesn't depend on their order
-pub parts_in_order : (k : Collection) (u : AbstractType) (vs : List AbstractValue)
-    → parts_are_members (of_kind k u) (list_value k u vs) ≡ every_item (is_member u) (items_of vs)
-parts_in_order collection.Sequence u vs = refl
-parts_in_order collection.Set u vs = every_arranged (is_member u) u vs
+every_both : (f g : AbstractValue → Bool) (vs : List AbstractValue)
+    → (every_item f (items_of vs) && every_item g (items_of vs)) ≡ every_item (λ v. f v && g v) (items_of vs)
+every_both f g [] = refl
+every_both f g (v ∷ vs) =
+    and_crossed (f v) (every_item f (items_of vs)) (g v) (every_item g (items_of vs))
+    ∙ ap (λ (b : Bool). (f v && g v) && b) (every_both f g vs)
+
+-- whether all are members, and as is asked, doesn't depend on their order
+pub kept_in_order : (each : Option Constraint) (k : Collection) (u : AbstractType) (vs : List AbstractValue)
+    → (every_item (each_has each (element_kind (of_kind k u))) (items_of (in_order k u vs))
+    && parts_are_members (of_kind k u) (list_value k u vs)) ≡ every_item (is_kept each u) (items_of vs)
+kept_in_order each collection.Sequence u vs = every_both (each_has each (kind_of u)) (is_member u) vs
+kept_in_order each collection.Set u vs = every_both (each_has each (kind_of u)) (is_member u) (arranged u vs)
+    ∙ every_arranged (is_kept each u) u vs
 
 pub length_in_order : (k : Collection) (u : AbstractType) (vs : List AbstractValue)
     → length (in_order k u vs) ≡ length vs

@@ -10,7 +10,7 @@ use Rattle.guard_model.specs.declared.site.Site.{Site}
 use Rattle.guard_model.specs.declared.tag.Tag.{Tag}
 use Rattle.guard_model.specs.declared.ty.Kind.TheViews.{out-Ty}
 use Rattle.guard_model.specs.declared.ty.Ty.{Ty}
-use Rattle.guard_model.specs.AbstractType.{AbstractType, AbstractKind, Constraints, type_of}
+use Rattle.guard_model.specs.AbstractType.{AbstractType, AbstractKind, Constraint, Constraints, type_of}
 use Rattle.guard_model.specs.AbstractValue as value
 use Rattle.guard_model.specs.AbstractValue.{AbstractValue, items_of}
 use Rattle.guard_model.specs.Kinds.{kind_of, element_of}
@@ -27,6 +27,7 @@ use Rattle.guard_der.specs.Sound.{is_sound, is_proper, has_distinct_tags}
 use Rattle.guard_der.proofs.Functions.Soundness.{told_where_short}
 use Rattle.guard_eval.specs.Elements.{every_item}
 use Rattle.guard_eval.specs.Member.{is_member, all_hold, parts_are_members}
+use Rattle.guard_eval.specs.Presence.{element_kind}
 use Rattle.guard_syntax.specs.declared.tree.Collection.{Collection}
 use Rattle.guard_syntax.specs.declared.tree.EntryTree.{EntryTree}
 use Rattle.guard_syntax.specs.Trees as written
@@ -55,18 +56,10 @@ use Rattle.guard_schema.specs.Counting.{held, value_nodes, nodes_of_items, all_h
 use Rattle.guard_schema.specs.Faults.{AbstractFault, Value, DefaultOutside, TooLarge, Outcome}
 use Rattle.guard_schema.specs.Known.{Built, Known}
 use Rattle.guard_schema.specs.Outcomes.{Is, Then, RefusesBy}
-use Rattle.guard_schema.specs.inside.LongLists.{AreRead, IsFirstOfElements, ReadsAndHolds, IsToldBySize}
-use Rattle.guard_schema.proofs.ListsInOrder.{in_order, list_value, parts_in_order, length_in_order, items_in_order, octets_in_order, says_list, faults_of_list, takes, list_type}
+use Rattle.guard_schema.specs.inside.LongLists.{AreRead, IsFirstOfElements, ReadsAndHolds, IsAsked, each_has, is_kept}
+use Rattle.guard_schema.proofs.ListsInOrder.{and_true, and_grouped, in_order, list_value, kept_in_order, length_in_order, items_in_order, octets_in_order, says_list, faults_of_list, takes, list_type}
 
 -- ---- elements in turn
-
-and_true : (a : Bool) → (a && true) ≡ a
-and_true true = refl
-and_true false = refl
-
-and_grouped : (a b c : Bool) → (a && (b && c)) ≡ ((a && b) && c)
-and_grouped true b c = refl
-and_grouped false b c = refl
 
 every_last : (test : AbstractValue → Bool) (vs : List AbstractValue) (v : AbstractValue)
     → every_item test (items_of (vs ++ v ∷ [])) ≡ (every_item test (items_of vs) && test v)
@@ -91,7 +84,7 @@ first_between : (name fs more : List ValueFault) (f : ValueFault) → slice_get 
 first_between [] fs more f e = first_then fs more f (subst (λ gs. slice_get gs 0 ≡ Some f) (append-nil fs) e)
 first_between (g ∷ name) fs more f e = e
 
-module _ (m : Meaning) (u : AbstractType) where
+module _ (m : Meaning) (u : AbstractType) (each : Option Constraint) where
   said_first : (e : WrittenEntry) (rest : WrittenEntries) (v : AbstractValue) (more : List AbstractValue)
       → e.name ≡ None → Says m u e.value v → EntriesSay m u rest more
       → EntriesSay m u (entry e.site e.name e.value rest) (v ∷ more)
@@ -115,7 +108,7 @@ module _ (m : Meaning) (u : AbstractType) where
         (vs : List AbstractValue)
         × ((more : List AbstractValue) → EntriesSay m u (left i) more
         → EntriesSay m u (entries_of (map entry_view entries)) (vs ++ more))
-        × (all ≡ every_item (is_member u) (items_of vs))
+        × (all ≡ every_item (is_kept each u) (items_of vs))
         × (short_length (items_joined u vs) ≡ Some (longest_encoding - room)) × (length vs ≡ i)
         × (faults_of_elements m u (left i) ≡ faults_of_elements m u (entries_of (map entry_view entries)))
         × IsTrue (are_short u vs)
@@ -123,7 +116,7 @@ module _ (m : Meaning) (u : AbstractType) where
     pub one_read : (i room n : ℕ) (all after : Bool) (e : EntryTree) (v : AbstractValue)
         → i < length entries → e ≡ get_or entries i e → (entry_view e).name ≡ None
         → Says m u (entry_view e).value v → Some n ≡ short_length (der u v) → n ≤ room → room ≤ longest_encoding
-        → after ≡ (all && is_member u v) → AreReadTo i all room → AreReadTo (i + 1) after (room - n)
+        → after ≡ (all && is_kept each u v) → AreReadTo i all room → AreReadTo (i + 1) after (room - n)
     one_read i room n all after e v lt is none said counted within low member h =
         let w = entry_view e in
         let here = split i e lt is in
@@ -139,7 +132,7 @@ module _ (m : Meaning) (u : AbstractType) where
               subst (EntriesSay m u (entries_of (map entry_view entries))) (sym (append_assoc h.0 (v ∷ []) more))
               (h.1 (v ∷ more) (subst (λ es. EntriesSay m u es (v ∷ more)) (sym here) (said_first w (left (i + 1)) v more
               none said others))),
-          member ∙ ap (λ (b : Bool). b && is_member u v) h.2 ∙ sym (every_last (is_member u) h.0 v),
+          member ∙ ap (λ (b : Bool). b && is_kept each u v) h.2 ∙ sym (every_last (is_kept each u) h.0 v),
           (last_counted u h.0 v w.site room (room - n) h.3 low took).0,
           length-append h.0 (v ∷ []) ∙ ap (λ (k : ℕ). k + 1) h.4,
           sym (ap (faults_of_elements m u) here ∙ faultless) ∙ h.5,
@@ -161,7 +154,7 @@ module _ (m : Meaning) (u : AbstractType) where
         )
 
     pub all_read : (i room : ℕ) (all : Bool) → i ≡ length entries → AreReadTo i all room
-        → AreRead m u (entries_of (map entry_view entries)) (length entries) (all, longest_encoding - room)
+        → AreRead m u each (entries_of (map entry_view entries)) (length entries) (all, longest_encoding - room)
     all_read i room all end h =
         let none : left i ≡ no_entries =
         at_drop_all (λ xs. entries_of (map entry_view xs)) entries i (omega (arith, end)) in (
@@ -208,9 +201,9 @@ short_whole ty kind is octets whole counted short v contents =
 
 module _ (names : Visible) (fit : AreFitting names.values) (t : AbstractType) (k : Collection) (tags : List Tag)
     (u : AbstractType) (cons : Constraints) (is : t ≡ type_of tags (of_kind k u) cons) (site : Site)
-    (es : WrittenEntries) (count : ℕ) (kept all : Bool) (octets : ℕ) (sound : IsTrue (is_sound t))
-    (read : AreRead names.values u es count (all, octets)) (few : count ≤ 4294967295)
-    (sizes : IsToldBySize count (all_hold cons) kept)
+    (es : WrittenEntries) (count : ℕ) (each : Option Constraint) (kept all : Bool) (octets : ℕ)
+    (sound : IsTrue (is_sound t)) (read : AreRead names.values u each es count (all, octets))
+    (few : count ≤ 4294967295) (asked : IsAsked count (all_hold cons) kept each)
     (short : (v : AbstractValue) → Some octets ≡ short_length (contents_octets (of_kind k u) v)
     → is_short (der t v) ≡ true) where
   abbrev tree : WrittenValue
@@ -235,9 +228,11 @@ module _ (names : Visible) (fit : AreFitting names.values) (t : AbstractType) (k
       let fitting = sym (ap (λ (x : AbstractType). fits x v) is) ∙ says_fits names.values fit tree t v proper denoted.0 in
       ap (λ (x : AbstractType). is_member x v) is
       ∙ ap (λ (b : Bool). b && all_hold cons (of_kind k u) v && parts_are_members (of_kind k u) v) fitting
-      ∙ ap (λ (b : Bool). b && parts_are_members (of_kind k u) v) (sizes (of_kind k u) (takes k u)
+      ∙ ap (λ (b : Bool). b && parts_are_members (of_kind k u) v) (asked (of_kind k u) (takes k u)
       (items_of (in_order k u read.0)) (items_in_order k u read.0 ∙ read.4))
-      ∙ ap (λ (b : Bool). kept && b) (parts_in_order k u read.0 ∙ sym read.2)
+      ∙ sym (and_grouped kept (every_item (each_has each (element_kind (of_kind k u))) (items_of (in_order k u read.0)))
+      (parts_are_members (of_kind k u) v))
+      ∙ ap (λ (b : Bool). kept && b) (kept_in_order each k u read.0 ∙ sym read.2)
 
   one_outside : (before : ℕ) (name : Site) → (kept && all) ≡ false
       → ReadsAndHolds before name names t tree (Err (DefaultOutside site))
@@ -312,13 +307,14 @@ pub record Listed (ty : Ty) (u : AbstractType) (tree : ValueTree) (entries : Vec
   pub listed : (out-ValueTree tree).form ≡ variant.List entries
   pub element : element_of (kind_view (out-Ty ty).kind) ≡ Some u
 
--- such a list of which all elements are read, and the constraints are asked for its size
-pub record Counted (names : Visible) (ty : Ty) (u : AbstractType) (entries : Vec EntryTree) (kept all : Bool)
-    (octets : ℕ) : Type 0 where
+-- such a list of which all elements are read, and whose size the constraints were asked for
+pub record Counted (names : Visible) (ty : Ty) (u : AbstractType) (each : Option Constraint)
+    (entries : Vec EntryTree) (kept all : Bool) (octets : ℕ) : Type 0 where
   pub fit : AreFitting names.values
-  pub read : AreRead names.values u (entries_of (map entry_view entries.items)) (length entries.items) (all, octets)
+  pub read : AreRead names.values u each (entries_of (map entry_view entries.items)) (length entries.items)
+      (all, octets)
   pub few : length entries.items ≤ 4294967295
-  pub sizes : IsToldBySize (length entries.items) (all_hold (constraints ty)) kept
+  pub asked : IsAsked (length entries.items) (all_hold (constraints ty)) kept each
   pub whole : Option ℕ
   pub counted : whole ≡ length_in (out-Ty ty).tags.items (Some octets)
   pub short : is_some whole ≡ true
@@ -339,15 +335,16 @@ module _ (names : Visible) (ty : Ty) (u : AbstractType) (tree : ValueTree) (entr
       ∙ ap (λ (f : ValueForm). value_node (out-ValueTree tree).site (value_form_view f)) l.listed
       ∙ ap (value_node (out-ValueTree tree).site) (form_list entries)
 
-  pub refused : (kept all : Bool) (octets : ℕ) → Counted names ty u entries kept all octets
+  pub refused : (each : Option Constraint) (kept all : Bool) (octets : ℕ)
+      → Counted names ty u each entries kept all octets
       → 100000 ≤ length entries.items → (site : Site) (before : ℕ)
       → ReadsAndHolds before site names (type_view ty) (value_view tree)
       (Err (cond (kept && all) (TooLarge site) (DefaultOutside (out-ValueTree tree).site)))
-  refused kept all octets c long site before =
+  refused each kept all octets c long site before =
       subst (λ w. ReadsAndHolds before site names (type_view ty) w (Err (cond (kept && all) (TooLarge site)
       (DefaultOutside (out-ValueTree tree).site)))) (sym tree_is) (one_refused names c.fit (type_view ty) k
-      (out-Ty ty).tags.items u (constraints ty) type_is (out-ValueTree tree).site es (length entries.items) kept all
-      octets l.sound c.read c.few c.sizes (short_whole ty (of_kind k u) (ap kind_of type_is) octets c.whole c.counted
+      (out-Ty ty).tags.items u (constraints ty) type_is (out-ValueTree tree).site es (length entries.items) each kept all
+      octets l.sound c.read c.few c.asked (short_whole ty (of_kind k u) (ap kind_of type_is) octets c.whole c.counted
       c.short) before site long)
 
   pub faulty : (f : ValueFault) → IsFirstOfElements names.values u es f → (site : Site) (before : ℕ)

@@ -1,15 +1,17 @@
 //! Assigned values that are lists of so many values with places for components that no schema may hold them. A value
 //! takes memory for each place, also where nothing is in it, so each element is read and dropped.
-ghost use Rattle.std.specs.Prelude.{◌≡◌, ◌≤◌, ◌&&◌, ℕ, length, map, Some, None, IsTrue, IfOk, IfErr, IfSome, if◌then◌else◌};
+ghost use Rattle.std.specs.Prelude.{◌≡◌, ◌≤◌, ◌&&◌, ℕ, length, map, option_map, Some, None};
+ghost use Rattle.std.specs.Prelude.{IsTrue, IfOk, IfErr, IfSome, if◌then◌else◌};
 ghost use Rattle.guard_constraints.specs.Views.{visible_in};
 ghost use Rattle.guard_der.specs.Encoding.{longest_encoding};
 ghost use Rattle.guard_der.specs.Fits.{fits};
-ghost use Rattle.guard_der.specs.Sound.{is_sound};
-ghost use Rattle.guard_model.specs.TypeView.{type_view};
+ghost use Rattle.guard_der.specs.Sound.{is_sound, is_proper_constraint};
+ghost use Rattle.guard_model.specs.TypeView.{type_view, constraint_view};
+ghost use Rattle.guard_model.specs.ValueView.{value_view};
 ghost use Rattle.guard_schema.specs.Faults.{named, DefaultOutside, TooLarge};
 ghost use Rattle.guard_schema.specs.Outcomes.{RefusesBy};
 ghost use Rattle.guard_schema.specs.Pairs.{AreBuilt};
-ghost use Rattle.guard_schema.specs.inside.LongLists.{AreRead, IsFirstOfElements, ReadsAndHolds};
+ghost use Rattle.guard_schema.specs.inside.LongLists.{AreRead, IsFirstOfElements, ReadsAndHolds, is_kept};
 ghost use Rattle.guard_syntax.specs.Trees.{entry as before, entries_of, no_entries};
 ghost use Rattle.guard_syntax.specs.Views as trees;
 ghost use Rattle.guard_values.specs.declared.fault.ValueFault.TheVariants as value_fault;
@@ -17,10 +19,10 @@ ghost use Rattle.guard_values.specs.Denotes.{Says};
 ghost use Rattle.guard_values.specs.Views as values;
 
 use crate::fault::SchemaFault;
-use crate::list_sizes::all_allow;
+use crate::list_sizes::all_asked;
 use guard_der::{LONGEST_ENCODING, encoded_length, length_in};
-use guard_eval::proper_member;
-use guard_model::{Comp, Kind, MOST_ITEMS, Presence, Site, Ty, Value};
+use guard_eval::{holds, member};
+use guard_model::{Comp, Cons, Kind, MOST_ITEMS, Presence, Site, Ty, Value};
 use guard_syntax::{EntryTree, ValueForm, ValueTree};
 use guard_values::{Scope, ValueFault, shared_value};
 use std::alloc::Global;
@@ -30,9 +32,9 @@ use std::sync::Arc;
 const LONG: usize = 100_000;
 
 /// Refuses a value assignment, whose name is at the site, where its value is a list that is longer than may be: by the
-/// first fault of its elements where one denotes nothing, S2 where an element is no member or the list itself has a
-/// size that its type doesn't allow, else S3. Of other values nothing is said, nor of a list whose type has a
-/// constraint that may look at elements (a single value, a contained subtype, WITH COMPONENT), nor of one whose
+/// first fault of its elements where one denotes nothing, S2 where an element or the list itself is no member, else S3.
+/// Of other values nothing is said, nor of a list whose type's constraints look at its elements otherwise than by one
+/// WITH COMPONENT alone, as a single value, a contained subtype or a union of WITH COMPONENT does, nor of one whose
 /// encoding, or that of an element before its first fault, may be too long.
 pub fn check_length(
     alloc: Global,
@@ -53,10 +55,10 @@ pub fn check_length(
     if !is_long(count, &element.kind) || !has_small_defaults(element) {
         return Ok(());
     }
-    let Some(is_allowed) = all_allow(alloc, &ty.cons, count) else {
+    let Some((is_allowed, each)) = all_asked(alloc, &ty.cons, count) else {
         return Ok(());
     };
-    let (are_members, octets) = match elements_read(alloc, scope, entries, element) {
+    let (are_members, octets) = match elements_read(alloc, scope, entries, element, each) {
         Ok(read) => read,
         Err(Some(fault)) => return Err(SchemaFault::Value(fault)),
         Err(None) => return Ok(()),
@@ -126,7 +128,8 @@ fn is_number(value: &Value) -> bool {
     }
 }
 
-/// Whether all elements are members of the type, and how many octets their encodings have.
+/// Whether all elements are members of the type and as the constraint says, if there is one, and how many octets their
+/// encodings have.
 ///
 /// Errors: the first fault of the elements, where one denotes nothing. None where all have more octets than an encoding
 /// may have, and where `element_value` says nothing.
@@ -135,11 +138,13 @@ fn elements_read(
     scope: Scope,
     entries: &[EntryTree],
     ty: &Ty,
+    each: Option<&Cons>,
 ) -> Result<(bool, usize), Option<ValueFault>>
     requires sound { IsTrue (is_sound (type_view ty.now)) }
     requires known { AreBuilt scope.known.now }
+    requires each { IfSome each (λ c. IsTrue (is_proper_constraint (constraint_view c.now) (type_view ty.now))) }
     ensures read { IfOk result (AreRead (visible_in scope.entry).values (type_view ty.now)
-        (entries_of (map trees.entry_view entries.now)) (length entries.now)) }
+        (option_map (λ c. constraint_view c.now) each.entry) (entries_of (map trees.entry_view entries.now)) (length entries.now)) }
     ensures bound { IfOk result (λ x. x.1 ≤ longest_encoding) }
     ensures first { IfErr result (λ o. IfSome o (IsFirstOfElements (visible_in scope.entry).values (type_view ty.now)
         (entries_of (map trees.entry_view entries.now)))) }
@@ -155,9 +160,23 @@ fn elements_read(
             return Err(None);
         }
         room -= length;
-        are_members = are_members && proper_member(ty, &value);
+        are_members = are_members && is_kept(each, ty, &value);
     }
     Ok((are_members, LONGEST_ENCODING - room))
+}
+
+/// Whether the value is a member of the type, and as the constraint says if there is one.
+fn is_kept(each: Option<&Cons>, ty: &Ty, value: &Value) -> bool
+    requires sound { IsTrue (is_sound (type_view ty.now)) }
+    requires each { IfSome each (λ c. IsTrue (is_proper_constraint (constraint_view c.now) (type_view ty.now))) }
+    requires fits { IsTrue (fits (type_view ty.now) (value_view value.now)) }
+    ensures { result ≡ is_kept (option_map (λ c. constraint_view c.now) each.entry) (type_view ty.now)
+        (value_view value.now) }
+{
+    match each {
+        Some(each) => holds(each, ty, value) && member(ty, value),
+        None => member(ty, value),
+    }
 }
 
 /// The value of an element.

@@ -2,7 +2,8 @@
 -- first.
 use Rattle.std.specs.Prelude.{◌≡◌, ◌⊎◌, ℕ, Bool, ◌&&◌, ◌||◌, true, false, List, ◌++◌, codes}
 use Rattle.clap.specs.declared.error.kind.ErrorKind.{ErrorKind}
-use Rattle.clap.specs.declared.error.kind.ErrorKind.TheVariants.{DisplayHelp, DisplayVersion}
+use Rattle.clap.specs.declared.error.kind.ErrorKind.TheVariants as code
+use Rattle.clap.specs.declared.error.kind.ErrorKind.TheVariants.{InvalidValue, UnknownArgument, InvalidSubcommand, NoEquals, ValueValidation, TooManyValues, TooFewValues, WrongNumberOfValues, ArgumentConflict, MissingRequiredArgument, MissingSubcommand, DisplayHelp, DisplayHelpOnMissingArgumentOrSubcommand, DisplayVersion, Io, Format}
 use Rattle.clap.specs.Words.{IsAmong, Kinds, Text, fault_of}
 use Rattle.guard_files.specs.declared.fault.Fault.{Fault}
 use Rattle.guard_files.specs.Files.{Told}
@@ -59,11 +60,16 @@ Meets told shows (mux path verbose place) = GuardsLinks verbose place told path 
 
 -- standard output of the request is lines, and not frames, records or a value
 abbrev pub answers_lines : AbstractRequest → Bool
+answers_lines first = true
+answers_lines (check asked) = true
+answers_lines (decide q) = true
 answers_lines (show q) = false
 answers_lines (encode asked) = false
+answers_lines (test asked) = true
+answers_lines (compare asked) = true
 answers_lines (run path verbose counts) = false
+answers_lines (ask path) = true
 answers_lines (mux path verbose counts) = false
-answers_lines request = true
 
 -- a device takes what comes as it is, or each line as JSON
 abbrev pub ComesBy : Bool → Device → Device → Type 0
@@ -82,7 +88,21 @@ MeetsBy true told shows request input out err status =
 abbrev pub is_help : ErrorKind → Bool
 is_help DisplayHelp = true
 is_help DisplayVersion = true
-is_help said = false
+is_help InvalidValue = false
+is_help UnknownArgument = false
+is_help InvalidSubcommand = false
+is_help NoEquals = false
+is_help ValueValidation = false
+is_help TooManyValues = false
+is_help TooFewValues = false
+is_help WrongNumberOfValues = false
+is_help ArgumentConflict = false
+is_help MissingRequiredArgument = false
+is_help MissingSubcommand = false
+is_help DisplayHelpOnMissingArgumentOrSubcommand = false
+is_help Io = false
+is_help Format = false
+is_help code.OutOfMemory = false
 
 -- what is printed for `--version`
 abbrev pub version_line : List ℕ

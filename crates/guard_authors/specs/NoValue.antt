@@ -8,7 +8,7 @@ use Rattle.guard_syntax.specs.declared.fault.SyntaxFault.TheVariants as syntax
 use Rattle.guard_values.specs.declared.fault.ValueFault.{ValueFault}
 use Rattle.guard_values.specs.declared.fault.ValueFault.TheVariants as value
 use Rattle.guard_schema.specs.declared.fault.SchemaFault.{SchemaFault}
-use Rattle.guard_schema.specs.declared.fault.SchemaFault.TheVariants.{Lex, Syntax, Value}
+use Rattle.guard_schema.specs.declared.fault.SchemaFault.TheVariants.{Lex, Syntax, Name, Tag, Clash, Cons, Value, DefaultOutside, TooLarge, OutOfMemory}
 
 -- the number of the text, which is 1, the line and the column
 abbrev pub at_site : List ℕ → Site → List ℕ
@@ -51,4 +51,10 @@ abbrev pub no_value_text : SchemaFault → List ℕ
 no_value_text (Lex f) = lex_text f
 no_value_text (Syntax f) = syntax_text f
 no_value_text (Value f) = value_text f
-no_value_text _ = []
+no_value_text (Name f) = []
+no_value_text (Tag f) = []
+no_value_text (Clash site clash common) = []
+no_value_text (Cons f) = []
+no_value_text (DefaultOutside site) = []
+no_value_text (TooLarge site) = []
+no_value_text OutOfMemory = []

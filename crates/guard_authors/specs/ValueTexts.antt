@@ -1,6 +1,6 @@
 -- The value of a type that a text alone writes, in the notation of X.680 17, or why it writes none.
 use Rattle.std.specs.Prelude.{◌≢◌, ℕ, List, [], ◌∷◌, codes}
-use Rattle.std.specs.Option.{option_map_or}
+use Rattle.std.specs.Option.{MatchOption, option_map_or}
 use Rattle.guard_model.specs.AbstractType.{AbstractType}
 use Rattle.guard_lexer.specs.Lexing.{Lexes, FirstFault}
 use Rattle.guard_lexer.specs.declared.token.Token.{Token}
@@ -10,6 +10,7 @@ use Rattle.guard_syntax.specs.declared.fault.SyntaxFault.TheVariants as syntax
 use Rattle.guard_syntax.specs.Trees.{WrittenValue}
 use Rattle.guard_values.specs.FirstFault.{IsFirstFault}
 use Rattle.guard_values.specs.Meanings.{Meaning}
+use Rattle.guard_schema.specs.Faults.{named}
 use Rattle.guard_schema.specs.Known.{values_in}
 use Rattle.guard_policy.specs.Policies.{AbstractMessage}
 use Rattle.guard_schema.specs.declared.fault.SchemaFault.{SchemaFault}
@@ -56,7 +57,7 @@ value_sources text = sources [] (codes "value" ∷ []) (text ∷ [])
 abbrev pub value_note : List ℕ → SchemaFault → List ℕ
 value_note text f = option_map_or (place_lines (value_sources text)) (schema_place f) []
 
--- it is reported with the place
+-- A fault that names what is wrong is reported with the place; else memory ran out.
 abbrev pub TellsNoValue : List ℕ → SchemaFault → Device → ℕ → Type 0
-TellsNoValue text OutOfMemory err status = TellsNoMemory err status
-TellsNoValue text f err status = TellsWith (Schema f) (value_note text f) err status
+TellsNoValue text f err status =
+    MatchOption (named f) (TellsNoMemory err status) (λ _. TellsWith (Schema f) (value_note text f) err status)

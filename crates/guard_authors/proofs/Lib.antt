@@ -1,8 +1,6 @@
 pub mod ListingLaws
 pub mod WrittenValues
-pub mod CasesFound
 pub mod TriedCases
-pub mod FaultyCases
 pub mod RowsCounted
 pub mod SummaryLines
 pub mod FramesCompared

@@ -1,5 +1,5 @@
 //! What a file of cases says, and what is wrong with it.
-ghost use Rattle.std.specs.Prelude.{◌≡◌, ◌++◌, ℕ, List, [], ◌∷◌, true, Some, None, is_some, codes, map, option_map};
+ghost use Rattle.std.specs.Prelude.{◌≡◌, ◌++◌, ℕ, List, true, Some, None, is_some, map, option_map};
 ghost use Rattle.std.specs.Prelude.{string_bytes, IfOk, IfErr, OnOk};
 ghost use Rattle.toml.specs.Data.{get_member, as_array};
 ghost use Rattle.toml.specs.View.{items_view, table_view, view};
@@ -118,14 +118,16 @@ pub fn cases_of<'a>(alloc: Global, top: &'a Table) -> Result<&'a [Value], CasesF
     ensures right { OnOk result (cases_fault (table_view top.now) ≡ None) }
     ensures none { IfErr result (Meets (cases_fault (table_view top.now))) }
 {
-    if let Some(word) = unknown_at_top(top) {
+    if let Some(word) = first_unknown(&["case"], top) {
         return Err(CasesFault::BadFile(key_text(alloc, UNKNOWN, "top", word)?));
     }
     let Some(items) = list_at(top) else {
         return Err(CasesFault::BadFile(key_text(alloc, MISSING, "top", "case")?));
     };
-    check_cases(alloc, items)?;
-    Ok(items)
+    match list_fault(alloc, items)? {
+        Some(fault) => Err(CasesFault::BadFile(fault)),
+        None => Ok(items),
+    }
 }
 
 /// The list at `case`, which may be missing.
@@ -147,60 +149,44 @@ fn array_in<'a>(value: &'a Value) -> Option<&'a [Value]>
     }
 }
 
-/// Refuses the first case that has a fault.
-fn check_cases(alloc: Global, items: &[Value]) -> Result<(), CasesFault>
-    ensures right { OnOk result (list_fault 1 (items_view items.now) ≡ None) }
-    ensures none { IfErr result (Meets (list_fault 1 (items_view items.now))) }
+/// The first fault of the cases.
+fn list_fault(alloc: Global, items: &[Value]) -> Result<Option<String>, AllocError>
+    ensures { IfOk result (λ fault. option_map string_bytes fault ≡ list_fault 1 (items_view items.now)) }
 {
     for (place, item) in items.iter().enumerate() {
-        check_item(alloc, place + 1, item)?;
+        if let Some(fault) = case_fault(alloc, place + 1, item)? {
+            return Ok(Some(fault));
+        }
     }
-    Ok(())
+    Ok(None)
 }
 
-/// Refuses an item of this number that is no case. What is no table has none of the keys.
-fn check_item(alloc: Global, number: usize, item: &Value) -> Result<(), CasesFault>
-    ensures right { OnOk result (case_fault number (members_in (view item.now)) ≡ None) }
-    ensures none { IfErr result (Meets (case_fault number (members_in (view item.now)))) }
+/// The fault of the item of this number. What is no table has none of the keys.
+fn case_fault(alloc: Global, number: usize, item: &Value) -> Result<Option<String>, AllocError>
+    ensures { IfOk result (λ fault. option_map string_bytes fault ≡ case_fault number (members_in (view item.now))) }
 {
     match item.as_table() {
-        Some(table) => check_case(alloc, number, table),
-        None => Err(CasesFault::BadFile(key_text(
-            alloc,
-            MISSING,
-            &case_text(alloc, number)?,
-            "from",
-        )?)),
+        Some(table) => table_fault(alloc, number, table),
+        None => key_fault(alloc, MISSING, number, "from"),
     }
 }
 
-fn check_case(alloc: Global, number: usize, table: &Table) -> Result<(), CasesFault>
-    ensures right { OnOk result (case_fault number (table_view table.now) ≡ None) }
-    ensures none { IfErr result (Meets (case_fault number (table_view table.now))) }
+fn table_fault(alloc: Global, number: usize, table: &Table) -> Result<Option<String>, AllocError>
+    ensures { IfOk result (λ fault. option_map string_bytes fault ≡ case_fault number (table_view table.now)) }
 {
     if let Some(word) = unknown_in_case(table) {
-        return Err(CasesFault::BadFile(key_text(
-            alloc,
-            UNKNOWN,
-            &case_text(alloc, number)?,
-            word,
-        )?));
+        return key_fault(alloc, UNKNOWN, number, word);
     }
     if let Some(key) = missing_in_case(table) {
-        return Err(CasesFault::BadFile(key_text(alloc, MISSING, &case_text(alloc, number)?, key)?));
+        return key_fault(alloc, MISSING, number, key);
     }
     if !has_one(table) {
-        return Err(CasesFault::BadFile(message_text(alloc, number)?));
+        return Ok(Some(message_text(alloc, number)?));
     }
-    if let Some(key) = nameless_in_case(table) {
-        return Err(CasesFault::BadFile(key_text(
-            alloc,
-            BAD_NAME,
-            &case_text(alloc, number)?,
-            key,
-        )?));
+    match nameless_in_case(table) {
+        Some(key) => key_fault(alloc, BAD_NAME, number, key),
+        None => Ok(None),
     }
-    Ok(())
 }
 
 // ---- the texts of faults
@@ -218,6 +204,20 @@ fn key_text(alloc: Global, fault: &str, place: &str, key: &str) -> Result<String
     format!(in alloc; "{fault} {place} {key}")
 }
 
+/// A fault at a key of the case of this number.
+fn key_fault(
+    alloc: Global,
+    fault: &str,
+    number: usize,
+    key: &str,
+) -> Result<Option<String>, AllocError>
+    ensures { IfOk result (λ text. option_map string_bytes text
+        ≡ Some (key_text fault.now (case_text number) key.now)) }
+{
+    let place = case_text(alloc, number)?;
+    Ok(Some(key_text(alloc, fault, &place, key)?))
+}
+
 fn message_text(alloc: Global, number: usize) -> Result<String, AllocError>
     ensures { IfOk result (λ text. string_bytes text ≡ message_text (case_text number)) }
 {
@@ -225,12 +225,6 @@ fn message_text(alloc: Global, number: usize) -> Result<String, AllocError>
 }
 
 // ---- keys
-
-fn unknown_at_top<'a>(top: &'a Table) -> Option<&'a str>
-    ensures { option_map (λ word. word.now) result ≡ first_unknown (codes "case" ∷ []) (table_view top.now) }
-{
-    first_unknown(&["case"], top)
-}
 
 fn unknown_in_case<'a>(table: &'a Table) -> Option<&'a str>
     ensures { option_map (λ word. word.now) result ≡ first_unknown case_keys (table_view table.now) }

@@ -1,4 +1,4 @@
-use Rattle.guard_authors.proofs.CasesFound.{counted}
+use Rattle.guard_authors.proofs.TriedCases.{counted}
 use Rattle.guard_authors.proofs.testing.answer_of.Goals as goal
 
 pub returns : goal.returns

@@ -1,7 +1,7 @@
 use Rattle.std.proofs.Common.{◌≡◌, ◌+◌, drop}
 use Rattle.toml.specs.View.{items_view}
 use Rattle.guard_authors.specs.Cases.{list_fault}
-use Rattle.guard_authors.proofs.cases.check_cases.Given as goal
+use Rattle.guard_authors.proofs.cases.list_fault.Given as goal
 
 -- the first fault of what is left is the first of all
 abbrev pub invariant-loop-place : goal.invariant-loop-place

@@ -72,27 +72,23 @@ how_often number rows i = later 0 (count_by (λ row. is_at i (number row)) rows)
 abbrev pub rule_line : ℕ → AbstractRule → List ℕ
 rule_line n r = said_text r ++ codes " " ++ decimal n ++ codes "\n"
 
--- of these rules, the first of which has this number
-abbrev pub rule_lines : (ℕ → ℕ) → ℕ → List AbstractRule → List ℕ
-rule_lines often i [] = []
-rule_lines often i (r ∷ rs) = rule_line (often i) r ++ rule_lines often (i + 1) rs
-
 -- `  no-rule 2`, of a reason that is there
-abbrev pub reason_line : List ℕ → ℕ → List ℕ
-reason_line reason n = if nat_eq n 0 then [] else codes "  " ++ reason ++ codes " " ++ decimal n ++ codes "\n"
+abbrev pub reason_line : ℕ → List ℕ → List ℕ
+reason_line n reason = if nat_eq n 0 then [] else codes "  " ++ reason ++ codes " " ++ decimal n ++ codes "\n"
 
--- in the order of their places
-abbrev pub reason_lines : (ℕ → ℕ) → List ℕ
-reason_lines often =
-    reason_line (codes "bad-header") (often 0)
-    ++ reason_line (codes "unknown-message") (often 1)
-    ++ reason_line (codes "undecodable") (often 2)
-    ++ reason_line (codes "outside-type") (often 3)
-    ++ reason_line (codes "not-allowed") (often 4)
-    ++ reason_line (codes "no-rule") (often 5)
+-- the reasons why no rule has a frame, in the order of their places
+abbrev pub reasons : List (List ℕ)
+reasons =
+    codes "bad-header" ∷ codes "unknown-message" ∷ codes "undecodable" ∷ codes "outside-type" ∷ codes "not-allowed"
+    ∷ codes "no-rule" ∷ []
+
+-- a line for each of these, the first of which has this number
+abbrev pub lines_of : {A : Type 0} → (ℕ → A → List ℕ) → (ℕ → ℕ) → ℕ → List A → List ℕ
+lines_of line often i [] = []
+lines_of line often i (x ∷ xs) = line (often i) x ++ lines_of line often (i + 1) xs
 
 abbrev pub policy_lines : AbstractPolicy → (ℕ → ℕ) → (ℕ → ℕ) → List ℕ
-policy_lines p by_rule by_reason = rule_lines by_rule 0 p.rules ++ reason_lines by_reason
+policy_lines p by_rule by_reason = lines_of rule_line by_rule 0 p.rules ++ lines_of reason_line by_reason 0 reasons
 
 abbrev pub both_lines : List ℕ → List ℕ → List ℕ
 both_lines old new = codes "old policy:\n" ++ old ++ codes "new policy:\n" ++ new

@@ -1,11 +1,11 @@
 //! How many frames each rule of two policies let through or stopped.
-ghost use Rattle.std.specs.Prelude.{◌≡◌, ◌++◌, ℕ, List, Option, [], ◌∷◌, Some, codes, decimal, true, IfOk, OnOk};
+ghost use Rattle.std.specs.Prelude.{◌≡◌, ◌++◌, ℕ, List, Option, [], ◌∷◌, Some, codes, decimal, map, true, IfOk, OnOk};
 ghost use Rattle.guard_frames.specs.Bodies.{body_in, body_view};
 ghost use Rattle.guard_frames.specs.Totals.{later};
 ghost use Rattle.guard_policy.specs.PolicyView.{policy_view};
 ghost use Rattle.guard_authors.specs.Differing.{comparison_view};
-ghost use Rattle.guard_authors.specs.Summary.{place_of, policy_lines, reason_line, reason_lines, rule_lines, rule_of};
-ghost use Rattle.guard_authors.specs.Summary.{IsRow};
+ghost use Rattle.guard_authors.specs.Summary.{lines_of, place_of, policy_lines, reason_line};
+ghost use Rattle.guard_authors.specs.Summary.{rule_line, rule_of, IsRow};
 ghost use Rattle.guard_authors.specs.inside.Counting.{count_at, summed, AreCounts, BeginsCounting};
 ghost use Rattle.guard_authors.specs.inside.Counting.{CountsFrame, IsCount};
 ghost use Rattle.guard_authors.specs.declared.summary.Row.{Row};
@@ -18,8 +18,15 @@ use guard_policy::{Passing, Policy};
 use itoa::Buffer;
 use std::alloc::{AllocError, Global};
 
-/// How many reasons there are why no rule has a frame.
-const REASONS: usize = 6;
+/// The reasons why no rule has a frame, in the order of their places in the table.
+const REASONS: [&str; 6] = [
+    "bad-header",
+    "unknown-message",
+    "undecodable",
+    "outside-type",
+    "not-allowed",
+    "no-rule",
+];
 
 /// In which row of a policy's table a frame is counted.
 #[derive(Clone, Copy, Debug, PartialEq, Eq)]
@@ -82,7 +89,7 @@ impl Counts {
     {
         Ok(Counts {
             rules: vec![in alloc; 0u64; rules]?,
-            reasons: vec![in alloc; 0u64; REASONS]?,
+            reasons: vec![in alloc; 0u64; REASONS.len()]?,
         })
     }
 
@@ -207,13 +214,13 @@ fn add_policy(text: &mut Vec<u8>, policy: &Policy, counts: &Counts) -> Result<()
         (count_at counts.now.rules.items) (count_at counts.now.reasons.items)) }
 {
     add_rules(text, policy, &counts.rules)?;
-    add_reasons(text, &counts.reasons)
+    add_reasons(text, &REASONS, &counts.reasons)
 }
 
 /// Adds the line of each rule, in the order of the file.
 fn add_rules(text: &mut Vec<u8>, policy: &Policy, counts: &[u64]) -> Result<(), OutOfMemory>
     ensures { OnOk result (text.new.items
-        ≡ text.old.items ++ rule_lines (count_at counts.now) 0 (policy_view policy.now).rules) }
+        ≡ text.old.items ++ lines_of rule_line (count_at counts.now) 0 (policy_view policy.now).rules) }
 {
     for number in 0..policy.rules() {
         let Some(rule) = policy.rule(number) else {
@@ -226,26 +233,25 @@ fn add_rules(text: &mut Vec<u8>, policy: &Policy, counts: &[u64]) -> Result<(), 
 }
 
 /// Adds the line of each reason, in the order of their places.
-fn add_reasons(text: &mut Vec<u8>, counts: &[u64]) -> Result<(), OutOfMemory>
-    ensures { OnOk result (text.new.items ≡ text.old.items ++ reason_lines (count_at counts.now)) }
+fn add_reasons(text: &mut Vec<u8>, reasons: &[&str], counts: &[u64]) -> Result<(), OutOfMemory>
+    ensures { OnOk result (text.new.items
+        ≡ text.old.items ++ lines_of reason_line (count_at counts.now) 0 (map (λ reason. reason.now) reasons.now)) }
 {
-    add_reason(text, b"bad-header", count_at(counts, 0))?;
-    add_reason(text, b"unknown-message", count_at(counts, 1))?;
-    add_reason(text, b"undecodable", count_at(counts, 2))?;
-    add_reason(text, b"outside-type", count_at(counts, 3))?;
-    add_reason(text, b"not-allowed", count_at(counts, 4))?;
-    add_reason(text, b"no-rule", count_at(counts, 5))
+    for (place, reason) in reasons.iter().enumerate() {
+        add_reason(text, reason, count_at(counts, place))?;
+    }
+    Ok(())
 }
 
 /// Adds the line of a reason that is there.
-fn add_reason(text: &mut Vec<u8>, reason: &[u8], count: u64) -> Result<(), OutOfMemory>
-    ensures { OnOk result (text.new.items ≡ text.old.items ++ reason_line reason.now count) }
+fn add_reason(text: &mut Vec<u8>, reason: &str, count: u64) -> Result<(), OutOfMemory>
+    ensures { OnOk result (text.new.items ≡ text.old.items ++ reason_line count reason.now) }
 {
     if count == 0 {
         return Ok(());
     }
     add(text, b"  ")?;
-    add(text, reason)?;
+    add(text, reason.as_bytes())?;
     add_count(text, count)
 }
 

@@ -1,7 +1,7 @@
 -- The frames that come in piece by piece, compared one after another, and how that ends.
 use Rattle.std.proofs.Common.{◌≡◌, ◌∙◌, ◌+◌, ◌<◌, ◌^◌, ◌⊎◌, inl, inr, ℕ, Bool, true, List, [], ◌∷◌, ◌++◌, ap, refl, sym, subst, length, take, drop, map, arith, append_assoc, length-drop}
 use Rattle.std.specs.Prelude.{Option, Some}
-use Rattle.std.specs.List.{concat, All}
+use Rattle.std.specs.List.{concat}
 use Rattle.std.specs.Io.KnownBytes.{Appends, Consumes}
 use Rattle.std.proofs.lemmas.List.{append-nil, take-append-drop, drop-drop}
 use Rattle.std.proofs.lemmas.List.Elements.{All-append}
@@ -19,7 +19,7 @@ use Rattle.guard_frames.proofs.Holding.{empty_unfinished}
 use Rattle.guard_frames.proofs.Reading.{Consumes_none, Consumes_trans}
 use Rattle.guard_frames.specs.declared.running.RunFault.TheVariants as run
 use Rattle.guard_files.specs.Devices.{Input, Device, input_of, device}
-use Rattle.guard_files.specs.Records.{Record, link_octets, record_octets, IsAllowed, LeavesOpen}
+use Rattle.guard_files.specs.Records.{link_octets, record_octets, IsAllowed, LeavesOpen}
 use Rattle.guard_files.specs.Records.Record.{end}
 use Rattle.guard_files.specs.Writing.{TookAll, Writes, TellsNoMemory}
 use Rattle.guard_files.specs.declared.stop.Stop.{Stop}
@@ -35,7 +35,7 @@ use Rattle.guard_authors.specs.declared.summary.Sums.{Sums}
 use Rattle.guard_authors.specs.Comparing.{ComparesFrames, Ends, Gives, GivesOfLink, IsBad, IsFailed, IsStopped, Progress, Reaches}
 use Rattle.guard_authors.specs.Differing.{AbstractComparison, AbstractTexts, AreLines, AreVerdictTexts, IsLine, after, compared_line, compared_status, no_frames, total_line, written}
 use Rattle.guard_authors.specs.inside.Counting.{AreCounted, BeginsCounting, CountsFrame, summed, total_text}
-use Rattle.guard_authors.specs.inside.Pieces.{AddsPiece, AreCompared, EndsBehind, HasPassed, HasTaken, StopsReading, StopsTaking, of_stop}
+use Rattle.guard_authors.specs.inside.Pieces.{AddsPiece, AreCompared, EndsBehind, HasPassed, HasTaken, IsBroken, StopsReading, StopsTaking, of_stop}
 use Rattle.guard_authors.proofs.RowsCounted.{frames_begun, frames_counted, frames_none, frames_one, frames_then}
 use Rattle.guard_authors.proofs.SummaryLines.{is_summary}
 
@@ -130,20 +130,8 @@ one_passed c octets old before at t lines rest frame new more line h same first 
 
 -- ---- what came in
 
-pub record CameOfLink (link : ℕ) (a b : Option (List ℕ)) (octets : List ℕ) : Type 0 where
-  pub records : List Record
-  pub allowed : All IsAllowed records
-  pub open_still : All (LeavesOpen link) records
-  pub given : Consumes a b (concat (map record_octets records))
-  pub are : octets ≡ link_octets link records
-
--- these octets so far
-abbrev pub CameSoFar : Origin → Option (List ℕ) → Option (List ℕ) → List ℕ → Type 0
-CameSoFar Stream a b octets = Consumes a b octets
-CameSoFar (Link link) a b octets = CameOfLink link a b octets
-
-came_none : (origin : Origin) (a : Option (List ℕ)) → CameSoFar origin a a []
-came_none Stream a = Consumes_none a
+came_none : (origin : Origin) (a : Option (List ℕ)) → Gives origin a a [] []
+came_none Stream a = (Consumes_none a, refl)
 came_none (Link link) a = record {
   records = [];
   allowed = All_none IsAllowed;
@@ -152,49 +140,41 @@ came_none (Link link) a = record {
   are = refl;
 }
 
-came_more : (origin : Origin) (a b c : Option (List ℕ)) (octets piece : List ℕ) → CameSoFar origin a b octets
-    → AddsPiece origin b c piece → CameSoFar origin a c (octets ++ piece)
-came_more Stream a b c octets piece h p = Consumes_trans a b c octets piece h p
+-- and then this rest
+abbrev rest_of_link : (link : ℕ) (a b c : Option (List ℕ)) (octets rest : List ℕ) → GivesOfLink link a b octets [] → Consumes b c rest
+    → GivesOfLink link a c octets rest
+rest_of_link link a b c octets rest h read =
+    let came = concat (map record_octets h.records) in
+    record {
+      records = h.records;
+      allowed = h.allowed;
+      open_still = h.open_still;
+      given = subst (λ s. Consumes a c (s ++ rest)) (append-nil came) (Consumes_trans a b c (came ++ []) rest h.given read);
+      are = h.are;
+    }
+
+came_still : (origin : Origin) (a b c : Option (List ℕ)) (octets : List ℕ) → Gives origin a b octets [] → Consumes b c []
+    → Gives origin a c octets []
+came_still Stream a b c octets h read = (subst (Consumes a c) (append-nil octets) (Consumes_trans a b c octets [] h.0 read), refl)
+came_still (Link link) a b c octets h read = rest_of_link link a b c octets [] h read
+
+came_more : (origin : Origin) (a b c : Option (List ℕ)) (octets piece : List ℕ) → Gives origin a b octets []
+    → AddsPiece origin b c piece → Gives origin a c (octets ++ piece) []
+came_more Stream a b c octets piece h p = (Consumes_trans a b c octets piece h.0 p, refl)
 came_more (Link link) a b c octets piece h (r, ok, stays, read, is) = record {
   records = h.records ++ r ∷ [];
   allowed = All_more IsAllowed h.records r h.allowed ok;
   open_still = All_more (LeavesOpen link) h.records r h.open_still stays;
-  given = subst (λ (s : List ℕ). Consumes a c s) (sym (joined_last h.records r))
-      (Consumes_trans a b c (concat (map record_octets h.records)) (record_octets r) h.given read);
+  given = subst (Consumes a c) (sym (joined_last h.records r) ∙ sym (append-nil _))
+      (rest_of_link link a b c octets (record_octets r) h read).given;
   are = ap (λ s. s ++ piece) h.are ∙ ap (λ s. link_octets link h.records ++ s) is ∙ sym (one_more link h.records r);
 }
 
--- with this rest, of a stream none
-gives : (origin : Origin) (a b c : Option (List ℕ)) (y z : ℕ) (failed : Bool) (octets : List ℕ) → CameSoFar origin a b octets
-    → Consumes b c [] → Gives origin (input_of a c y z failed) octets []
-gives Stream a b c y z failed octets h read =
-    (subst (λ (s : List ℕ). Consumes a c s) (append-nil octets) (Consumes_trans a b c octets [] h read), refl)
-gives (Link link) a b c y z failed octets h read = record {
-  records = h.records;
-  allowed = h.allowed;
-  open_still = h.open_still;
-  given = Consumes_trans a b c (concat (map record_octets h.records)) [] h.given read;
-  are = h.are;
-}
-
-gives_rest : (link : ℕ) (a b c : Option (List ℕ)) (y z : ℕ) (failed : Bool) (octets rest : List ℕ) → CameOfLink link a b octets
-    → Consumes b c rest → GivesOfLink link (input_of a c y z failed) octets rest
-gives_rest link a b c y z failed octets rest h read = record {
-  records = h.records;
-  allowed = h.allowed;
-  open_still = h.open_still;
-  given = Consumes_trans a b c (concat (map record_octets h.records)) rest h.given read;
-  are = h.are;
-}
-
-ends : (origin : Origin) (a b c : Option (List ℕ)) (y z : ℕ) (failed : Bool) (octets : List ℕ) → CameSoFar origin a b octets
-    → EndsBehind origin b c
-    → (rest : List ℕ) × Gives origin (input_of a c y z failed) octets rest × Ends origin (input_of a c y z failed) rest
-ends Stream a b c y z failed octets h (read, at_end) = ([], gives Stream a b c y z failed octets h read, at_end)
-ends (Link link) a b c y z failed octets h (inl read) =
-    (record_octets (end link), gives_rest link a b c y z failed octets (record_octets (end link)) h read, inl refl)
-ends (Link link) a b c y z failed octets h (inr (read, at_end)) =
-    ([], gives (Link link) a b c y z failed octets h read, inr (refl, at_end))
+ends : (origin : Origin) (a b c : Option (List ℕ)) (octets : List ℕ) → Gives origin a b octets [] → EndsBehind origin b c
+    → (rest : List ℕ) × Gives origin a c octets rest × Ends origin c rest
+ends Stream a b c octets h (read, at_end) = ([], came_still Stream a b c octets h read, at_end)
+ends (Link link) a b c octets h (inl read) = (_, rest_of_link link a b c octets (record_octets (end link)) h read, inl refl)
+ends (Link link) a b c octets h (inr (read, at_end)) = ([], rest_of_link link a b c octets [] h read, inr (refl, at_end))
 
 -- why no more can be read
 abbrev IsWhy : Stop → Origin → Input → List ℕ → Type 0
@@ -203,17 +183,14 @@ IsWhy stop.BadRecord origin input rest = IsBad origin input rest
 IsWhy _ origin input rest = ⊥
 
 reading_stops : (s : Stop) (origin : Origin) (a b c : Option (List ℕ)) (y z reads : ℕ) (failed : Bool) (octets : List ℕ)
-    → CameSoFar origin a b octets → StopsReading origin s b c failed reads → (reads ≡ 0 → WentUpBy y (2 ^ 40) z)
-    → (rest : List ℕ) × Gives origin (input_of a c y z failed) octets rest × IsWhy s origin (input_of a c y z failed) rest
+    → Gives origin a b octets [] → StopsReading origin s b c failed reads → (reads ≡ 0 → WentUpBy y (2 ^ 40) z)
+    → (rest : List ℕ) × Gives origin a c octets rest × IsWhy s origin (input_of a c y z failed) rest
 reading_stops stop.ReadFailed Stream a b c y z reads failed octets h (read, because) asked =
-    ([], gives Stream a b c y z failed octets h read, elim because [ inl x ↦ inl x | inr x ↦ inr (asked x) ])
-reading_stops stop.ReadFailed (Link link) a b c y z reads failed octets h (rest, read, (none, because)) asked = (
-  rest,
-  gives_rest link a b c y z failed octets rest h read,
-  (none, elim because [ inl x ↦ inl x | inr x ↦ inr (asked x) ]),
-)
+    ([], came_still Stream a b c octets h read, elim because [ inl x ↦ inl x | inr x ↦ inr (asked x) ])
+reading_stops stop.ReadFailed (Link link) a b c y z reads failed octets h (rest, read, (none, because)) asked =
+    (rest, rest_of_link link a b c octets rest h read, (none, elim because [ inl x ↦ inl x | inr x ↦ inr (asked x) ]))
 reading_stops stop.BadRecord (Link link) a b c y z reads failed octets h (rest, read, bad) asked =
-    (rest, gives_rest link a b c y z failed octets rest h read, bad)
+    (rest, rest_of_link link a b c octets rest h read, bad)
 reading_stops _ Stream a b c y z reads failed octets h stops asked = absurd stops
 reading_stops _ (Link link) a b c y z reads failed octets h stops asked = absurd stops.2
 
@@ -231,27 +208,29 @@ failed_at (Link link) a b y z failed asked = (short_none [] (omega arith), inr a
 -- ---- the frames so far
 
 pub record ComparedSoFar (c : AbstractComparison) (origin : Origin) (a b o o₁ : Option (List ℕ)) (held : List ℕ) (t : Sums) : Type 0 where
-  pub octets : List ℕ
-  pub came : CameSoFar origin a b octets
-  pub frames : List (List ℕ)
-  pub each : All IsFrame frames
-  pub split : octets ≡ concat frames ++ held
   pub lines : List ℕ
-  pub are : AreLines c no_frames frames lines t.tally
-  pub counted : AreCounted c frames t
+  pub reaches : Reaches c origin a b (record { lines = lines; tally = t.tally; left = held; rest = [] })
+  pub counted : AreCounted c reaches.frames t
   pub unfinished : IsUnfinished held
   pub sent : Appends o o₁ lines
+
+-- before the first octet
+abbrev at_first : (c : AbstractComparison) (origin : Origin) (a : Option (List ℕ)) (held : List ℕ) (t : Tally) → held ≡ [] → t ≡ no_frames
+    → Reaches c origin a a (record { lines = []; tally = t; left = held; rest = [] })
+at_first c origin a held t none first = record {
+  octets = [];
+  given = came_none origin a;
+  frames = [];
+  each = All_none IsFrame;
+  split = sym none;
+  compared = (refl, first);
+}
 
 pub none_compared : (c : AbstractComparison) (origin : Origin) (a o : Option (List ℕ)) (held : List ℕ) (t : Sums)
     → held ≡ [] → BeginsCounting c t → ComparedSoFar c origin a a o o held t
 none_compared c origin a o held t none first = record {
-  octets = [];
-  came = came_none origin a;
-  frames = [];
-  each = All_none IsFrame;
-  split = sym none;
   lines = [];
-  are = (refl, first.0);
+  reaches = at_first c origin a held t.tally none first.0;
   counted = frames_begun c t first;
   unfinished = subst IsUnfinished (sym none) empty_unfinished;
   sent = Appends_none o;
@@ -263,124 +242,102 @@ module _ (c : AbstractComparison) (origin : Origin) (a b o o₁ : Option (List �
   abbrev progress : List ℕ → Progress
   progress rest = record { lines = so_far.lines; tally = t.tally; left = held; rest = rest }
 
-  abbrev reaches : (b₁ : Option (List ℕ)) (y z : ℕ) (failed : Bool) (rest : List ℕ)
-      → Gives origin (input_of a b₁ y z failed) so_far.octets rest
-      → Reaches c origin (input_of a b₁ y z failed) (progress rest)
-  reaches b₁ y z failed rest given = record {
-    octets = so_far.octets;
+  abbrev reaches : (b₁ : Option (List ℕ)) (rest : List ℕ) → Gives origin a b₁ so_far.reaches.octets rest
+      → Reaches c origin a b₁ (progress rest)
+  reaches b₁ rest given = record {
+    octets = so_far.reaches.octets;
     given = given;
-    frames = so_far.frames;
-    each = so_far.each;
-    split = so_far.split;
-    compared = so_far.are;
+    frames = so_far.reaches.frames;
+    each = so_far.reaches.each;
+    split = so_far.reaches.split;
+    compared = so_far.reaches.compared;
   }
 
   -- with one more piece, of which the frames are these
-  compared_more : (b₁ : Option (List ℕ)) (y z : ℕ) (failed : Bool) (piece left lines : List ℕ) (new : Sums)
+  abbrev compared_more : (b₁ : Option (List ℕ)) (piece left lines : List ℕ) (new : Sums)
       → AddsPiece origin b b₁ piece → AreCompared c (held ++ piece) t left lines new
-      → Reaches c origin (input_of a b₁ y z failed) (record { lines = so_far.lines ++ lines; tally = new.tally; left = left; rest = [] })
-  compared_more b₁ y z failed piece left lines new adds h = record {
-    octets = so_far.octets ++ piece;
-    given = gives origin a b₁ b₁ y z failed (so_far.octets ++ piece)
-        (came_more origin a b b₁ so_far.octets piece so_far.came adds) (Consumes_none b₁);
-    frames = so_far.frames ++ h.frames;
-    each = All-append IsFrame so_far.frames h.frames so_far.each h.each;
-    split = joined_frames so_far.frames h.frames (so_far.octets ++ piece) (held ++ piece) left
-        (ap (λ s. s ++ piece) so_far.split ∙ append_assoc (concat so_far.frames) held piece) h.split;
-    compared = lines_then c no_frames t.tally new.tally so_far.frames h.frames so_far.lines lines so_far.are h.are;
-  }
+      → Reaches c origin a b₁ (record { lines = so_far.lines ++ lines; tally = new.tally; left = left; rest = [] })
+  compared_more b₁ piece left lines new adds h =
+      let r = so_far.reaches in
+      record {
+        octets = r.octets ++ piece;
+        given = came_more origin a b b₁ r.octets piece r.given adds;
+        frames = r.frames ++ h.frames;
+        each = All-append IsFrame r.frames h.frames r.each h.each;
+        split = joined_frames r.frames h.frames (r.octets ++ piece) (held ++ piece) left
+            (ap (λ s. s ++ piece) r.split ∙ append_assoc (concat r.frames) held piece) h.split;
+        compared = lines_then c no_frames t.tally new.tally r.frames h.frames so_far.lines lines r.compared h.are;
+      }
 
   pub one_taken : (b₁ o₂ : Option (List ℕ)) (f : Bool) (piece left : List ℕ) (new : Sums) → AddsPiece origin b b₁ piece
       → HasTaken c (held ++ piece) t left new (device o₁ o₂ f) → ComparedSoFar c origin a b₁ o o₂ left new
-  one_taken b₁ o₂ f piece left new adds (lines, h, unfinished, took) =
-      record {
-        octets = so_far.octets ++ piece;
-        came = came_more origin a b b₁ so_far.octets piece so_far.came adds;
-        frames = so_far.frames ++ h.frames;
-        each = All-append IsFrame so_far.frames h.frames so_far.each h.each;
-        split = joined_frames so_far.frames h.frames (so_far.octets ++ piece) (held ++ piece) left
-            (ap (λ s. s ++ piece) so_far.split ∙ append_assoc (concat so_far.frames) held piece) h.split;
-        lines = so_far.lines ++ lines;
-        are = lines_then c no_frames t.tally new.tally so_far.frames h.frames so_far.lines lines so_far.are h.are;
-        counted = frames_counted c so_far.frames h.frames t new so_far.counted h.counted;
-        unfinished = unfinished;
-        sent = Appends_trans o o₁ o₂ so_far.lines lines so_far.sent took;
-      }
+  one_taken b₁ o₂ f piece left new adds (lines, h, unfinished, took) = record {
+    lines = so_far.lines ++ lines;
+    reaches = compared_more b₁ piece left lines new adds h;
+    counted = frames_counted c so_far.reaches.frames h.frames t new so_far.counted h.counted;
+    unfinished = unfinished;
+    sent = Appends_trans o o₁ o₂ so_far.lines lines so_far.sent took;
+  }
+
+  still_stopped : (u : Uncompared) (o₂ : Option (List ℕ)) (f : Bool) (input : Input) (left lines : List ℕ) (n : Tally)
+      → IsBroken u left lines (device o₁ o₂ f)
+      → IsStopped u origin input (record { lines = so_far.lines ++ lines; tally = n; left = left; rest = [] }) (device o o₂ f)
+  still_stopped (Run run.FrameTooLong) o₂ f input left lines n (long, took) =
+      (refl, long, Appends_trans o o₁ o₂ so_far.lines lines so_far.sent took)
+  still_stopped (Run run.WriteFailed) o₂ f input left lines n (part, inside, sent, broken) = (
+    refl,
+    (
+      so_far.lines ++ part,
+      Prefix_second part so_far.lines lines inside,
+      Appends_trans o o₁ o₂ so_far.lines part so_far.sent sent,
+      broken,
+    ),
+  )
+  still_stopped (Run run.OutOfMemory) o₂ f input left lines n took = Appends_trans o o₁ o₂ so_far.lines lines so_far.sent took
+  still_stopped _ o₂ f input left lines n why = absurd why
 
   -- the next piece isn't taken whole
   pub stopped_taking : (u : Uncompared) (b₁ o₂ : Option (List ℕ)) (y z : ℕ) (failed f : Bool) (piece : List ℕ)
       → AddsPiece origin b b₁ piece → StopsTaking c (held ++ piece) t u (device o₁ o₂ f)
-      → (g : Progress) × Reaches c origin (input_of a b₁ y z failed) g
-      × IsStopped u origin (input_of a b₁ y z failed) g (device o o₂ f)
-  stopped_taking (Run run.FrameTooLong) b₁ o₂ y z failed f piece adds (left, lines, new, h, (long, took)) = (
-    record { lines = so_far.lines ++ lines; tally = new.tally; left = left; rest = [] },
-    compared_more b₁ y z failed piece left lines new adds h,
-    (refl, long, Appends_trans o o₁ o₂ so_far.lines lines so_far.sent took),
-  )
-  stopped_taking (Run run.WriteFailed) b₁ o₂ y z failed f piece adds (left, lines, new, h, (part, inside, sent, broken)) = (
-    record { lines = so_far.lines ++ lines; tally = new.tally; left = left; rest = [] },
-    compared_more b₁ y z failed piece left lines new adds h,
-    (
-      refl,
-      (
-        so_far.lines ++ part,
-        Prefix_second part so_far.lines lines inside,
-        Appends_trans o o₁ o₂ so_far.lines part so_far.sent sent,
-        broken,
-      ),
-    ),
-  )
-  stopped_taking (Run run.OutOfMemory) b₁ o₂ y z failed f piece adds (left, lines, new, h, took) = (
-    record { lines = so_far.lines ++ lines; tally = new.tally; left = left; rest = [] },
-    compared_more b₁ y z failed piece left lines new adds h,
-    Appends_trans o o₁ o₂ so_far.lines lines so_far.sent took,
-  )
-  stopped_taking _ b₁ o₂ y z failed f piece adds (left, lines, new, h, why) = absurd why
+      → (g : Progress) × Reaches c origin a b₁ g × IsStopped u origin (input_of a b₁ y z failed) g (device o o₂ f)
+  stopped_taking u b₁ o₂ y z failed f piece adds (left, lines, new, h, why) =
+      (_, compared_more b₁ piece left lines new adds h, still_stopped u o₂ f _ left lines new.tally why)
 
   -- no more come
-  pub all_compared : (b₁ : Option (List ℕ)) (y z : ℕ) (failed f : Bool) (x : Sums) → EndsBehind origin b b₁ → x ≡ t → held ≡ []
-      → (g : Progress) × (r : Reaches c origin (input_of a b₁ y z failed) g) × Ends origin (input_of a b₁ y z failed) g.rest
+  pub all_compared : (b₁ : Option (List ℕ)) (f : Bool) (x : Sums) → EndsBehind origin b b₁ → x ≡ t → held ≡ []
+      → (g : Progress) × (r : Reaches c origin a b₁ g) × Ends origin b₁ g.rest
       × (g.left ≡ []) × (g.tally ≡ x.tally) × AreCounted c r.frames x × TookAll g.lines (device o o₁ f)
-  all_compared b₁ y z failed f x behind is none =
-      let e = ends origin a b b₁ y z failed so_far.octets so_far.came behind in
-      rw is (progress e.0, reaches b₁ y z failed e.0 e.1, e.2, none, refl, so_far.counted, so_far.sent)
+  all_compared b₁ f x behind is none =
+      let e = ends origin a b b₁ so_far.reaches.octets so_far.reaches.given behind in
+      rw is (progress e.0, reaches b₁ e.0 e.1, e.2, none, refl, so_far.counted, so_far.sent)
 
   -- but something is left
   pub torn_at_end : (b₁ : Option (List ℕ)) (y z : ℕ) (failed f : Bool) (u : Uncompared) → EndsBehind origin b b₁ → u ≡ Run run.TornFrame
-      → 0 < length held → (g : Progress) × Reaches c origin (input_of a b₁ y z failed) g
-      × IsStopped u origin (input_of a b₁ y z failed) g (device o o₁ f)
+      → 0 < length held
+      → (g : Progress) × Reaches c origin a b₁ g × IsStopped u origin (input_of a b₁ y z failed) g (device o o₁ f)
   torn_at_end b₁ y z failed f u behind is some =
-      let e = ends origin a b b₁ y z failed so_far.octets so_far.came behind in
-      rw is (progress e.0, reaches b₁ y z failed e.0 e.1, (e.2, some, so_far.unfinished, so_far.sent))
+      let e = ends origin a b b₁ so_far.reaches.octets so_far.reaches.given behind in
+      rw is (progress e.0, reaches b₁ e.0 e.1, (e.2, some, so_far.unfinished, so_far.sent))
 
   -- no more can be read
   pub stopped_reading : (s : Stop) (b₁ : Option (List ℕ)) (y z reads : ℕ) (failed f : Bool)
       → StopsReading origin s b b₁ failed reads → (reads ≡ 0 → WentUpBy y (2 ^ 40) z)
-      → (g : Progress) × Reaches c origin (input_of a b₁ y z failed) g
-      × IsStopped (of_stop s) origin (input_of a b₁ y z failed) g (device o o₁ f)
+      → (g : Progress) × Reaches c origin a b₁ g × IsStopped (of_stop s) origin (input_of a b₁ y z failed) g (device o o₁ f)
   stopped_reading s b₁ y z reads failed f stops asked =
-      let e = reading_stops s origin a b b₁ y z reads failed so_far.octets so_far.came stops asked in (
-        progress e.0,
-        reaches b₁ y z failed e.0 e.1,
-        is_stopped s origin (input_of a b₁ y z failed) (progress e.0) (device o o₁ f) e.2
-            so_far.unfinished so_far.sent,
-      )
+      let e = reading_stops s origin a b b₁ y z reads failed so_far.reaches.octets so_far.reaches.given stops asked in
+      (progress e.0, reaches b₁ e.0 e.1, is_stopped s origin _ (progress e.0) (device o o₁ f) e.2 so_far.unfinished so_far.sent)
 
   -- it was asked too often
   pub lost_at_last : (y z : ℕ) (failed f : Bool) → WentUpBy y (2 ^ 40) z
-      → (g : Progress) × Reaches c origin (input_of a b y z failed) g
-      × IsStopped (Run run.ReadFailed) origin (input_of a b y z failed) g (device o o₁ f)
-  lost_at_last y z failed f asked = (
-    progress [],
-    reaches b y z failed [] (gives origin a b b y z failed so_far.octets so_far.came (Consumes_none b)),
-    (failed_at origin a b y z failed asked, so_far.unfinished, so_far.sent),
-  )
+      → (g : Progress) × Reaches c origin a b g × IsStopped (Run run.ReadFailed) origin (input_of a b y z failed) g (device o o₁ f)
+  lost_at_last y z failed f asked =
+      (progress [], so_far.reaches, (failed_at origin a b y z failed asked, so_far.unfinished, so_far.sent))
 
 -- ---- the last lines
 
 pub total_written : (c : AbstractComparison) (origin : Origin) (input : Input) (t : Sums) (o o₁ o₂ : Option (List ℕ)) (f₁ f : Bool)
     (err : Device) (status : ℕ)
-    → ((g : Progress) × (r : Reaches c origin input g) × Ends origin input g.rest × (g.left ≡ []) × (g.tally ≡ t.tally)
+    → ((g : Progress) × (r : Reaches c origin input.before input.after g) × Ends origin input.after g.rest × (g.left ≡ []) × (g.tally ≡ t.tally)
     × AreCounted c r.frames t × TookAll g.lines (device o o₁ f₁))
     → Writes (total_text c t) (compared_status t.tally) (device o₁ o₂ f) err status ⊎ ((o₂ ≡ o₁) × TellsNoMemory err status)
     → ComparesFrames c origin input (device o o₂ f) err status
@@ -413,23 +370,11 @@ total_written c origin input t o o₁ o₂ f₁ f err status (g, r, e, none, sam
     inr (Run run.OutOfMemory, g, r, subst (λ (x : Option (List ℕ)). Appends o x g.lines) (sym kept) took, told)
 
 -- there is no memory to begin with
-pub nothing_begun : (c : AbstractComparison) (origin : Origin) (a o : Option (List ℕ)) (y : ℕ) (failed f : Bool)
-    → (g : Progress) × Reaches c origin (input_of a a y y failed) g
-    × IsStopped (Run run.OutOfMemory) origin (input_of a a y y failed) g (device o o f)
-nothing_begun c origin a o y failed f = (
-  record { lines = []; tally = no_frames; left = []; rest = [] },
-  record {
-    octets = [];
-    given = gives origin a a a y y failed [] (came_none origin a) (Consumes_none a);
-    frames = [];
-    each = All_none IsFrame;
-    split = refl;
-    compared = (refl, refl);
-  },
-  Appends_none o,
-)
+pub nothing_begun : (c : AbstractComparison) (origin : Origin) (a o : Option (List ℕ)) (f : Bool)
+    → (g : Progress) × Reaches c origin a a g × TookAll g.lines (device o o f)
+nothing_begun c origin a o f = (_, at_first c origin a [] no_frames refl refl, Appends_none o)
 
 pub none_begun : (c : AbstractComparison) (origin : Origin) (a o : Option (List ℕ)) (y : ℕ) (failed f : Bool) (err : Device) (status : ℕ)
     → TellsNoMemory err status → ComparesFrames c origin (input_of a a y y failed) (device o o f) err status
 none_begun c origin a o y failed f err status told =
-    let h = nothing_begun c origin a o y failed f in inr (Run run.OutOfMemory, h.0, h.1, h.2, told)
+    let h = nothing_begun c origin a o f in inr (Run run.OutOfMemory, h.0, h.1, h.2, told)

@@ -29,22 +29,22 @@ use Rattle.guard_authors.specs.Summary.{IsSummary}
 -- ---- what came in
 
 -- Records and a rest came in, and these are the link's octets in the records.
-pub record GivesOfLink (link : ℕ) (input : Input) (octets rest : List ℕ) : Type 0 where
+pub record GivesOfLink (link : ℕ) (before after : Option (List ℕ)) (octets rest : List ℕ) : Type 0 where
   pub records : List Record
   pub allowed : All IsAllowed records
   pub open_still : All (LeavesOpen link) records
-  pub given : Consumes input.before input.after (concat (map record_octets records) ++ rest)
+  pub given : Consumes before after (concat (map record_octets records) ++ rest)
   pub are : octets ≡ link_octets link records
 
 -- The octets whose frames are compared, all that came in or those of a link; and what came in behind the records.
-abbrev pub Gives : Origin → Input → List ℕ → List ℕ → Type 0
-Gives Stream input octets rest = Consumes input.before input.after octets × (rest ≡ [])
-Gives (Link link) input octets rest = GivesOfLink link input octets rest
+abbrev pub Gives : Origin → Option (List ℕ) → Option (List ℕ) → List ℕ → List ℕ → Type 0
+Gives Stream before after octets rest = Consumes before after octets × (rest ≡ [])
+Gives (Link link) before after octets rest = GivesOfLink link before after octets rest
 
 -- no more come: the source ended, or the link did
-abbrev pub Ends : Origin → Input → List ℕ → Type 0
-Ends Stream input rest = IsAtEnd input.after
-Ends (Link link) input rest = (rest ≡ record_octets (end link)) ⊎ ((rest ≡ []) × IsAtEnd input.after)
+abbrev pub Ends : Origin → Option (List ℕ) → List ℕ → Type 0
+Ends Stream after rest = IsAtEnd after
+Ends (Link link) after rest = (rest ≡ record_octets (end link)) ⊎ ((rest ≡ []) × IsAtEnd after)
 
 -- what comes is no record, or is cut short
 abbrev pub IsBad : Origin → Input → List ℕ → Type 0
@@ -67,9 +67,9 @@ pub record Progress : Type 0 where
   pub left : List ℕ
   pub rest : List ℕ
 
-pub record Reaches (c : AbstractComparison) (origin : Origin) (input : Input) (g : Progress) : Type 0 where
+pub record Reaches (c : AbstractComparison) (origin : Origin) (before after : Option (List ℕ)) (g : Progress) : Type 0 where
   pub octets : List ℕ
-  pub given : Gives origin input octets g.rest
+  pub given : Gives origin before after octets g.rest
   pub frames : List (List ℕ)
   pub each : All IsFrame frames
   pub split : octets ≡ concat frames ++ g.left
@@ -80,7 +80,7 @@ pub record Reaches (c : AbstractComparison) (origin : Origin) (input : Input) (g
 -- All octets are frames. A line for each that differs goes to standard output, or their summary; and how many.
 abbrev pub ComparesAll : AbstractComparison → Origin → Input → Device → Device → ℕ → Type 0
 ComparesAll c origin input out err status =
-    (g : Progress) × (r : Reaches c origin input g) × Ends origin input g.rest × (g.left ≡ [])
+    (g : Progress) × (r : Reaches c origin input.before input.after g) × Ends origin input.after g.rest × (g.left ≡ [])
     × ((table : List ℕ) × IsSummary c.summary c r.frames table
     × Writes (g.lines ++ (table ++ total_line g.tally)) (compared_status g.tally) out err status)
 
@@ -88,7 +88,7 @@ ComparesAll c origin input out err status =
 -- inside them; where memory ran out, it has those of the first frames, and maybe not of all.
 abbrev pub IsStopped : Uncompared → Origin → Input → Progress → Device → Type 0
 IsStopped (Run TornFrame) origin input g out =
-    Ends origin input g.rest × (0 < length g.left) × IsUnfinished g.left × TookAll g.lines out
+    Ends origin input.after g.rest × (0 < length g.left) × IsUnfinished g.left × TookAll g.lines out
 IsStopped (Run FrameTooLong) origin input g out = (g.rest ≡ []) × IsTooLong g.left × TookAll g.lines out
 IsStopped BadRecord origin input g out = IsBad origin input g.rest × IsUnfinished g.left × TookAll g.lines out
 IsStopped (Run ReadFailed) origin input g out = IsFailed origin input g.rest × IsUnfinished g.left × TookAll g.lines out
@@ -106,8 +106,8 @@ TellsStopped (Run OutOfMemory) = TellsNoMemory
 abbrev pub ComparesFrames : AbstractComparison → Origin → Input → Device → Device → ℕ → Type 0
 ComparesFrames c origin input out err status =
     ComparesAll c origin input out err status
-    ⊎ ((u : Uncompared) × (g : Progress) × Reaches c origin input g × IsStopped u origin input g out
-    × TellsStopped u err status)
+    ⊎ ((u : Uncompared) × (g : Progress) × Reaches c origin input.before input.after g
+    × IsStopped u origin input g out × TellsStopped u err status)
 
 -- ---- what is asked
 

@@ -1,5 +1,5 @@
 //! The frames that come in under two policies, an old one and a new one.
-ghost use Rattle.std.specs.Prelude.{◌≡◌, ◌⊎◌, ◌<◌, ◌≤◌, ◌-◌, ◌++◌, ℕ, [], None, true, false};
+ghost use Rattle.std.specs.Prelude.{◌≡◌, ◌⊎◌, ◌<◌, ◌≤◌, ◌-◌, ◌++◌, ℕ, [], None};
 ghost use Rattle.std.specs.Prelude.{drop, length, option_map, take, IfOk, IfErr, IfSome, OnOk};
 ghost use Rattle.guard_frames.specs.Cutting.{IsRest};
 ghost use Rattle.guard_frames.specs.Totals.{WentUpBy};
@@ -10,7 +10,6 @@ ghost use Rattle.guard_files.specs.Writing.{TellsNoMemory, TookAll, Writes};
 ghost use Rattle.guard_authors.specs.Comparing.{comparing_view, Compares, ComparesFrames, ComparesUnder, ComparesWith};
 ghost use Rattle.guard_authors.specs.Comparing.{Ends, IsLink, IsMeant, IsStopped, Progress, Reaches, TellsStopped};
 ghost use Rattle.guard_authors.specs.Differing.{comparison_view, compared_status};
-ghost use Rattle.guard_authors.specs.declared.comparing.Origin.TheVariants.{Stream};
 ghost use Rattle.guard_authors.specs.declared.comparing.Uncompared.TheVariants.{Run};
 ghost use Rattle.guard_authors.specs.inside.Counting.{total_text, AreCounted};
 ghost use Rattle.guard_authors.specs.inside.Pieces.{of_stop, AddsPiece, EndsBehind, HasPassed, HasTaken, StopsReading};
@@ -268,13 +267,13 @@ fn compare_all<S: Source, O: Sink>(
     out: &mut O,
 ) -> Result<Sums, Uncompared>
     requires { length room.old ≡ 1048576 }
-    ensures all { IfOk result (λ sums. (g : Progress) × (r : Reaches (comparison_view comparison.now) origin
-        (source_of S.tells S.takes S.has_failed input.old input.new) g)
-        × Ends origin (source_of S.tells S.takes S.has_failed input.old input.new) g.rest
-        × (g.left ≡ []) × (g.tally ≡ sums.tally) × AreCounted (comparison_view comparison.now) r.frames sums
+    ensures all { IfOk result (λ sums. (g : Progress)
+        × (r : Reaches (comparison_view comparison.now) origin (S.tells input.old) (S.tells input.new) g)
+        × Ends origin (S.tells input.new) g.rest × (g.left ≡ []) × (g.tally ≡ sums.tally)
+        × AreCounted (comparison_view comparison.now) r.frames sums
         × TookAll g.lines (device_of O.taken O.has_failed out.old out.new)) }
-    ensures stopped { IfErr result (λ reason. (g : Progress) × Reaches (comparison_view comparison.now) origin
-        (source_of S.tells S.takes S.has_failed input.old input.new) g
+    ensures stopped { IfErr result (λ reason. (g : Progress)
+        × Reaches (comparison_view comparison.now) origin (S.tells input.old) (S.tells input.new) g
         × IsStopped reason origin (source_of S.tells S.takes S.has_failed input.old input.new) g
         (device_of O.taken O.has_failed out.old out.new)) }
 {
@@ -369,35 +368,18 @@ fn next_piece<S: Source>(
     ensures fewer { reads.new ≤ reads.old }
 {
     let Origin::Link(link) = origin else {
-        return next_octets(input, room, reads);
+        if *reads == 0 {
+            return Err(Stop::ReadFailed);
+        }
+        *reads -= 1;
+        return match input.take(room) {
+            Ok(0) => Ok(None),
+            Ok(size) => Ok(Some(size)),
+            Err(_) => Err(Stop::ReadFailed),
+        };
     };
     let Some(header) = next_record(input, room, reads)? else {
         return Ok(None);
     };
     Ok(size_of_link(header, link))
-}
-
-fn next_octets<S: Source>(
-    input: &mut S,
-    room: &mut [u8],
-    reads: &mut u64,
-) -> Result<Option<usize>, Stop>
-    requires { length room.old ≡ 1048576 }
-    ensures piece { IfOk result (λ found. IfSome found (λ n. (n ≤ 1048576) × (reads.new < reads.old)
-        × AddsPiece Stream (S.tells input.old) (S.tells input.new) (take n room.new))) }
-    ensures end { IfOk result (λ found. found ≡ None → EndsBehind Stream (S.tells input.old) (S.tells input.new)) }
-    ensures none { IfErr result (λ s. StopsReading Stream s (S.tells input.old) (S.tells input.new)
-        (S.has_failed input.new) reads.new) }
-    ensures counted { WentUpBy (S.takes input.old) (reads.old - reads.new) (S.takes input.new) }
-    ensures fewer { reads.new ≤ reads.old }
-{
-    if *reads == 0 {
-        return Err(Stop::ReadFailed);
-    }
-    *reads -= 1;
-    match input.take(room) {
-        Ok(0) => Ok(None),
-        Ok(size) => Ok(Some(size)),
-        Err(_) => Err(Stop::ReadFailed),
-    }
 }

@@ -1,8 +1,7 @@
-use Rattle.std.proofs.Common.{◌<◌, ◌≤◌, ◌^◌, ◌∙◌, ℕ, arith, sym, take}
+use Rattle.std.proofs.Common.{◌≤◌, ◌^◌, ◌∙◌, arith, sym}
 use Rattle.std.proofs.lemmas.Result.{IfErr-weaker, IfOk-weaker, err_from_is_err_and}
 use Rattle.guard_frames.specs.Totals.{WentUpBy}
-use Rattle.guard_files.proofs.RecordLaws.{found_size, asked_more, asked_all}
-use Rattle.guard_authors.specs.inside.Pieces.{AddsPiece}
+use Rattle.guard_files.proofs.RecordLaws.{asked_more, asked_all}
 use Rattle.guard_authors.proofs.FramesCompared.{none_compared, nothing_begun, one_taken, stopped_taking, all_compared, torn_at_end, stopped_reading, lost_at_last}
 use Rattle.guard_authors.proofs.comparing.compare_all.Goals as goal
 
@@ -16,7 +15,7 @@ loop-init g c = record {
 pub returns-in_err-sums-clause-stopped : goal.returns-in_err-sums-clause-stopped
 returns-in_err-sums-clause-stopped g c =
     let e = err_from_is_err_and c.from_residual.result c.from_residual.ensures.1 in
-    rw (e.1, e.2) (nothing_begun _ _ _ _ _ _ (g.O.Sink.has_failed c.args.out.now))
+    rw (e.1, e.2) (nothing_begun _ _ _ _ (g.O.Sink.has_failed c.args.out.now))
 
 pub returns-in_err-size-clause-stopped : goal.returns-in_err-size-clause-stopped
 returns-in_err-size-clause-stopped g c =
@@ -30,7 +29,7 @@ returns-in_err-size-clause-stopped g c =
 pub returns-in_default-clause-all : goal.returns-in_default-clause-all
 returns-in_default-clause-all g c =
     IfOk-weaker c.ended.result _ _
-    (λ x h. all_compared _ _ _ _ _ _ _ _ c.loop.invariant.so_far _ _ _ _ (g.O.Sink.has_failed c.loop.out) x
+    (λ x h. all_compared _ _ _ _ _ _ _ _ c.loop.invariant.so_far _ (g.O.Sink.has_failed c.loop.out) x
     (c.in_ok-size.ensures.end c.in_default.is) h.0 (sym c.deref.ensures.value ∙ h.1)) c.ended.ensures.whole
 
 pub returns-in_default-clause-stopped : goal.returns-in_default-clause-stopped
@@ -42,22 +41,14 @@ returns-in_default-clause-stopped g c =
 pub returns-in_err-take_piece-clause-stopped : goal.returns-in_err-take_piece-clause-stopped
 returns-in_err-take_piece-clause-stopped g c =
     let e = err_from_is_err_and c.from_residual-in_err-take_piece.result c.from_residual-in_err-take_piece.ensures.1 in
-    let before = g.S.Source.tells c.loop.input in
-    let after = g.S.Source.tells c.next_piece.new.input in
-    let room = c.next_piece.new.room in
-    let p = found_size (λ (n : ℕ). (n ≤ 1048576) × (c.next_piece.new.reads < c.loop.reads) × AddsPiece c.args.origin before after (take n room))
-    c.in_ok-size.field-0 c.in-Some.size c.in-Some.is c.in_ok-size.ensures.piece in
+    let p = rw c.in-Some.is at c.in_ok-size.ensures.piece in
     rw (e.1, e.2) (stopped_taking _ _ _ _ _ _ _ _ c.loop.invariant.so_far c.in_err-take_piece.field-0.0 _ _ _ _ _ _ _ p.2
     c.in_err-take_piece.ensures.stopped)
 
 pub loop-preserved : goal.loop-preserved
 loop-preserved g c =
     let i = c.loop.invariant in
-    let before = g.S.Source.tells c.loop.input in
-    let after = g.S.Source.tells c.next_piece.new.input in
-    let room = c.next_piece.new.room in
-    let p = found_size (λ (n : ℕ). (n ≤ 1048576) × (c.next_piece.new.reads < c.loop.reads) × AddsPiece c.args.origin before after (take n room))
-    c.in_ok-size.field-0 c.in-Some.size c.in-Some.is c.in_ok-size.ensures.piece in
+    let p = rw c.in-Some.is at c.in_ok-size.ensures.piece in
     record {
       so_far = one_taken _ _ _ _ _ _ _ _ i.so_far _ _ (g.O.Sink.has_failed c.take_piece.new.out) _ _ _ p.2
           c.in_ok-take_piece.ensures.taken;

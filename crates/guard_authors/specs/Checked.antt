@@ -27,7 +27,8 @@ checking_view c = record { policy = c.policy.now; explain = c.explain; strict = 
 
 abbrev pub counts_text : AbstractPolicy → List ℕ
 counts_text p =
-    codes "ok: messages " ++ decimal (length p.messages) ++ codes ", rules " ++ decimal (length p.rules) ++ codes "\n"
+    codes "ok: messages "
+    ++ (decimal (length p.messages) ++ (codes ", rules " ++ (decimal (length p.rules) ++ codes "\n")))
 
 -- the number of its texts, in hexadecimal digits; or to explain it each message with its rules
 abbrev pub below_counts : AbstractChecking → AbstractPolicy → List ℕ → List ℕ

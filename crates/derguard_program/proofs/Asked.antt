@@ -1,105 +1,22 @@
 -- Words in which nothing is wrong ask for a request.
 use Rattle.std.proofs.Common.{◌≡◌, ◌∙◌, ◌&&◌, ◌||◌, ℕ, Bool, cond, true, false, not, refl, sym, List, [], ◌∷◌, codes, Option, Some, None, arith, true≢false}
 use Rattle.std.specs.Prelude.{IfSome, is_some, nat_eq, option_and_then, option_map, slice_get, unwrap_or}
-use Rattle.std.specs.List.{find, fold, list_all, list_any}
+use Rattle.std.specs.List.{find, list_all, list_any}
 use Rattle.std.specs.Option.{option_map_or}
 use Rattle.std.specs.Str.{bytes_eq}
 use Rattle.std.proofs.lemmas.Slice.Eq.{bytes_eq-Decides}
-use Rattle.clap.specs.Walk.{Held, Names, Outcome, Row, Rule, Step, Text, Waiting, Walk, action_of, after_flag, after_step, answers_to, arg_by_index, arg_by_long, bundle, done, first_of, idle, long_met, long_or_other, next, nothing_held, option, plain, plain_word, positional, refused, rows_after, short_or_plain, subcommand, subcommand_met, subcommand_or_other, to_positional, trailing, value, waits, walk, walk_from, walked, walked_from, word_met}
-use Rattle.clap.specs.Lexer.{long_of, short_of}
+use Rattle.clap.specs.Walk.{Names, Row, Rule, Text, action_of, answers_to, first_of, nothing_held, rows_after, walk, walk_from}
 use Rattle.clap.specs.Facts.{explicit_source, unwrap_or_range}
 use Rattle.clap.specs.Takes.{is_given}
-use Rattle.clap.specs.Faults.{check_fault, defaults_fault, entered_fault, fault_of, level_fault, other_fault, settle_fault, step_fault, turn_fault, walk_fault, word_fault}
+use Rattle.clap.specs.Faults.{check_fault, defaults_fault, entered_fault, fault_of, level_fault, settle_fault, walk_fault}
 use Rattle.clap.specs.Kinds.{Kinds, check_kinds, or_else}
 use Rattle.clap.specs.Simple.{App, Shape, argument_words, built, built_leaf, entered, help_shape, inherited, label_of, marked_built, names_of, rows_at, with_leaf_noted}
 use Rattle.clap.specs.declared.builder.action.ArgAction.{ArgAction}
-use Rattle.clap.specs.declared.builder.action.ArgAction.TheVariants.{Help, Set, SetTrue}
+use Rattle.clap.specs.declared.builder.action.ArgAction.TheVariants.{Help, Set, SetTrue, Version}
 use Rattle.clap.specs.declared.error.kind.ErrorKind.TheVariants as kind
 use Rattle.derguard_program.specs.Requests.{AbstractRequest, check, decide, show, encode, test, compare, run, ask, mux}
 use Rattle.derguard_program.specs.Words.{AreFound, IsCommand, ask_shape, check_shape, checking_at, compare_shape, comparing_at, decide_shape, decision_at, encode_shape, encoding_at, flag_of, mux_shape, run_shape, show_shape, showing_at, test_shape, the_app, trial_at, value_of}
-use Rattle.derguard_program.proofs.Filled.{AllFill, Filled, Fills, IsFilled, both_none, finished_filled, flag_fills, help_fills, set_fills, some_kind, walk_filled}
-
--- ---- a walk in which nothing is wrong stops at no word help
-
-abbrev pub NotHelp : Option (Text × List Text) → Type 0
-NotHelp stopped = IfSome stopped (λ p. bytes_eq p.0 (codes "help") ≡ false)
-
-abbrev PassesHelp : Step → Type 0
-PassesHelp (next waiting) = Unit {0}
-PassesHelp (trailing position) = Unit {0}
-PassesHelp (subcommand name) = bytes_eq name (codes "help") ≡ false
-PassesHelp value = Unit {0}
-
-module _ (c : List Rule) where
-  plain_passes : (waiting : Waiting) (word : Text) (h : Held) → PassesHelp (plain_word c waiting word h).1
-  plain_passes idle word h = tt
-  plain_passes (option id) word h = tt
-  plain_passes positional word h = tt
-
-  flag_passes : (waiting : Waiting) (word : Text) (h : Held) (outcome : Outcome) → PassesHelp (after_flag c waiting word h outcome).1
-  flag_passes waiting word h done = tt
-  flag_passes waiting word h (waits id) = tt
-  flag_passes waiting word h plain = plain_passes waiting word h
-  flag_passes waiting word h refused = plain_passes waiting word h
-
-  short_passes : (waiting : Waiting) (word : Text) (flags : Option Text) (h : Held) → PassesHelp (short_or_plain c waiting word flags h).1
-  short_passes waiting word None h = plain_passes waiting word h
-  short_passes waiting word (Some flags) h = flag_passes waiting word (bundle c flags h).0 (bundle c flags h).1
-
-  long_passes : (waiting : Waiting) (word : Text) (long : Option (Text × Option Text)) (h : Held) → PassesHelp (long_or_other c waiting word long h).1
-  long_passes waiting word None h = short_passes waiting word (short_of word) h
-  long_passes waiting word (Some p) h =
-      let met = long_met c (arg_by_long c p.0) p.1 h in
-      flag_passes waiting word met.0 met.1
-
-module _ (s : Shape) (names : Names) (offered : s.disable_help_subcommand ≡ false) where
-  met_passes : (name : Option Text) (waiting : Waiting) (position : ℕ) (word : Text) (h : Held) → other_fault s name word h ≡ []
-      → PassesHelp (subcommand_or_other s.rules name waiting position word h).1
-  met_passes (Some name) waiting position word h e = go (bytes_eq name (codes "help")) s.disable_help_subcommand offered e
-    where
-      go : (b d : Bool) → d ≡ false → ◌≡◌ {A = Kinds} (cond (b && not d) (kind.DisplayHelp ∷ kind.InvalidSubcommand ∷ []) []) [] → b ≡ false
-      go true true is e = is
-      go true false is e = absurd (some_kind _ _ e)
-      go false d is e = refl
-  met_passes None waiting position word h e = go (bytes_eq word (45 ∷ 45 ∷ []))
-    where
-      go : (b : Bool) → PassesHelp (cond b (h, trailing position) (long_or_other s.rules waiting word (long_of word) h)).1
-      go true = tt
-      go false = long_passes s.rules waiting word (long_of word) h
-
-  word_passes : (is_trailing : Bool) (waiting : Waiting) (position : ℕ) (word : Text) (h : Held) → word_fault s names is_trailing waiting word h ≡ []
-      → PassesHelp (word_met s.rules names is_trailing waiting position word h).1
-  word_passes true waiting position word h e = tt
-  word_passes false waiting position word h e = met_passes (subcommand_met names waiting word) waiting position word h e
-
-  positional_passes : (found : Option Rule) (word : Text) (w : Walk) (h : Held) → NotHelp w.stopped → NotHelp (to_positional s.rules found word w h).stopped
-  positional_passes None word w h is = is
-  positional_passes (Some a) word w h is = tt
-
-  after_passes : (word : Text) (w : Walk) (h : Held) (step : Step) → PassesHelp step → NotHelp w.stopped → NotHelp (after_step s.rules word w h step).stopped
-  after_passes word w h (next waiting) passes is = is
-  after_passes word w h (trailing position) passes is = is
-  after_passes word w h (subcommand name) passes is = passes
-  after_passes word w h value passes is = positional_passes (arg_by_index s.rules w.position) word w h is
-
-  turn_passes : (w : Walk) (word : Text) → turn_fault s names w word ≡ [] → NotHelp w.stopped → NotHelp (walked s.rules names w word).stopped
-  unfolding walked
-  turn_passes w word e is = go w.stopped e is
-    where
-      go : (stopped : Option (Text × List Text))
-          → cond (is_some stopped) [] (or_else (word_fault s names w.is_trailing w.waiting word w.held) (step_fault s w.position (word_met s.rules names w.is_trailing w.waiting w.position word w.held).0 (word_met s.rules names w.is_trailing w.waiting w.position word w.held).1)) ≡ []
-          → NotHelp stopped → NotHelp (walked_from s.rules names stopped w word).stopped
-      go (Some p) e now = now
-      go None e now =
-          let met = word_met s.rules names w.is_trailing w.waiting w.position word w.held in
-          after_passes word w met.0 met.1 (word_passes w.is_trailing w.waiting w.position word w.held (both_none _ _ e).0) is
-
-  pub walk_passes_help : (words : List Text) (w : Walk) → walk_fault s names w words ≡ [] → NotHelp w.stopped → NotHelp (fold (walked s.rules names) w words).stopped
-  unfolding walk_fault
-  walk_passes_help [] w e is = is
-  walk_passes_help (word ∷ words) w e is =
-      let parts = both_none _ _ e in
-      walk_passes_help words (walked s.rules names w word) parts.1 (turn_passes w word parts.0 is)
+use Rattle.derguard_program.proofs.Filled.{AllFill, Filled, Fills, IsFilled, NotHelp, both_none, finished_filled, flag_fills, set_fills, some_kind, still_fills, walk_keeps}
 
 -- ---- what is required has a value
 
@@ -164,7 +81,7 @@ module _ (s : Shape) (names : Names) (words : List Text) (has : Bool) (below : K
   rows_filled : AllFill s.rules → Filled (rows_after s.rules names words)
   rows_filled fill =
       finished_filled s names fill (walk s.rules names nothing_held words).held (both_none _ _ after_walk).0
-      (walk_filled s names fill words (walk_from nothing_held) walk_none tt)
+      (walk_keeps s names fill words (walk_from nothing_held) walk_none (tt, tt)).0
 
 -- ---- the commands of the program, as they are built
 
@@ -179,13 +96,15 @@ abbrev leaves_value : ArgAction → List Text → ℕ → Bool
 leaves_value Set missing least = nat_eq least 1
 leaves_value SetTrue (v ∷ []) least = true
 leaves_value Help missing least = true
+leaves_value Version missing least = true
 leaves_value action missing least = false
 
 fills_by : (a : Rule) (action : ArgAction) (missing : List Text) (least : ℕ) → action_of a ≡ action → a.missing ≡ missing
     → (unwrap_or_range a.range).start_inclusive ≡ least → leaves_value action missing least ≡ true → Fills a
 fills_by a Set missing least acts none few e = set_fills a acts (few ∙ grind (arith, e))
 fills_by a SetTrue (v ∷ []) least acts none few e = flag_fills a acts v none
-fills_by a Help missing least acts none few e = help_fills a acts
+fills_by a Help missing least acts none few e = still_fills a Help acts (λ values rows. refl)
+fills_by a Version missing least acts none few e = still_fills a Version acts (λ values rows. refl)
 fills_by a action missing least acts none few e = absurd (true≢false (sym e))
 
 both_true : (a b : Bool) → (a && b) ≡ true → (a ≡ true) × (b ≡ true)
@@ -240,7 +159,7 @@ module _ (p : Text × List Text) where
   no_help true another e there = absurd (another refl)
   no_help false another e there = absurd (true≢false (sym there))
 
-entered_asks : (stop : Option (Text × List Text)) → NotHelp stop → entered_fault ready stop ≡ [] → is_some (entered ready stop) ≡ true
+entered_asks : (stop : Option (Text × List Text)) → NotHelp false stop → entered_fault ready stop ≡ [] → is_some (entered ready stop) ≡ true
     → (request : AbstractRequest) × (name : Text) × (rows : List Row) × (entered ready stop ≡ Some (name, rows)) × IsCommand name rows request
 unfolding Picks AllThere
 entered_asks None another e there = absurd (true≢false (sym there))
@@ -255,7 +174,7 @@ entered_asks (Some p) another e there =
     (or_next p (is run_shape) (ready_leaf run_shape) _ refl (λ rows h. (run (value_of (codes "policy") rows) (flag_of (codes "verbose") rows) (first_of (codes "counts") rows), (refl, h.0 refl, refl, refl)))
     (or_next p (is ask_shape) (ready_leaf ask_shape) _ refl (λ rows h. (ask (value_of (codes "policy") rows), (refl, h.0 refl)))
     (or_next p (is mux_shape) (ready_leaf mux_shape) _ refl (λ rows h. (mux (value_of (codes "policy") rows) (flag_of (codes "verbose") rows) (first_of (codes "counts") rows), (refl, h.0 refl, refl, refl)))
-    (no_help p (answers_to p.0 (label_of (built_leaf help_shape))) (not_help_met p.0 another)))))))))) e there
+    (no_help p (answers_to p.0 (label_of (built_leaf help_shape))) (not_help_met p.0 (another refl))))))))))) e there
 
 command_there : (b : Bool) (others : Kinds)
     → ◌≡◌ {A = Kinds} (cond (not b && false) (kind.DisplayHelpOnMissingArgumentOrSubcommand ∷ []) (cond (not b && true) (kind.MissingSubcommand ∷ []) others)) [] → b ≡ true
@@ -268,6 +187,6 @@ asked words e =
     let stop = (walk ready.top.rules (names_of ready) nothing_held given).stopped in
     let has = is_some (entered ready stop) in
     let below = entered_fault ready stop in
-    let past = walk_passes_help ready.top (names_of ready) refl given (walk_from nothing_held) (walk_none ready.top (names_of ready) given has below e) tt in
+    let past = (walk_keeps ready.top (names_of ready) (all_fill ready.top.rules refl) given (walk_from nothing_held) (walk_none ready.top (names_of ready) given has below e) (tt, tt)).1 in
     let found = entered_asks stop past (below_none ready.top (names_of ready) given has below e) (command_there has _ (check_none ready.top (names_of ready) given has below e)) in
     (found.0, flag_of (codes "json") found.2, (e, (found.1, found.2, found.3, found.4, refl)))

@@ -1,18 +1,18 @@
--- Where a command finds nothing wrong with its words, each row has a value.
-use Rattle.std.proofs.Common.{◌≡◌, ◌++◌, ◌&&◌, ℕ, Bool, cond, true, false, zero, suc, refl, sym, ap, subst, List, [], ◌∷◌, length, drop, Option, Some, None, true≢false}
+-- Where a command finds nothing wrong with its words, each row has a value, and they stop at no word `help`.
+use Rattle.std.proofs.Common.{◌≡◌, ◌++◌, ◌&&◌, ℕ, Bool, cond, true, false, not, zero, suc, refl, sym, ap, subst, List, [], ◌∷◌, codes, length, drop, Option, Some, None, true≢false}
 use Rattle.std.specs.Prelude.{IfSome, slice_get, is_some, encode_utf8}
 use Rattle.std.specs.List.{find, fold}
 use Rattle.std.specs.Option.{option_map_or}
 use Rattle.std.specs.Str.{bytes_eq, chars}
 use Rattle.clap.specs.Walk
-use Rattle.clap.specs.Walk.{Held, Names, Outcome, Row, Rule, Step, Text, Waiting, Walk, action_of, after_flag, after_step, arg_by_id, arg_by_index, arg_by_long, arg_by_short, at_row, attached_value, bundle, bundle_met, bundle_step, default_rows, done, finished, flag_met, has_row, idle, is_pending, long_met, long_or_other, more_values, most_values, next, option, option_met, plain, plain_word, positional, pushed, reacted, reading_by, refused, settled, settled_rows, short_met, short_or_plain, subcommand, subcommand_met, subcommand_or_other, takes_several, takes_values, to_positional, trailing, used, used_as, value, values_or_missing, waits, walk, walked, walked_from, with_default, with_values, without, word_met}
+use Rattle.clap.specs.Walk.{Held, Names, Outcome, Row, Rule, Step, Text, Waiting, Walk, action_of, after_flag, after_step, arg_by_id, arg_by_index, arg_by_long, arg_by_short, at_row, attached_value, bundle, bundle_met, bundle_step, default_rows, done, finished, flag_met, has_row, idle, is_pending, long_met, long_or_other, more_values, most_values, next, option, option_met, plain, plain_word, positional, pushed, reacted, reading_by, refused, settled, settled_rows, short_met, short_or_plain, subcommand, subcommand_met, subcommand_or_other, takes_several, takes_values, to_positional, trailing, used, used_as, value, values_or_missing, waits, walked, walked_from, with_default, with_values, without, word_met}
 use Rattle.clap.specs.Lexer.{long_of, short_of}
 use Rattle.clap.specs.Facts.{unwrap_or_range}
 use Rattle.clap.specs.Faults.{bundle_fault, bundle_step_fault, flag_word_fault, flags_fault, long_fault, option_fault, other_fault, positional_fault, react_fault, settle_fault, short_fault, step_fault, stray_fault, turn_fault, use_fault, walk_fault, word_fault}
 use Rattle.clap.specs.Kinds.{Kinds, or_else, range_kinds}
 use Rattle.clap.specs.Simple.{Shape}
 use Rattle.clap.specs.declared.builder.action.ArgAction.{ArgAction}
-use Rattle.clap.specs.declared.builder.action.ArgAction.TheVariants.{Set, SetTrue, Help}
+use Rattle.clap.specs.declared.builder.action.ArgAction.TheVariants.{Set, SetTrue}
 use Rattle.clap.specs.declared.builder.value_parser.Reading.{Reading}
 use Rattle.clap.specs.declared.error.kind.ErrorKind.{ErrorKind}
 use Rattle.clap.specs.declared.error.kind.ErrorKind.TheVariants as kind
@@ -79,6 +79,27 @@ filled_defaults : (c : List Rule) (rows : List Row) → Filled rows → Filled (
 filled_defaults [] rows h = h
 filled_defaults (a ∷ c) rows h = filled_defaults c (with_default rows a) (filled_default rows a h)
 
+-- ---- what a word and a walk leave
+
+-- where the subcommand `help` isn't disabled, this is another one
+abbrev IsNoHelp : Bool → Text → Type 0
+IsNoHelp disabled name = disabled ≡ false → bytes_eq name (codes "help") ≡ false
+
+abbrev PassesHelp : Bool → Step → Type 0
+PassesHelp disabled (next waiting) = Unit {0}
+PassesHelp disabled (trailing position) = Unit {0}
+PassesHelp disabled (subcommand name) = IsNoHelp disabled name
+PassesHelp disabled value = Unit {0}
+
+abbrev pub NotHelp : Bool → Option (Text × List Text) → Type 0
+NotHelp disabled stopped = IfSome stopped (λ p. IsNoHelp disabled p.0)
+
+abbrev Passes : Bool → Held × Step → Type 0
+Passes disabled met = Filled met.0.rows × PassesHelp disabled met.1
+
+abbrev pub Keeps : Bool → Walk → Type 0
+Keeps disabled w = Filled w.held.rows × NotHelp disabled w.stopped
+
 -- ---- arguments
 
 -- a use of the argument leaves each row with a value
@@ -109,9 +130,12 @@ flag_fills a set w missing again (v ∷ vs) rows e h =
     subst (λ (x : ArgAction). Filled (used_as x a.id (reading_by a) (v ∷ vs) rows)) (sym set)
     (filled_with a.id (reading_by a) CommandLine v vs (without a.id rows) (filled_without a.id rows h))
 
-pub help_fills : (a : Rule) → action_of a ≡ Help → Fills a
-help_fills a help again values rows e h =
-    subst (λ (x : ArgAction). Filled (used_as x a.id (reading_by a) (values_or_missing a values) rows)) (sym help) h
+-- an action that leaves the rows as they are
+pub still_fills : (a : Rule) (action : ArgAction) → action_of a ≡ action
+    → ((values : List Text) (rows : List Row) → used_as action a.id (reading_by a) values rows ≡ rows) → Fills a
+still_fills a action is still again values rows e h =
+    subst (λ (x : ArgAction). Filled (used_as x a.id (reading_by a) (values_or_missing a values) rows)) (sym is)
+    (subst Filled (sym (still (values_or_missing a values) rows)) h)
 
 found_fills : (p : Rule → Bool) (c : List Rule) → AllFill c → IfSome (find p c) Fills
 found_fills p [] h = tt
@@ -190,38 +214,38 @@ module _ (c : List Rule) (again : Bool) (fill : AllFill c) where
 
   -- ---- a word
 
-  option_word_filled : (found : Option Rule) (id word : Text) (h : Held) → Filled h.rows → Filled (Rattle.clap.specs.Walk.option_word found id word h).0.rows
-  option_word_filled None id word h rows = rows
-  option_word_filled (Some a) id word h rows = rows
+  plain_passes : (disabled : Bool) (waiting : Waiting) (word : Text) (h : Held) → Filled h.rows → Passes disabled (plain_word c waiting word h)
+  plain_passes disabled idle word h rows = (rows, tt)
+  plain_passes disabled (option id) word h rows = (option_word_filled (arg_by_id c id) rows, tt)
+    where
+      option_word_filled : (found : Option Rule) → Filled h.rows → Filled (Rattle.clap.specs.Walk.option_word found id word h).0.rows
+      option_word_filled None rows = rows
+      option_word_filled (Some a) rows = rows
+  plain_passes disabled positional word h rows = (rows, tt)
 
-  plain_filled : (waiting : Waiting) (word : Text) (h : Held) → Filled h.rows → Filled (plain_word c waiting word h).0.rows
-  plain_filled idle word h rows = rows
-  plain_filled (option id) word h rows = option_word_filled (arg_by_id c id) id word h rows
-  plain_filled positional word h rows = rows
+  flag_passes : (disabled : Bool) (waiting : Waiting) (word : Text) (h : Held) (outcome : Outcome) → Filled h.rows → Passes disabled (after_flag c waiting word h outcome)
+  flag_passes disabled waiting word h done rows = (rows, tt)
+  flag_passes disabled waiting word h (waits id) rows = (rows, tt)
+  flag_passes disabled waiting word h plain rows = plain_passes disabled waiting word h rows
+  flag_passes disabled waiting word h refused rows = plain_passes disabled waiting word h rows
 
-  flag_filled : (waiting : Waiting) (word : Text) (h : Held) (outcome : Outcome) → Filled h.rows → Filled (after_flag c waiting word h outcome).0.rows
-  flag_filled waiting word h done rows = rows
-  flag_filled waiting word h (waits id) rows = rows
-  flag_filled waiting word h plain rows = plain_filled waiting word h rows
-  flag_filled waiting word h refused rows = plain_filled waiting word h rows
+  short_passes : (disabled : Bool) (waiting : Waiting) (word : Text) (flags : Option Text) (h : Held) → option_map_or (λ f. bundle_fault c again f h) flags [] ≡ []
+      → Filled h.rows → Passes disabled (short_or_plain c waiting word flags h)
+  short_passes disabled waiting word None h e rows = plain_passes disabled waiting word h rows
+  short_passes disabled waiting word (Some flags) h e rows =
+      flag_passes disabled waiting word (bundle c flags h).0 (bundle c flags h).1 (flags_filled (length flags) flags h.skip plain (record h { skip = 0 }) e rows)
 
-  short_word_filled : (waiting : Waiting) (word : Text) (flags : Option Text) (h : Held) → option_map_or (λ f. bundle_fault c again f h) flags [] ≡ []
-      → Filled h.rows → Filled (short_or_plain c waiting word flags h).0.rows
-  short_word_filled waiting word None h e rows = plain_filled waiting word h rows
-  short_word_filled waiting word (Some flags) h e rows =
-      flag_filled waiting word (bundle c flags h).0 (bundle c flags h).1 (flags_filled (length flags) flags h.skip plain (record h { skip = 0 }) e rows)
-
-  other_filled : (waiting : Waiting) (word : Text) (long : Option (Text × Option Text)) (h : Held) → flag_word_fault c again long word h ≡ []
-      → Filled h.rows → Filled (long_or_other c waiting word long h).0.rows
-  other_filled waiting word None h e rows = short_word_filled waiting word (short_of word) h e rows
-  other_filled waiting word (Some p) h e rows =
+  other_passes : (disabled : Bool) (waiting : Waiting) (word : Text) (long : Option (Text × Option Text)) (h : Held) → flag_word_fault c again long word h ≡ []
+      → Filled h.rows → Passes disabled (long_or_other c waiting word long h)
+  other_passes disabled waiting word None h e rows = short_passes disabled waiting word (short_of word) h e rows
+  other_passes disabled waiting word (Some p) h e rows =
       let met = long_met c (arg_by_long c p.0) p.1 h in
-      flag_filled waiting word met.0 met.1 (long_filled (arg_by_long c p.0) (found_fills _ c fill) p.1 h e rows)
+      flag_passes disabled waiting word met.0 met.1 (long_filled (arg_by_long c p.0) (found_fills _ c fill) p.1 h e rows)
 
-  positional_filled : (found : Option Rule) (word : Text) (w : Walk) (h : Held) (stray : Kinds)
-      → option_map_or (λ a. positional_fault c again a h) found stray ≡ [] → Filled h.rows → Filled (to_positional c found word w h).held.rows
-  positional_filled None word w h stray e rows = rows
-  positional_filled (Some a) word w h stray e rows = go (is_pending a h.pending && takes_several a) e
+  positional_keeps : (disabled : Bool) (found : Option Rule) (word : Text) (w : Walk) (h : Held) (stray : Kinds)
+      → option_map_or (λ a. positional_fault c again a h) found stray ≡ [] → Filled h.rows → NotHelp disabled w.stopped → Keeps disabled (to_positional c found word w h)
+  positional_keeps disabled None word w h stray e rows is = (rows, is)
+  positional_keeps disabled (Some a) word w h stray e rows is = (go (is_pending a h.pending && takes_several a) e, tt)
     where
       go : (b : Bool) → cond b [] (settle_fault c again h) ≡ [] → Filled (pushed a.id word (cond b h (settled c h))).rows
       go true e = rows
@@ -230,50 +254,57 @@ module _ (c : List Rule) (again : Bool) (fill : AllFill c) where
 -- ---- the walk
 
 module _ (s : Shape) (names : Names) (fill : AllFill s.rules) where
-  met_filled : (name : Option Text) (waiting : Waiting) (position : ℕ) (word : Text) (h : Held) → other_fault s name word h ≡ [] → Filled h.rows
-      → Filled (subcommand_or_other s.rules name waiting position word h).0.rows
-  met_filled (Some name) waiting position word h e rows = rows
-  met_filled None waiting position word h e rows = go (bytes_eq word (45 ∷ 45 ∷ [])) e
+  abbrev pub disabled : Bool
+  disabled = s.disable_help_subcommand
+
+  met_passes : (name : Option Text) (waiting : Waiting) (position : ℕ) (word : Text) (h : Held) → other_fault s name word h ≡ [] → Filled h.rows
+      → Passes disabled (subcommand_or_other s.rules name waiting position word h)
+  met_passes (Some name) waiting position word h e rows = (rows, go (bytes_eq name (codes "help")) disabled e)
+    where
+      go : (b d : Bool) → ◌≡◌ {A = Kinds} (cond (b && not d) (kind.DisplayHelp ∷ kind.InvalidSubcommand ∷ []) []) [] → d ≡ false → b ≡ false
+      go true true e is = is
+      go true false e is = absurd (some_kind _ _ e)
+      go false d e is = refl
+  met_passes None waiting position word h e rows = go (bytes_eq word (45 ∷ 45 ∷ [])) e
     where
       go : (b : Bool) → cond b [] (flag_word_fault s.rules s.args_override_self (long_of word) word h) ≡ []
-          → Filled (cond b (h, trailing position) (long_or_other s.rules waiting word (long_of word) h)).0.rows
-      go true e = rows
-      go false e = other_filled s.rules s.args_override_self fill waiting word (long_of word) h e rows
+          → Passes disabled (cond b (h, trailing position) (long_or_other s.rules waiting word (long_of word) h))
+      go true e = (rows, tt)
+      go false e = other_passes s.rules s.args_override_self fill disabled waiting word (long_of word) h e rows
 
-  word_filled : (is_trailing : Bool) (waiting : Waiting) (position : ℕ) (word : Text) (h : Held) → word_fault s names is_trailing waiting word h ≡ [] → Filled h.rows
-      → Filled (word_met s.rules names is_trailing waiting position word h).0.rows
-  word_filled true waiting position word h e rows = rows
-  word_filled false waiting position word h e rows = met_filled (subcommand_met names waiting word) waiting position word h e rows
+  word_passes : (is_trailing : Bool) (waiting : Waiting) (position : ℕ) (word : Text) (h : Held) → word_fault s names is_trailing waiting word h ≡ [] → Filled h.rows
+      → Passes disabled (word_met s.rules names is_trailing waiting position word h)
+  word_passes true waiting position word h e rows = (rows, tt)
+  word_passes false waiting position word h e rows = met_passes (subcommand_met names waiting word) waiting position word h e rows
 
-  after_filled : (word : Text) (w : Walk) (h : Held) (step : Step) → step_fault s w.position h step ≡ [] → Filled h.rows → Filled (after_step s.rules word w h step).held.rows
-  after_filled word w h (next waiting) e rows = rows
-  after_filled word w h (trailing position) e rows = rows
-  after_filled word w h (subcommand name) e rows = rows
-  after_filled word w h value e rows =
-      positional_filled s.rules s.args_override_self fill (arg_by_index s.rules w.position) word w h (stray_fault s) e rows
+  after_keeps : (word : Text) (w : Walk) (h : Held) (step : Step) → step_fault s w.position h step ≡ [] → Filled h.rows → PassesHelp disabled step
+      → NotHelp disabled w.stopped → Keeps disabled (after_step s.rules word w h step)
+  after_keeps word w h (next waiting) e rows passes is = (rows, is)
+  after_keeps word w h (trailing position) e rows passes is = (rows, is)
+  after_keeps word w h (subcommand name) e rows passes is = (rows, passes)
+  after_keeps word w h value e rows passes is =
+      positional_keeps s.rules s.args_override_self fill disabled (arg_by_index s.rules w.position) word w h (stray_fault s) e rows is
 
-  turn_filled : (w : Walk) (word : Text) → turn_fault s names w word ≡ [] → Filled w.held.rows → Filled (walked s.rules names w word).held.rows
+  turn_keeps : (w : Walk) (word : Text) → turn_fault s names w word ≡ [] → Keeps disabled w → Keeps disabled (walked s.rules names w word)
   unfolding walked
-  turn_filled w word e rows = go w.stopped e
+  turn_keeps w word e kept = go w.stopped e kept.1
     where
-      met : Held × Step
-      met = word_met s.rules names w.is_trailing w.waiting w.position word w.held
-
       go : (stopped : Option (Text × List Text))
           → cond (is_some stopped) [] (or_else (word_fault s names w.is_trailing w.waiting word w.held) (step_fault s w.position (word_met s.rules names w.is_trailing w.waiting w.position word w.held).0 (word_met s.rules names w.is_trailing w.waiting w.position word w.held).1)) ≡ []
-          → Filled (walked_from s.rules names stopped w word).held.rows
-      go (Some p) e = rows
-      go None e =
+          → NotHelp disabled stopped → Keeps disabled (walked_from s.rules names stopped w word)
+      go (Some p) e now = (kept.0, now)
+      go None e now =
           let parts = both_none _ _ e in
-          after_filled word w (word_met s.rules names w.is_trailing w.waiting w.position word w.held).0 (word_met s.rules names w.is_trailing w.waiting w.position word w.held).1 parts.1
-          (word_filled w.is_trailing w.waiting w.position word w.held parts.0 rows)
+          let passes = word_passes w.is_trailing w.waiting w.position word w.held parts.0 kept.0 in
+          after_keeps word w (word_met s.rules names w.is_trailing w.waiting w.position word w.held).0 (word_met s.rules names w.is_trailing w.waiting w.position word w.held).1 parts.1
+          passes.0 passes.1 kept.1
 
-  pub walk_filled : (words : List Text) (w : Walk) → walk_fault s names w words ≡ [] → Filled w.held.rows → Filled (fold (walked s.rules names) w words).held.rows
+  pub walk_keeps : (words : List Text) (w : Walk) → walk_fault s names w words ≡ [] → Keeps disabled w → Keeps disabled (fold (walked s.rules names) w words)
   unfolding walk_fault
-  walk_filled [] w e rows = rows
-  walk_filled (word ∷ words) w e rows =
+  walk_keeps [] w e kept = kept
+  walk_keeps (word ∷ words) w e kept =
       let parts = both_none _ _ e in
-      walk_filled words (walked s.rules names w word) parts.1 (turn_filled w word parts.0 rows)
+      walk_keeps words (walked s.rules names w word) parts.1 (turn_keeps w word parts.0 kept)
 
   pub finished_filled : (h : Held) → settle_fault s.rules s.args_override_self h ≡ [] → Filled h.rows → Filled (finished s.rules h)
   finished_filled h e rows = filled_defaults s.rules (settled s.rules h).rows (settled_filled s.rules s.args_override_self fill h e rows)

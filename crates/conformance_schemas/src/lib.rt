@@ -13,7 +13,9 @@
 //! | `reader` | `reader.rt` |
 //!
 //! The type of a group of rows is read by `typed.rt`. Whether the reader agrees with `decode` and `member` on the
-//! octets of rows and on others near them is tried by `row_types.rt` and `walks.rt`.
+//! octets of rows and on others near them is tried by `row_types.rt` and `walks.rt`. All files of these rows, and of those
+//! of `conformance_texts`, are in `files.rt`, and those that are tried in the second way in `walked.rt`. How long the
+//! reader takes is measured by `timing.rt`.
 #![tactic(auto)]
 
 mod alphabets;
@@ -21,6 +23,7 @@ mod constraints;
 mod decoding;
 mod digits;
 mod encoding;
+mod files;
 mod members;
 mod messages;
 mod reader;
@@ -29,18 +32,12 @@ mod schemas;
 mod shown_types;
 mod tables;
 mod tagged_octets;
+mod timing;
 mod typed;
 mod values;
+mod walked;
 mod walks;
 
-pub use alphabets::Alphabets;
-pub use constraints::ConstraintsRows;
-pub use decoding::Decoding;
-pub use encoding::Encoding;
-pub use members::Members;
-pub use reader::Reader;
-pub use row_types::RowTypes;
-pub use schemas::Schemas;
-pub use tables::Tables;
-pub use tagged_octets::TaggedOctets;
-pub use values::ValuesRows;
+pub use files::try_rows;
+pub use timing::time_walk;
+pub use walked::try_walks;

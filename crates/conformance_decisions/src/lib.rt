@@ -8,11 +8,13 @@
 //! | `frames` | `streams.rt`, `text_streams.rt`, `links.rt`, `link_orders.rt`, `arrays.rt` |
 //!
 //! Sources and sinks are those of `devices.rt`, and sinks that take no memory those of `arrays.rt`. Whether a message
-//! goes just where its verdict is to pass is tried on the rows of policies and frames by `passing.rt`.
+//! goes just where its verdict is to pass is tried on the rows of policies and frames by `passing.rt`. All files of rows
+//! are in `files.rt`, and those that are tried in this second way in `walked.rt`.
 #![tactic(auto)]
 
 mod arrays;
 mod devices;
+mod files;
 mod link_orders;
 mod links;
 mod passing;
@@ -21,13 +23,9 @@ mod reports;
 mod streams;
 mod text_streams;
 mod verdicts;
+mod walked;
 mod written_verdicts;
 
 pub use devices::{Pieces, Room};
-pub use links::Links;
-pub use passing::{PolicyRows, Said};
-pub use policies::Policies;
-pub use reports::Reports;
-pub use streams::Streams;
-pub use text_streams::TextStreams;
-pub use verdicts::Verdicts;
+pub use files::try_rows;
+pub use walked::try_walks;

@@ -1,6 +1,6 @@
 -- How parts of an object come together.
 use Rattle.std.proofs.Common.{◌≡◌, ℕ, zero, suc, ◌+◌, ◌<◌, ◌≤◌, lit<, Bool, true, false, ◌==◌, ◌&&◌, cond, List, [], ◌∷◌, ◌++◌, length, drop, refl, sym, ap, ap₂, ◌∙◌, subst, append-nil, append_assoc, arith, Bor}
-use Rattle.std.specs.Prelude.{Option, Some, None, IfSome, IfOk, Result, Ok, Err, OnOk, OnErr, is_err, option_and_then, option_map}
+use Rattle.std.specs.Prelude.{Option, Some, None, IfSome, IfOk, Result, Ok, Err, OnOk, option_and_then, option_map}
 use Rattle.std.specs.List.{list_all, prefix_len}
 use Rattle.std.specs.Char.{is_ascii_digit}
 use Rattle.std.proofs.lemmas.Bool.{true≢false, false≢true, ne_eqb, eqb-true, leb-true, and_parts, and_from}
@@ -64,9 +64,6 @@ Adds_two {a} {b} {c} {p} {q} {r} h e k = record {
 pub Adds_more : {a b c : Draft} {p q : Part} → Adds a b p → Adds b c q → Adds a c (both p q)
 Adds_more h k = Adds_two h refl k
 
-pub Adds_mark : {a b c : Draft} {t : Token} {ts : List Token} → Adds a b (mark t) → Adds b c (Some ts) → Adds a c (Some (t ∷ ts))
-Adds_mark {a} {b} {c} {t} {ts} h k = Adds_two h refl k
-
 pub Adds_then : {a b : Draft} {t : Bool} {p : Part} (q : Part) → Adds a b p → t ≡ true → Adds a b (cond t p q)
 Adds_then {a} {b} {t} {p} q h e = Adds_is h (sym (ap (λ x. cond x p q) e))
 
@@ -110,25 +107,6 @@ Adds_no_form a = record {
 
 -- ---- by results
 
-pub err_of : {X E : Type 0} (r : Result X E) (P : Type 0) → is_err r ≡ true → OnErr r P → P
-err_of (Ok x) P e h = absurd (false≢true e)
-err_of (Err x) P e h = h
-
-pub ok_of : {X E : Type 0} (r : Result X E) (P : Type 0) → is_err r ≡ false → OnOk r P → P
-ok_of (Ok x) P e h = h
-ok_of (Err x) P e h = absurd (true≢false e)
-
-pub if_ok_map : {X E : Type 0} {P Q : X → Type 0} (r : Result X E) → IfOk r P → ((x : X) → P x → Q x) → IfOk r Q
-if_ok_map (Ok x) h f = f x h
-if_ok_map (Err e) h f = tt
-
-pub on_ok_map : {X E P Q : Type 0} (r : Result X E) → OnOk r P → (P → Q) → OnOk r Q
-on_ok_map (Ok x) h f = f h
-on_ok_map (Err e) h f = tt
-
-pub none_some : {X : Type 0} {x : X} → None ≡ Some x → ⊥
-none_some h = cc
-
 pub some_is : {X : Type 0} {x y : X} → Some x ≡ Some y → x ≡ y
 some_is h = cc
 
@@ -153,34 +131,36 @@ Reads_if false ts h = tt
 
 -- ---- words are ASCII
 
-ascii : (p : ℕ → Bool) → ((c : ℕ) → p c ≡ true → c < 128) → (w : List ℕ) → list_all p w ≡ true → IsAscii w
-ascii p small [] h i = lit< tt
-ascii p small (c ∷ cs) h zero = small c (and_parts _ _ h).0
-ascii p small (c ∷ cs) h (suc i) = ascii p small cs (and_parts _ _ h).1 i
-
-front : (p : ℕ → Bool) (c : ℕ) (cs : List ℕ) → c < 128 → IsAscii cs → IsAscii (c ∷ cs)
-front p c cs h k zero = h
-front p c cs h k (suc i) = k i
+-- what holds of each octet makes it ASCII
+ascii : (p : ℕ → Bool) → ((c : ℕ) → p c ≡ true → c < 128) → (w : List ℕ) → list_all p w ≡ true → IsUtf8 w
+ascii p small w h = IsUtf8-from_ascii w (among w h)
+  where
+    among : (w : List ℕ) → list_all p w ≡ true → IsAscii w
+    among [] h i = lit< tt
+    among (c ∷ cs) h zero = small c (and_parts _ _ h).0
+    among (c ∷ cs) h (suc i) = among cs (and_parts _ _ h).1 i
 
 digit_small : (c : ℕ) → is_ascii_digit c ≡ true → c < 128
 digit_small c h = let high : c ≤ 57 = leb-true c 57 (and_parts _ _ h).1 in omega arith
 
-rest_ascii : (z : Bool) (cs : List ℕ) → cond z (length cs == 0) (list_all is_ascii_digit cs) ≡ true → IsAscii cs
-rest_ascii true [] h = λ i. lit< tt
-rest_ascii true (c ∷ cs) h = absurd (true≢false (sym h ∙ ne_eqb (length (c ∷ cs)) 0 (λ e. omega arith)))
-rest_ascii false cs h = ascii is_ascii_digit digit_small cs h
+rest_digits : (z : Bool) (cs : List ℕ) → cond z (length cs == 0) (list_all is_ascii_digit cs) ≡ true → list_all is_ascii_digit cs ≡ true
+rest_digits true [] h = refl
+rest_digits true (c ∷ cs) h = absurd (true≢false (sym h ∙ ne_eqb (length (c ∷ cs)) 0 (λ e. omega arith)))
+rest_digits false cs h = h
+
+-- a number is of digits
+pub digits_of : (w : List ℕ) → is_number w ≡ true → list_all is_ascii_digit w ≡ true
+digits_of [] h = absurd (false≢true h)
+digits_of (c ∷ cs) h = let p = and_parts _ _ h in and_from _ _ p.0 (rest_digits (c == 48) cs p.1)
 
 pub IsUtf8-is_number : (w : List ℕ) → is_number w ≡ true → IsUtf8 w
-IsUtf8-is_number [] h = absurd (false≢true h)
-IsUtf8-is_number (c ∷ cs) h =
-    let p = and_parts _ _ h in
-    IsUtf8-from_ascii (c ∷ cs) (front is_ascii_digit c cs (digit_small c p.0) (rest_ascii (c == 48) cs p.1))
+IsUtf8-is_number w h = ascii is_ascii_digit digit_small w (digits_of w h)
 
 name_small : (c : ℕ) → is_name_octet c ≡ true → c < 128
 name_small c h = grind (arith, nat_tests)
 
 pub IsUtf8-is_name : (w : List ℕ) → is_name w ≡ true → IsUtf8 w
-IsUtf8-is_name w h = IsUtf8-from_ascii w (ascii is_name_octet name_small w (and_parts _ _ h).1)
+IsUtf8-is_name w h = ascii is_name_octet name_small w (and_parts _ _ h).1
 
 visible_small : (c : ℕ) → is_visible c ≡ true → c < 128
 visible_small c h = let high : c ≤ 126 = leb-true c 126 (and_parts _ _ h).1 in omega arith
@@ -189,8 +169,7 @@ pub IsUtf8-is_path : (w : List ℕ) → is_path w ≡ true → IsUtf8 w
 IsUtf8-is_path [] h = absurd (false≢true h)
 IsUtf8-is_path (c ∷ cs) h =
     let p = and_parts _ _ h in
-    let dollar : c ≡ 36 = eqb-true c 36 p.0 in
-    IsUtf8-from_ascii (c ∷ cs) (front is_visible c cs (omega arith) (ascii is_visible visible_small cs p.1))
+    ascii is_visible visible_small (c ∷ cs) (and_from _ _ (ap is_visible (eqb-true c 36 p.0)) p.1)
 
 not_utf8_at : (b : Bool) (w : List ℕ) → is_utf8 w ≡ b → (IsUtf8 w → ⊥) → is_utf8 w ≡ false
 not_utf8_at true w e h = absurd (h (IsUtf8-from_is_utf8 w e))
@@ -204,19 +183,13 @@ pub where_utf8 : (h t : Bool) (w : List ℕ) → h ≡ t → (t ≡ true → IsU
 where_utf8 h true w e k = ap₂ (λ a b. a && b) e (is_utf8-from_IsUtf8 w (k refl))
 where_utf8 h false w e k = ap (λ a. a && is_utf8 w) e
 
-pub where_some : (b : Bool) (v w : List ℕ) → Some v ≡ cond b (Some w) None → (b ≡ true) × (v ≡ w)
-where_some true v w e = (refl, some_is e)
-where_some false v w e = absurd (cc)
-
 -- a word of one kind is its token
-pub token_where : (b t : Bool) (v : Option (Bor (List ℕ))) (w : List ℕ) (F : List ℕ → Token) → b ≡ t
-    → option_map (λ x. x.now) v ≡ cond b (Some w) None → option_map (λ x. F x.now) v ≡ cond t (Some (F w)) None
-token_where true true None w F e h = ap (option_map F) h
-token_where true true (Some x) w F e h = ap (option_map F) h
-token_where false false None w F e h = ap (option_map F) h
-token_where false false (Some x) w F e h = ap (option_map F) h
-token_where true false v w F e h = absurd (true≢false e)
-token_where false true v w F e h = absurd (false≢true e)
+pub token_where : (t : Bool) (v : Option (Bor (List ℕ))) (w : List ℕ) (F : List ℕ → Token)
+    → option_map (λ x. x.now) v ≡ cond t (Some w) None → option_map (λ x. F x.now) v ≡ cond t (Some (F w)) None
+token_where true None w F h = ap (option_map F) h
+token_where true (Some x) w F h = ap (option_map F) h
+token_where false None w F h = ap (option_map F) h
+token_where false (Some x) w F h = ap (option_map F) h
 
 -- ---- what may be written
 

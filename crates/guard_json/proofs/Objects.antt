@@ -5,7 +5,7 @@ use Rattle.std.specs.Str.{is_utf8}
 use Rattle.json.specs.Token.{Token, begin_object, end_object, key, string}
 use Rattle.json.specs.Lex.{tokens}
 use Rattle.json.specs.Print.{print}
-use Rattle.hex.specs.Hex.{encode_lower, IsBytes}
+use Rattle.hex.specs.Hex.{IsBytes}
 use Rattle.hex.proofs.HexLemmas.{decode_of-encode_lower}
 use Rattle.guard_json.specs.Members.{Part, all_of, mark, members_in}
 use Rattle.guard_json.specs.Objects.{lone_member, text_object, octets_object, json_line}

@@ -1,14 +1,15 @@
 -- What is printed of tokens has no line feed.
-use Rattle.std.proofs.Common.{◌≡◌, ℕ, ◌/◌, ◌%◌, ◌+◌, ◌≤◌, Bool, true, false, ◌&&◌, ◌||◌, not, ◌==◌, cond, nat_lt, List, [], ◌∷◌, ◌++◌, length, refl, sym, ap, ap₂, ◌∙◌, inl, inr, arith}
+use Rattle.std.proofs.Common.{◌≡◌, ℕ, ◌/◌, ◌%◌, ◌+◌, ◌≤◌, Bool, true, false, ◌&&◌, ◌||◌, not, ◌==◌, cond, nat_lt, List, [], ◌∷◌, ◌++◌, refl, ap, ap₂, ◌∙◌, inl, inr, arith}
 use Rattle.std.specs.List.{list_all}
 use Rattle.std.specs.Char.{is_ascii_digit, digit_char}
-use Rattle.std.proofs.lemmas.Bool.{true≢false, ne_eqb, eqb-true, leb-true, ltb-false, and_parts, and_from, or_cases}
+use Rattle.std.proofs.lemmas.Bool.{ne_eqb, eqb-true, leb-true, ltb-false, and_parts, and_from, or_cases}
 use Rattle.std.proofs.lemmas.List.Folds.{list_all-append}
 use Rattle.json.specs.Token.{Token, begin_object, end_object, begin_array, end_array, key, string, number, boolean, null, bad}
 use Rattle.json.specs.Print.{escape_letter, escape_byte, escape, quoted, token_text, ends, begins, separator, print_from}
 use Rattle.guard_json.specs.Cutting.{is_number}
 use Rattle.guard_json.specs.Taken.{is_no_feed, is_one_line}
 use Rattle.guard_json.specs.inside.Drafting.{is_fine}
+use Rattle.guard_json.proofs.Drafts.{digits_of}
 
 pub one_line_both : (xs ys : List ℕ) → is_one_line xs ≡ true → is_one_line ys ≡ true → is_one_line (xs ++ ys) ≡ true
 one_line_both xs ys h k = list_all-append is_no_feed xs ys ∙ and_from _ _ h k
@@ -55,14 +56,8 @@ digits_line : (cs : List ℕ) → list_all is_ascii_digit cs ≡ true → is_one
 digits_line [] h = refl
 digits_line (c ∷ cs) h = let p = and_parts _ _ h in and_from _ _ (no_feed_digit c p.0) (digits_line cs p.1)
 
-rest_line : (z : Bool) (cs : List ℕ) → cond z (length cs == 0) (list_all is_ascii_digit cs) ≡ true → is_one_line cs ≡ true
-rest_line true [] h = refl
-rest_line true (c ∷ cs) h = absurd (true≢false (sym h ∙ ne_eqb (length (c ∷ cs)) 0 (λ e. omega arith)))
-rest_line false cs h = digits_line cs h
-
 number_line : (s : List ℕ) → is_number s ≡ true → is_one_line s ≡ true
-number_line [] h = refl
-number_line (c ∷ cs) h = let p = and_parts _ _ h in and_from _ _ (no_feed_digit c p.0) (rest_line (c == 48) cs p.1)
+number_line s h = digits_line s (digits_of s h)
 
 token_line : (t : Token) → is_fine t ≡ true → is_one_line (token_text t) ≡ true
 token_line begin_object h = refl

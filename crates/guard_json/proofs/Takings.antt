@@ -1,8 +1,8 @@
 -- What a sink of lines tells after more came, and what that says of the sink behind.
 use Rattle.std.proofs.Common.{◌≡◌, ℕ, zero, suc, ◌+◌, ◌-◌, ◌<◌, ◌≤◌, Bool, true, false, ◌&&◌, ◌==◌, not, cond, get_or, add-one, nat_le, List, [], ◌∷◌, ◌++◌, length, take, drop, refl, sym, ap, ap₂, ◌∙◌, subst, append-nil, append_assoc, length-append, arith}
-use Rattle.std.specs.Prelude.{Option, Some, None, option_map, Result, Ok, Err, is_ok, is_err, if◌then◌else◌}
+use Rattle.std.specs.Prelude.{Option, Some, None, option_map}
 use Rattle.std.specs.Io.KnownBytes.{Appends}
-use Rattle.std.proofs.lemmas.Bool.{true≢false, false≢true, eqb-true, leb-true, le-leb, and_parts, and_from}
+use Rattle.std.proofs.lemmas.Bool.{true≢false, eqb-true, leb-true, le-leb, and_parts, and_from}
 use Rattle.std.proofs.lemmas.List.{take-append-drop, take-append-le, drop-append-le, drop_all}
 use Rattle.std.proofs.Math.Seq.{take-suc, take-append_seam, drop-append_seam}
 use Rattle.std.proofs.lemmas.List.Sums.{passes_at_first}
@@ -70,16 +70,6 @@ pub taken_more : (torn₀ torn : Bool) (name written after : ℕ) (b₀ b₁ : L
 taken_more torn₀ torn name written after b₀ b₁ a b object q x e n h f g =
     subst (λ m. Appends (lines_taken_by name torn₀ written b₀ a) (lines_taken_by name torn m b₁ b) x) (sym n)
     (taken_by torn₀ torn name written b₀ b₁ a b object q x e h f g)
-
--- ---- what a vector has after it grew, or didn't
-
-pub grew_by : {X E : Type 0} (r : Result X E) (xs ys zs : List ℕ) → is_err r ≡ false → zs ≡ (if is_ok r then xs else ys) → zs ≡ xs
-grew_by (Ok x) xs ys zs e h = h
-grew_by (Err x) xs ys zs e h = absurd (true≢false e)
-
-pub stayed : {X E : Type 0} (r : Result X E) (xs ys zs : List ℕ) → is_err r ≡ true → zs ≡ (if is_ok r then xs else ys) → zs ≡ ys
-stayed (Ok x) xs ys zs e h = absurd (false≢true e)
-stayed (Err x) xs ys zs e h = h
 
 -- ---- fronts of lines
 

@@ -9,10 +9,7 @@ pub fn place_of(mark: u8, text: &[u8]) -> usize
     ensures place { result ≡ place_of mark text.now }
     ensures within { result ≤ length text.now }
 {
-    match find(mark, text) {
-        Some(place) => place,
-        None => text.len(),
-    }
+    find(mark, text).unwrap_or(text.len())
 }
 
 fn find(mark: u8, text: &[u8]) -> Option<usize>

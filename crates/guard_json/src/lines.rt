@@ -65,10 +65,10 @@ impl<S: Sink> Sink for JsonLines<'_, S> {
         }
         let end = place_of(b'\n', octets);
         let begun = self.begun.as_slice().len();
-        if self.begun.extend_from_slice(&octets[..end]).is_err() {
+        let Ok(()) = self.begun.extend_from_slice(&octets[..end]) else {
             self.is_broken = true;
             return Err(Failed);
-        }
+        };
         if end == octets.len() {
             return Ok(end);
         }
@@ -101,9 +101,9 @@ fn put_line<S: Sink>(alloc: Global, sink: &mut S, line: &[u8], written: u64) -> 
     let Ok(mut text) = json_line(alloc, line) else {
         return Err(written);
     };
-    if text.push(b'\n').is_err() {
+    let Ok(()) = text.push(b'\n') else {
         return Err(written);
-    }
+    };
     let octets = text.as_slice();
     let Some(after) = written.checked_add(octets.len() as u64) else {
         return Err(written);

@@ -1,16 +1,10 @@
-use Rattle.std.proofs.Common.{◌≤◌, ◌==◌, length, sym, ◌∙◌, subst}
-use Rattle.guard_json.proofs.Places.{place_found, place_within, place_missed}
+use Rattle.std.proofs.Common.{◌≤◌, ◌==◌, length, sym, ap, ◌∙◌, subst}
+use Rattle.std.specs.Prelude.{unwrap_or}
+use Rattle.guard_json.proofs.Places.{place_is, place_within}
 use Rattle.guard_json.proofs.cutting.place_of.Goals as goal
 
-pub returns-in-Some-clause-place : goal.returns-in-Some-clause-place
-returns-in-Some-clause-place c =
-    place_found (λ x. x == c.args.mark) c.args.text.now c.in-Some.place (sym c.find.ensures ∙ c.in-Some.is)
-
-pub returns-in-Some-clause-within : goal.returns-in-Some-clause-within
-returns-in-Some-clause-within c =
-    subst (λ n. n ≤ length c.args.text.now)
-    (sym (place_found (λ x. x == c.args.mark) c.args.text.now c.in-Some.place (sym c.find.ensures ∙ c.in-Some.is)))
-    (place_within (λ x. x == c.args.mark) c.args.text.now)
-
-pub returns-in-None-clause-place : goal.returns-in-None-clause-place
-returns-in-None-clause-place c = place_missed (λ x. x == c.args.mark) c.args.text.now (sym c.find.ensures ∙ c.in-None.is)
+pub returns : goal.returns
+returns c =
+    let text = c.args.text.now in
+    let is = c.unwrap_or.ensures ∙ ap (λ o. unwrap_or o (length text)) c.find.ensures ∙ place_is (λ x. x == c.args.mark) text in
+    record { place = is; within = subst (λ n. n ≤ length text) (sym is) (place_within (λ x. x == c.args.mark) text) }

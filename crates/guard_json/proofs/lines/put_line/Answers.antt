@@ -1,18 +1,18 @@
-use Rattle.std.proofs.Common.{◌≡◌, ◌+◌, ◌<◌, [], ◌∷◌, ◌++◌, length, take, refl, sym, ap, ◌∙◌, subst, arith}
+use Rattle.std.proofs.Common.{◌≡◌, ◌+◌, ◌<◌, [], ◌∷◌, ◌++◌, length, take, refl, ap, ◌∙◌, subst, arith}
 use Rattle.std.proofs.lemmas.List.{length-take}
 use Rattle.guard_frames.proofs.Appending.{Appends_none, Appends_is}
 use Rattle.guard_json.specs.Cutting.{line_feed}
 use Rattle.guard_json.specs.Taken.{is_one_line}
 use Rattle.guard_json.specs.Objects.{json_line}
 use Rattle.guard_json.specs.inside.Putting.{whole_object}
-use Rattle.guard_json.proofs.Takings.{torn_front, grew_by}
+use Rattle.guard_json.proofs.Takings.{torn_front}
 use Rattle.guard_json.proofs.lines.put_line.Goals as goal
 
 pub returns-in_default-clause-part : goal.returns-in_default-clause-part
 returns-in_default-clause-part g c = record { part = []; taken = Appends_none _; counted = omega arith; one = refl }
 
-pub returns-then-is_err-clause-part : goal.returns-then-is_err-clause-part
-returns-then-is_err-clause-part g c = record { part = []; taken = Appends_none _; counted = omega arith; one = refl }
+pub returns-in_default-push-clause-part : goal.returns-in_default-push-clause-part
+returns-in_default-push-clause-part g c = record { part = []; taken = Appends_none _; counted = omega arith; one = refl }
 
 pub returns-in_default-checked_add-clause-part : goal.returns-in_default-checked_add-clause-part
 returns-in_default-checked_add-clause-part g c = record { part = []; taken = Appends_none _; counted = omega arith; one = refl }
@@ -21,7 +21,7 @@ pub returns-in-Ok-put_counted-clause-whole : goal.returns-in-Ok-put_counted-clau
 returns-in-Ok-put_counted-clause-whole g c =
     let whole : c.as_slice-octets.result.now ≡ whole_object c.args.line.now =
     c.as_slice-octets.ensures.value
-    ∙ grew_by c.push.result _ _ _ (sym c.is_err.ensures.value ∙ c.if-is_err.false) c.push.ensures.items
+    ∙ rw c.in-Ok-push.is at c.push.ensures.items
     ∙ ap (λ x. x ++ line_feed ∷ []) c.in-Ok.ensures.json in
     record {
       taken = Appends_is _ _ _ _ whole c.in-Ok-put_counted.ensures.all;
@@ -37,7 +37,7 @@ returns-clause-part g c =
     let within = c.in-Err.ensures.part.0 in
     let whole : octets ≡ whole_object c.args.line.now =
     c.as_slice-octets.ensures.value
-    ∙ grew_by c.push.result _ _ _ (sym c.is_err.ensures.value ∙ c.if-is_err.false) c.push.ensures.items
+    ∙ rw c.in-Ok-push.is at c.push.ensures.items
     ∙ ap (λ x. x ++ line_feed ∷ []) c.in-Ok.ensures.json in
     record {
       part = take n octets;

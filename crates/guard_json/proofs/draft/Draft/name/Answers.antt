@@ -9,4 +9,4 @@ returns c =
     let w = c.args.word.now in
     Adds_is c.string.ensures
     (ap (member c.args.name.now)
-    (token_where _ _ c.utf8_where.result w string (where_utf8 _ _ w c.is_name.ensures (IsUtf8-is_name w)) c.utf8_where.ensures))
+    (token_where _ c.utf8_where.result w string (rw (where_utf8 _ _ w c.is_name.ensures (IsUtf8-is_name w)) at c.utf8_where.ensures)))

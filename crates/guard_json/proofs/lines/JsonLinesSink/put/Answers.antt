@@ -7,17 +7,17 @@ use Rattle.guard_json.specs.Taken.{is_one_line}
 use Rattle.guard_json.specs.inside.Putting.{whole_object}
 use Rattle.guard_json.proofs.OneLine.{one_line_both}
 use Rattle.guard_json.proofs.Readings.{torn_line, whole_line, line_of_object}
-use Rattle.guard_json.proofs.Takings.{taken_more, grew_by, stayed, before_feed, with_feed}
+use Rattle.guard_json.proofs.Takings.{taken_more, before_feed, with_feed}
 use Rattle.guard_json.proofs.lines.JsonLinesSink.put.Goals as goal
 
 pub returns-then-self-clause-none : goal.returns-then-self-clause-none
 returns-then-self-clause-none g c = Appends_none _
 
-pub returns-then-is_err-clause-none : goal.returns-then-is_err-clause-none
-returns-then-is_err-clause-none g c =
+pub returns-in_default-clause-none : goal.returns-in_default-clause-none
+returns-in_default-clause-none g c =
     let w = c.args.self.now in
     let same : c.extend_from_slice.new.self.items ≡ w.begun.items =
-    stayed c.extend_from_slice.result _ _ _ (sym c.is_err.ensures.value ∙ c.if-is_err.true) c.extend_from_slice.ensures.items in
+    rw c.in_default.is at c.extend_from_slice.ensures.items in
     taken_more w.is_broken true w.sink.ghost_name w.written w.written w.begun.items c.extend_from_slice.new.self.items _ _ [] [] []
     c.if-self.false (omega arith) (Appends_none _) (λ one. (refl, ap is_one_line same ∙ one)) (append-nil w.begun.items ∙ sym same)
 
@@ -27,14 +27,14 @@ returns-then-end-octets-clause-taken g c =
     let octets = c.args.octets.now in
     let front = take c.place_of-end.result octets in
     let grew : c.extend_from_slice.new.self.items ≡ w.begun.items ++ front =
-    grew_by c.extend_from_slice.result _ _ _ (sym c.is_err.ensures.value ∙ c.if-is_err.false) c.extend_from_slice.ensures.items in
+    rw c.in-Ok.is at c.extend_from_slice.ensures.items in
     let one_front : is_one_line front ≡ true = ap (λ n. is_one_line (take n octets)) c.place_of-end.ensures.place ∙ before_feed octets in
     taken_more w.is_broken w.is_broken w.sink.ghost_name w.written w.written w.begun.items c.extend_from_slice.new.self.items _ _ [] []
     front c.if-self.false (omega arith) (Appends_none _)
     (λ one. (refl, ap is_one_line grew ∙ one_line_both w.begun.items front one one_front)) (sym grew)
 
-pub returns-in-Ok-clause-taken : goal.returns-in-Ok-clause-taken
-returns-in-Ok-clause-taken g c =
+pub returns-in-Ok-put_line-clause-taken : goal.returns-in-Ok-put_line-clause-taken
+returns-in-Ok-put_line-clause-taken g c =
     let w = c.args.self.now in
     let begun = w.begun.items in
     let octets = c.args.octets.now in
@@ -42,10 +42,10 @@ returns-in-Ok-clause-taken g c =
     let place = c.place_of-end.ensures.place in
     let front = take end octets in
     let line = c.deref.result.now in
-    let puts = c.in-Ok.ensures.whole in
+    let puts = c.in-Ok-put_line.ensures.whole in
     let grew : line ≡ begun ++ front =
     c.deref.ensures.value
-    ∙ grew_by c.extend_from_slice.result _ _ _ (sym c.is_err.ensures.value ∙ c.if-is_err.false) c.extend_from_slice.ensures.items in
+    ∙ rw c.in-Ok.is at c.extend_from_slice.ensures.items in
     let one_front : is_one_line front ≡ true = ap (λ n. is_one_line (take n octets)) place ∙ before_feed octets in
     let within : end < length octets = omega (arith, c.place_of-end.ensures.within, c.if-end-octets.false) in
     let taken : take (end + 1) octets ≡ front ++ line_feed ∷ [] =
@@ -58,7 +58,7 @@ returns-in-Ok-clause-taken g c =
     ∙ ap (λ y. y ++ line_feed ∷ []) (sym grew)
     ∙ sym (append-nil (line ++ line_feed ∷ []))
     ∙ ap (λ y. (line ++ line_feed ∷ []) ++ y) (sym c.clear.ensures.items) in
-    taken_more w.is_broken w.is_broken w.sink.ghost_name w.written c.in-Ok.written begun c.clear.new.self.items _ _ (whole_object line)
+    taken_more w.is_broken w.is_broken w.sink.ghost_name w.written c.in-Ok-put_line.written begun c.clear.new.self.items _ _ (whole_object line)
     (line ++ line_feed ∷ []) (take (end + 1) octets) c.if-self.false puts.counted puts.taken
     (λ one. (
       whole_line w.is_broken (json_line line) line puts.one
@@ -73,7 +73,7 @@ returns-in-Err-clause-none g c =
     let front = take c.place_of-end.result c.args.octets.now in
     let torn = c.in-Err.ensures.part in
     let grew : c.extend_from_slice.new.self.items ≡ begun ++ front =
-    grew_by c.extend_from_slice.result _ _ _ (sym c.is_err.ensures.value ∙ c.if-is_err.false) c.extend_from_slice.ensures.items in
+    rw c.in-Ok.is at c.extend_from_slice.ensures.items in
     let back : c.truncate.new.self.items ≡ begun =
     c.truncate.ensures.items
     ∙ ap (λ s. take (length s) c.extend_from_slice.new.self.items) c.as_slice-begun.ensures.value

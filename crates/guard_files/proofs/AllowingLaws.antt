@@ -1,46 +1,19 @@
 -- The rules of a policy, one after another, as a loop over their numbers has them.
-use Rattle.std.proofs.Common.{◌≡◌, ◌∙◌, ◌+◌, ◌&&◌, ℕ, Bool, true, false, cond, zero, suc, List, [], ◌∷◌, ◌++◌, Some, drop, ap, refl, sym, add-one, append_assoc, ◌<◌, ◌≤◌, None, length, arith}
-use Rattle.std.specs.Prelude.{slice_get, unwrap_or}
-use Rattle.std.proofs.lemmas.List.{append-nil, at_drop_all}
+use Rattle.std.proofs.Common.{◌≡◌, ◌∙◌, ◌+◌, ◌&&◌, ℕ, Bool, true, false, cond, zero, suc, List, [], ◌∷◌, ◌++◌, Some, drop, ap, refl, sym, append_assoc, ◌<◌, ◌≤◌, None, length, arith}
+use Rattle.std.specs.Prelude.{slice_get}
+use Rattle.std.proofs.lemmas.List.{append-nil, at_drop_all, at_drop_more}
+use Rattle.std.proofs.lemmas.Option.{get_or_from_slice_get, slice_get_within}
 use Rattle.guard_model.specs.AbstractValue.{AbstractValue}
 use Rattle.guard_policy.specs.Decisions.{NumberedRule, allows, speaking, speaks_of}
 use Rattle.guard_policy.specs.Policies.{AbstractRoute, AbstractRule}
-use Rattle.guard_files.specs.Allowed.{allowing, allowing_line, allowing_line_of, allowing_lines}
+use Rattle.guard_files.specs.Allowed.{allowing, allowing_line, allowing_lines}
 
-allowing_next : (route : AbstractRoute) (v : AbstractValue) (rules : List AbstractRule) (i : ℕ) (r : AbstractRule) → slice_get rules i ≡ Some r
-    → allowing_lines route v (drop i rules) ≡ allowing_line_of route v r ++ allowing_lines route v (drop (suc i) rules)
-allowing_next route v [] i r at = absurd cc
-allowing_next route v (q ∷ rules) zero r at =
-    let same : q ≡ r = ap (λ o. unwrap_or o q) at in
-    ap (λ (x : AbstractRule). allowing_line_of route v x ++ allowing_lines route v rules) same
-allowing_next route v (q ∷ rules) (suc i) r at = allowing_next route v rules i r at
-
-one_allowing : (route : AbstractRoute) (v : AbstractValue) (rules : List AbstractRule) (i : ℕ) (r : AbstractRule) (text all : List ℕ) → slice_get rules i ≡ Some r
-    → text ++ allowing_lines route v (drop i rules) ≡ all
-    → (text ++ allowing_line_of route v r) ++ allowing_lines route v (drop (i + 1) rules) ≡ all
-one_allowing route v rules i r text all at so_far =
-    append_assoc text (allowing_line_of route v r) (allowing_lines route v (drop (i + 1) rules))
-    ∙ ap (λ (n : ℕ). text ++ (allowing_line_of route v r ++ allowing_lines route v (drop n rules))) (add-one i)
-    ∙ ap (λ (xs : List ℕ). text ++ xs) (sym (allowing_next route v rules i r at))
-    ∙ so_far
-
--- the line of one more rule, if it allows the value
-pub one_line : (route : AbstractRoute) (v : AbstractValue) (rules : List AbstractRule) (i : ℕ) (r : AbstractRule) (text all : List ℕ) → slice_get rules i ≡ Some r
-    → (speaks_of route r && allows r v) ≡ true → text ++ allowing_lines route v (drop i rules) ≡ all
-    → (text ++ allowing_line r.name) ++ allowing_lines route v (drop (i + 1) rules) ≡ all
-one_line route v rules i r text all at has so_far =
-    ap (λ (b : Bool). (text ++ cond b (allowing_line r.name) []) ++ allowing_lines route v (drop (i + 1) rules)) (sym has)
-    ∙ one_allowing route v rules i r text all at so_far
-
-pub no_line : (route : AbstractRoute) (v : AbstractValue) (rules : List AbstractRule) (i : ℕ) (r : AbstractRule) (text all : List ℕ) → slice_get rules i ≡ Some r
-    → (speaks_of route r && allows r v) ≡ false → text ++ allowing_lines route v (drop i rules) ≡ all
-    → text ++ allowing_lines route v (drop (i + 1) rules) ≡ all
-no_line route v rules i r text all at has_none so_far =
-    ap (λ (xs : List ℕ). xs ++ allowing_lines route v (drop (i + 1) rules)) (sym (append-nil text))
-    ∙ ap (λ (b : Bool). (text ++ cond b (allowing_line r.name) []) ++ allowing_lines route v (drop (i + 1) rules)) (sym has_none)
-    ∙ one_allowing route v rules i r text all at so_far
-
--- ---- numbers
+-- where an item stands, what is told of those from it on is told of it and of those behind it
+pub from_item : {A B : Type 0} (tell : List A → B) (xs : List A) (i : ℕ) (x : A) → slice_get xs i ≡ Some x
+    → tell (drop i xs) ≡ tell (x ∷ drop (i + 1) xs)
+from_item tell xs i x at =
+    at_drop_more tell xs i x (slice_get_within xs i x at)
+    ∙ ap (λ y. tell (y ∷ drop (i + 1) xs)) (get_or_from_slice_get xs i x x at)
 
 -- what one more rule of a list adds
 numbers_step : (route : AbstractRoute) (v : AbstractValue) (n : ℕ) (r : AbstractRule) (rules : List AbstractRule)
@@ -54,34 +27,43 @@ numbers_step route v n r rules = go (speaks_of route r)
     go true = refl
     go false = refl
 
-numbers_next : (route : AbstractRoute) (v : AbstractValue) (n : ℕ) (rules : List AbstractRule) (i : ℕ) (r : AbstractRule) → slice_get rules i ≡ Some r
-    → allowing (speaking route n (drop i rules)) v ≡ cond (speaks_of route r && allows r v) (n ∷ allowing (speaking route (n + 1) (drop (suc i) rules)) v) (allowing (speaking route (n + 1) (drop (suc i) rules)) v)
-numbers_next route v n [] i r at = absurd cc
-numbers_next route v n (q ∷ rules) zero r at =
-    let same : q ≡ r = ap (λ o. unwrap_or o q) at in
-    numbers_step route v n q rules
-    ∙ ap (λ (x : AbstractRule). cond (speaks_of route x && allows x v) (n ∷ allowing (speaking route (n + 1) rules) v) (allowing (speaking route (n + 1) rules) v)) same
-numbers_next route v n (q ∷ rules) (suc i) r at = numbers_next route v n rules i r at
+-- this rule comes next
+module _ (route : AbstractRoute) (v : AbstractValue) (rules : List AbstractRule) (i : ℕ) (r : AbstractRule) (at : slice_get rules i ≡ Some r) where
+  line_next : (b : Bool) → (speaks_of route r && allows r v) ≡ b
+      → allowing_lines route v (drop i rules) ≡ cond b (allowing_line r.name) [] ++ allowing_lines route v (drop (i + 1) rules)
+  line_next b is =
+      from_item (allowing_lines route v) rules i r at
+      ∙ ap (λ x. cond x (allowing_line r.name) [] ++ allowing_lines route v (drop (i + 1) rules)) is
 
--- the number of one more rule, if it allows the value
-pub one_number : (route : AbstractRoute) (v : AbstractValue) (rules : List AbstractRule) (i : ℕ) (r : AbstractRule) (done all : List ℕ) → slice_get rules i ≡ Some r
-    → (speaks_of route r && allows r v) ≡ true → done ++ allowing (speaking route i (drop i rules)) v ≡ all
-    → (done ++ i ∷ []) ++ allowing (speaking route (i + 1) (drop (i + 1) rules)) v ≡ all
-one_number route v rules i r done all at has so_far =
-    let rest : List ℕ = allowing (speaking route (i + 1) (drop (suc i) rules)) v in
-    append_assoc done (i ∷ []) (allowing (speaking route (i + 1) (drop (i + 1) rules)) v)
-    ∙ ap (λ (k : ℕ). done ++ i ∷ allowing (speaking route (i + 1) (drop k rules)) v) (add-one i)
-    ∙ ap (λ (xs : List ℕ). done ++ xs) (sym (numbers_next route v i rules i r at ∙ ap (λ (b : Bool). cond b (i ∷ rest) rest) has))
-    ∙ so_far
+  -- its line, if it allows the value
+  pub one_line : (text all : List ℕ) → (speaks_of route r && allows r v) ≡ true → text ++ allowing_lines route v (drop i rules) ≡ all
+      → (text ++ allowing_line r.name) ++ allowing_lines route v (drop (i + 1) rules) ≡ all
+  one_line text all has so_far =
+      append_assoc text (allowing_line r.name) (allowing_lines route v (drop (i + 1) rules))
+      ∙ ap (λ xs. text ++ xs) (sym (line_next true has)) ∙ so_far
 
-pub no_number : (route : AbstractRoute) (v : AbstractValue) (rules : List AbstractRule) (i : ℕ) (r : AbstractRule) (done all : List ℕ) → slice_get rules i ≡ Some r
-    → (speaks_of route r && allows r v) ≡ false → done ++ allowing (speaking route i (drop i rules)) v ≡ all
-    → done ++ allowing (speaking route (i + 1) (drop (i + 1) rules)) v ≡ all
-no_number route v rules i r done all at has_none so_far =
-    let rest : List ℕ = allowing (speaking route (i + 1) (drop (suc i) rules)) v in
-    ap (λ (k : ℕ). done ++ allowing (speaking route (i + 1) (drop k rules)) v) (add-one i)
-    ∙ ap (λ (xs : List ℕ). done ++ xs) (sym (numbers_next route v i rules i r at ∙ ap (λ (b : Bool). cond b (i ∷ rest) rest) has_none))
-    ∙ so_far
+  pub no_line : (text all : List ℕ) → (speaks_of route r && allows r v) ≡ false → text ++ allowing_lines route v (drop i rules) ≡ all
+      → text ++ allowing_lines route v (drop (i + 1) rules) ≡ all
+  no_line text all none so_far = ap (λ xs. text ++ xs) (sym (line_next false none)) ∙ so_far
+
+  numbers_next : (b : Bool) → (speaks_of route r && allows r v) ≡ b
+      → allowing (speaking route i (drop i rules)) v
+      ≡ cond b (i ∷ allowing (speaking route (i + 1) (drop (i + 1) rules)) v) (allowing (speaking route (i + 1) (drop (i + 1) rules)) v)
+  numbers_next b is =
+      let rest : List ℕ = allowing (speaking route (i + 1) (drop (i + 1) rules)) v in
+      from_item (λ xs. allowing (speaking route i xs) v) rules i r at ∙ numbers_step route v i r (drop (i + 1) rules)
+      ∙ ap (λ x. cond x (i ∷ rest) rest) is
+
+  -- its number
+  pub one_number : (done all : List ℕ) → (speaks_of route r && allows r v) ≡ true → done ++ allowing (speaking route i (drop i rules)) v ≡ all
+      → (done ++ i ∷ []) ++ allowing (speaking route (i + 1) (drop (i + 1) rules)) v ≡ all
+  one_number done all has so_far =
+      append_assoc done (i ∷ []) (allowing (speaking route (i + 1) (drop (i + 1) rules)) v)
+      ∙ ap (λ xs. done ++ xs) (sym (numbers_next true has)) ∙ so_far
+
+  pub no_number : (done all : List ℕ) → (speaks_of route r && allows r v) ≡ false → done ++ allowing (speaking route i (drop i rules)) v ≡ all
+      → done ++ allowing (speaking route (i + 1) (drop (i + 1) rules)) v ≡ all
+  no_number done all none so_far = ap (λ xs. done ++ xs) (sym (numbers_next false none)) ∙ so_far
 
 -- ---- a number that none has
 

@@ -46,7 +46,13 @@ pub struct Refusal {
 impl Refusal {
     /// The fault by which these texts, of the policy at the path and of its modules, say none, explained where that is
     /// asked for; or NoMemory without a word, where there is no memory to explain it.
-    pub fn over(alloc: Global, explain: bool, path: &str, texts: &Texts, fault: Fault) -> Refusal
+    pub(crate) fn over(
+        alloc: Global,
+        explain: bool,
+        path: &str,
+        texts: &Texts,
+        fault: Fault,
+    ) -> Refusal
         ensures { (told : Told) → AreTextsOf told path.now texts.now.policy.items
             (map string_bytes texts.now.files.items) (map (λ text. text.items) texts.now.modules.items)
             → SayNoneLoaded (map (λ text. text.items) texts.now.modules.items) texts.now.policy.items fault

@@ -48,7 +48,7 @@ pub use giving::give;
 pub use guard_report::add;
 pub use intake::read_all;
 pub use loaded::Loaded;
-pub use loading::{load, load_noted, load_numbered, read_noted};
+pub use loading::{load, load_noted, load_numbered};
 pub use octets::{add_line, drop_front};
 pub use outputs::{
     FAILED, report, tell, tell_bad_record, tell_failed_read, tell_failed_write, tell_line,

@@ -64,7 +64,7 @@ impl<'m, 'a> Loaded<'m, 'a> {
     /// The policy that the texts say, with its modules, whose trees are kept in the room.
     ///
     /// It refuses with Schema or Policy, by the first fault of the modules, or of the policy's text over them.
-    pub fn of(
+    fn of(
         alloc: Global,
         texts: &'a Texts,
         room: &'m mut Vec<Module<'a>>,

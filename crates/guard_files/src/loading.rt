@@ -69,7 +69,7 @@ pub fn load_noted<F: Files>(
 ///
 /// It refuses with CannotRead by the path at which nothing can be read, with TooLarge where the policy has more than
 /// 67,108,864 octets, and with Policy where its text lists no modules (Q1 to Q3 of its top).
-pub fn read_noted<F: Files>(
+pub(crate) fn read_noted<F: Files>(
     alloc: Global,
     path: &str,
     explain: bool,

@@ -4,7 +4,7 @@ use Rattle.std.specs.Prelude.{Option, Some}
 use Rattle.std.specs.List.{concat}
 use Rattle.std.specs.Io.KnownBytes.{Consumes}
 use Rattle.std.proofs.lemmas.List.{append-nil}
-use Rattle.std.proofs.lemmas.List.Elements.{All-cons, All-nil}
+use Rattle.std.proofs.lemmas.List.Elements.{All-cons, All-nil, All-weaker}
 use Rattle.guard_frames.proofs.Reading.{Consumes_trans}
 use Rattle.guard_files.specs.Files.{Told}
 use Rattle.guard_files.specs.Records.{record_octets}
@@ -16,7 +16,6 @@ use Rattle.guard_streams.specs.LinksCounted.{maybe_counted}
 use Rattle.guard_streams.specs.Shown.{Shown, ShowsAt}
 use Rattle.guard_streams.specs.Turns.{AbstractMux}
 use Rattle.guard_streams.specs.inside.Doing.{mux_of}
-use Rattle.guard_streams.proofs.Tallied.{all_as}
 use Rattle.guard_streams.proofs.Taking.{TakenSoFar}
 
 pub none_shown : (path : List ℕ) (first : AbstractMux) (a : Option (List ℕ)) (place : Option (List ℕ)) (s : Shown) → ShowsBetween path first a a place s s
@@ -44,7 +43,7 @@ module _ (path : List ℕ) (first : AbstractMux) (a b : Option (List ℕ)) (plac
   read_more c more read = (
     so_far.0,
     so_far.1,
-    all_as (IsShownBetween path first a b) (IsShownBetween path first a c) so_far.0 (longer c more read) so_far.2,
+    All-weaker (IsShownBetween path first a b) (IsShownBetween path first a c) (longer c more read) so_far.0 so_far.2,
   )
 
   -- once what is counted may be shown

@@ -19,8 +19,7 @@ use Rattle.guard_frames.specs.Gateways.{AbstractGateway, AbstractEvent as event,
 use Rattle.guard_frames.specs.GatewaySteps.{Step}
 use Rattle.guard_frames.specs.GatewayView.{gateway_view, gateway_ends, Took}
 use Rattle.guard_frames.specs.KeptView.{kept_octets, kept_failed}
-use Rattle.guard_frames.specs.LinkView.{AbstractLink, link_view}
-use Rattle.guard_frames.specs.LinkSteps.{Ended}
+use Rattle.guard_frames.specs.LinkView.{link_view}
 use Rattle.guard_frames.specs.Prefix.{IsProperPrefix}
 use Rattle.guard_frames.proofs.Appending.{Appends_none, Appends_trans, Prefix_first, Prefix_second}
 use Rattle.guard_frames.proofs.Elements.{All_first, All_rest}
@@ -390,15 +389,12 @@ told_err (Ok x) p f = tt
 told_err (Err e) p f = f e p
 
 -- standard error failed, and not standard output
-write_error : WriteFailed ≡ ErrorFailed → ⊥
-write_error e = absurd cc
-
 pub is_error : {P : Stop → Type 0} (r : Result (Unit {0}) Stop) → IfErr r P → ((s : Stop) → P s → s ≡ ErrorFailed)
     → r ≡ Err WriteFailed → ⊥
 is_error (Ok done) h is e = absurd cc
 is_error (Err BadRecord) h is e = absurd cc
 is_error (Err ReadFailed) h is e = absurd cc
-is_error (Err WriteFailed) h is e = write_error (is WriteFailed h)
+is_error (Err WriteFailed) h is e = absurd (cc (is WriteFailed h))
 is_error (Err ErrorFailed) h is e = absurd cc
 
 pub cut_as_error : (s : Stop) (path : List ℕ) (old : AbstractMux) (r : Record) (out err : Device) → s ≡ ErrorFailed

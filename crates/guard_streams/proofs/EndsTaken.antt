@@ -16,7 +16,7 @@ use Rattle.guard_files.specs.Records.{Record}
 use Rattle.guard_files.specs.Records.Record.{end}
 use Rattle.guard_streams.specs.declared.links.Links.{Links}
 use Rattle.guard_streams.specs.Muxing.{WritesPart, BreaksErr}
-use Rattle.guard_streams.specs.Turns.{AbstractMux, Written, InTurn, all_out, all_err, status_of, ends_left}
+use Rattle.guard_streams.specs.Turns.{Written, InTurn, all_out, all_err, status_of, ends_left}
 use Rattle.guard_streams.specs.inside.Doing.{mux_of, IsTaken, Is, AreEnded, IsEndCut}
 use Rattle.guard_streams.proofs.Turning.{one_more, all_out-more, told_more, status_of-more, after, ends_closed, ends_open, drop_there, drop_set}
 

@@ -26,18 +26,6 @@ use Rattle.guard_streams.specs.inside.Seeing.{seen_after}
 use Rattle.guard_streams.specs.inside.Noting.{noted_link, fault_note}
 use Rattle.guard_streams.proofs.Doings.{set_here, not_answered, same_answer, held_some}
 
-long_closed : ◌≡◌ {A = Result (Unit {0}) LinkFault} (Err FrameTooLong) (Err Closed) → ⊥
-long_closed e = absurd cc
-
-long_torn : ◌≡◌ {A = Result (Unit {0}) LinkFault} (Err FrameTooLong) (Err TornFrame) → ⊥
-long_torn e = absurd cc
-
-long_done : ◌≡◌ {A = Result (Unit {0}) LinkFault} (Err FrameTooLong) (Ok tt) → ⊥
-long_done e = absurd cc
-
-torn_closed : ◌≡◌ {A = Result (Unit {0}) LinkFault} (Err TornFrame) (Err Closed) → ⊥
-torn_closed e = absurd cc
-
 -- ---- one link
 
 after_piece : (s : Seen) (g : AbstractGateway) (link : ℕ) (octets : List ℕ) (l l₁ : AbstractLink)
@@ -45,7 +33,7 @@ after_piece : (s : Seen) (g : AbstractGateway) (link : ℕ) (octets : List ℕ) 
     → Fed (decision_of g.policy) l octets answer l₁ added
     → IsFaultNote (Some s) g link (event.piece link octets) answer (fault_note (Some l₁) link answer)
 after_piece s g link octets l l₁ (Ok done) added there h = refl
-after_piece s g link octets l l₁ (Err FrameTooLong) added there (inl h) = absurd (long_closed h.0.answered)
+after_piece s g link octets l l₁ (Err FrameTooLong) added there (inl h) = absurd (cc h.0.answered)
 after_piece s g link octets l l₁ (Err FrameTooLong) added there (inr h) =
     let x = h.1.0.decided in
     let os : List Outcome = x.outcomes in
@@ -64,21 +52,21 @@ after_piece s g link octets l l₁ (Err FrameTooLong) added there (inr h) =
     )
 after_piece s g link octets l l₁ (Err WriteFailed) added there h = refl
 after_piece s g link octets l l₁ (Err Closed) added there h = refl
-after_piece s g link octets l l₁ (Err TornFrame) added there (inl h) = absurd (torn_closed h.0.answered)
+after_piece s g link octets l l₁ (Err TornFrame) added there (inl h) = absurd (cc h.0.answered)
 after_piece s g link octets l l₁ (Err TornFrame) added there (inr h) = absurd h.1
 
 after_end : (s : Seen) (g : AbstractGateway) (link : ℕ) (l l₁ : AbstractLink) (answer : Result (Unit {0}) LinkFault)
     → slice_get g.links link ≡ Some l → IsUnfinished l.held → Ended l answer l₁
     → IsFaultNote (Some s) g link (event.end link) answer (fault_note (Some l₁) link answer)
 after_end s g link l l₁ (Ok done) there unfinished h = refl
-after_end s g link l l₁ (Err FrameTooLong) there unfinished (inl h) = absurd (long_closed h.answered)
+after_end s g link l l₁ (Err FrameTooLong) there unfinished (inl h) = absurd (cc h.answered)
 after_end s g link l l₁ (Err FrameTooLong) there unfinished (inr h) = elim (held_some l.held) [
-  | inl none ↦ absurd (long_done (h.whole none))
-  | inr some ↦ absurd (long_torn (h.torn some))
+  | inl none ↦ absurd (cc (h.whole none))
+  | inr some ↦ absurd (cc (h.torn some))
 ]
 after_end s g link l l₁ (Err WriteFailed) there unfinished h = refl
 after_end s g link l l₁ (Err Closed) there unfinished h = refl
-after_end s g link l l₁ (Err TornFrame) there unfinished (inl h) = absurd (torn_closed h.answered)
+after_end s g link l l₁ (Err TornFrame) there unfinished (inl h) = absurd (cc h.answered)
 after_end s g link l l₁ (Err TornFrame) there unfinished (inr h) =
     let number : next_number l.totals ≡ later (next_number l.totals) 0 = omega arith in (
       next_number l₁.totals,

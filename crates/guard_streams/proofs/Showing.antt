@@ -1,5 +1,5 @@
 -- What is shown of a run, from its beginning to its end.
-use Rattle.std.proofs.Common.{◌≡◌, ◌⊎◌, inl, inr, ℕ, Bool, true, false, List, [], ◌∷◌, ◌++◌, ◌∙◌, ap, sym, refl, subst}
+use Rattle.std.proofs.Common.{◌≡◌, ◌⊎◌, inl, inr, ℕ, Bool, true, false, List, [], ◌∷◌, ◌∙◌, ap, sym, refl, subst}
 use Rattle.std.specs.Prelude.{Result, Ok, Err, OnOk, OnErr, Option, Some}
 use Rattle.std.specs.Io.KnownBytes.{Appends}
 use Rattle.guard_policy.specs.Policies.{AbstractPolicy}
@@ -7,14 +7,14 @@ use Rattle.guard_frames.specs.declared.devices.Failed.{Failed}
 use Rattle.guard_frames.specs.declared.running.RunFault.{RunFault}
 use Rattle.guard_frames.specs.declared.running.RunFault.TheVariants.{FrameTooLong, WriteFailed, TornFrame, ReadFailed, OutOfMemory}
 use Rattle.guard_frames.specs.declared.totals.Totals.{Totals}
-use Rattle.guard_frames.specs.Added.{Added, joined}
+use Rattle.guard_frames.specs.Added.{Added}
 use Rattle.guard_frames.specs.Guarding.{Counts as Count}
 use Rattle.guard_frames.specs.Leaving.{Leaves, Watched, WatchedInPart, IsWatched}
 use Rattle.guard_frames.specs.LinkView.{AbstractLink}
 use Rattle.guard_frames.specs.OfPolicy.{decision_of, gives_of, lets_of}
 use Rattle.guard_frames.specs.Outcomes.{Decision}
 use Rattle.guard_frames.specs.Prefix.{IsProperPrefix}
-use Rattle.guard_frames.specs.Reasons.{Told, Tells, IsTold, Noted}
+use Rattle.guard_frames.specs.Reasons.{Told, Tells, IsTold}
 use Rattle.guard_frames.specs.Reasons.Told.{pauses, reads, goes, stays}
 use Rattle.guard_frames.specs.Runs.{RunsAll}
 use Rattle.guard_files.specs.Devices.{Device}
@@ -60,19 +60,13 @@ module _ (B : Type 0) (shown : B → Shown) (p : AbstractPolicy) (digest : List 
   abbrev pub Tellings : Counters B → Told → Counters B → Type 0
   Tellings = IsTelling shown
 
-  whole_counted : (old new : Counters B) (read : List ℕ) (a : Added) → Watched (decision_of p) (gives_of p) (lets_of p) Tellings old read a new →
-      AreCounted p old.counted.tally.counts a.reports new.counted.tally.counts
-  whole_counted old new read a h = (
-    whys_of h.0,
-    said _ p h.0 read a h.1,
-    ap (λ (c : AbstractCounters). c.counted.tally.counts) (counted_as B shown p digest path h.0 old new h.2) ∙ counts_from (counters_view old) h.0,
-  )
-
-  more_counted : (old new : Counters B) (a : Added) → Noted (gives_of p) (lets_of p) Tellings old a new → AreCounted p old.counted.tally.counts a.reports new.counted.tally.counts
-  more_counted old new a h = (
-    whys_of h.0,
-    said _ p h.0 [] a h.1,
-    ap (λ (c : AbstractCounters). c.counted.tally.counts) (counted_as B shown p digest path h.0 old new h.2) ∙ counts_from (counters_view old) h.0,
+  -- what was told of what was read and added
+  told_counted : (At : List ℕ → Added → Totals → Type 0) (old new : Counters B) (read : List ℕ) (a : Added) (told : List Told) →
+      Tells At (gives_of p) (lets_of p) told read a → IsTold Tellings old told new → AreCounted p old.counted.tally.counts a.reports new.counted.tally.counts
+  told_counted At old new read a told h k = (
+    whys_of told,
+    said At p told read a h,
+    ap (λ (c : AbstractCounters). c.counted.tally.counts) (counted_as B shown p digest path told old new k) ∙ counts_from (counters_view old) told,
   )
 
   -- in the end, after a failure of an output or of the reports alone
@@ -82,9 +76,9 @@ module _ (B : Type 0) (shown : B → Shown) (p : AbstractPolicy) (digest : List 
     | inl broken ↦ inl broken
     | inr (lost, e) ↦
         let more : AreCounted p h.last.counted.tally.counts h.back.reports new.counted.tally.counts =
-        subst (λ (x : Added). AreCounted p h.last.counted.tally.counts x.reports new.counted.tally.counts) e (more_counted h.last new h.told h.ahead) in
+        subst (λ (x : Added). AreCounted p h.last.counted.tally.counts x.reports new.counted.tally.counts) e (told_counted _ h.last new [] h.told h.ahead.0 h.ahead.1 h.ahead.2) in
         inr (subst (λ (x : List ℕ). AreCounted p old.counted.tally.counts x new.counted.tally.counts) (sym (ap (λ (x : Added). x.reports) h.split))
-        (counted_on p old.counted.tally.counts h.last.counted.tally.counts new.counted.tally.counts h.front.reports h.back.reports (whole_counted old h.last read h.front h.before) more))
+        (counted_on p old.counted.tally.counts h.last.counted.tally.counts new.counted.tally.counts h.front.reports h.back.reports (told_counted _ old h.last read h.front h.before.0 h.before.1 h.before.2) more))
   ]
 
   abbrev pub Begun : Counters B → Type 0
@@ -172,7 +166,7 @@ module _ (B : Type 0) (shown : B → Shown) (p : AbstractPolicy) (digest : List 
 
   ended_counts : (b w e : Counters B) (read : List ℕ) (a : Added) (t : Totals) (many : Faults) → Begun b → Whole b read a w → ShowsEnd shown t many w e → Reasons a.reports e
   ended_counts b w e read a t many start x end =
-      counts_as b w e a.reports start (ap (λ (k : AbstractCounters). k.counted.tally.counts) end.counts) (whole_counted b w read a x)
+      counts_as b w e a.reports start (ap (λ (k : AbstractCounters). k.counted.tally.counts) end.counts) (told_counted _ b w read a x.0 x.1 x.2)
 
   pub counts_all : (Broken Silent : Type 0) (b w e : Counters B) (t : Totals) (read : List ℕ) (a : Added) (result : Result (Unit {0}) RunFault) → Begun b →
       OnErr result (Broken → Silent) → IsWatched result (Whole b read a w) (InPart Broken b read a w) → IsEnded shown result t w e →

@@ -3,7 +3,7 @@ use Rattle.std.proofs.Common.{◌≡◌, inl, inr, ℕ, ◌+◌, List, [], ◌�
 use Rattle.std.specs.Prelude.{Option}
 use Rattle.std.specs.List.{All}
 use Rattle.std.proofs.lemmas.List.{append-nil}
-use Rattle.std.proofs.lemmas.List.Elements.{All-cons, All-nil}
+use Rattle.std.proofs.lemmas.List.Elements.{All-cons, All-nil, All-weaker}
 use Rattle.guard_policy.specs.Policies.{AbstractPolicy}
 use Rattle.guard_frames.specs.declared.totals.Totals.{Totals}
 use Rattle.guard_frames.specs.declared.why.Why.{Why}
@@ -157,9 +157,6 @@ paused_tally p digest path before read a t c h e =
 
 -- ---- what is shown
 
-pub all_as : {X : Type 0} (P Q : X → Type 0) (xs : List X) → ((x : X) → P x → Q x) → All P xs → All Q xs
-all_as P Q xs f h = λ k d lt. f _ (h k d lt)
-
 -- after more was read and added
 shown_longer : (p : AbstractPolicy) (digest first piece read : List ℕ) (a b c : Added) → read ≡ first ++ piece → c ≡ joined a b → (text : List ℕ) →
     IsShownOf p digest first a text → IsShownOf p digest read c text
@@ -204,7 +201,7 @@ module _ (B : Type 0) (shown : B → Shown) (p : AbstractPolicy) (digest : List 
   showed_longer : (old new : Shown) (first piece read : List ℕ) (a b c : Added) → read ≡ first ++ piece → c ≡ joined a b →
       Showed old first a new → Showed old read c new
   showed_longer old new first piece read a b c e e₁ (texts, h, each) =
-      (texts, h, all_as _ _ texts (shown_longer p digest first piece read a b c e e₁) each)
+      (texts, h, All-weaker _ _ (shown_longer p digest first piece read a b c e e₁) texts each)
 
   pub showed_on : (old new : Shown) (read : List ℕ) (a b c : Added) → c ≡ joined a b → Showed old read a new → Showed old read c new
   showed_on old new read a b c e h = showed_longer old new read [] read a b c (sym (append-nil read)) e h

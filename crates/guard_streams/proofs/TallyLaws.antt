@@ -1,17 +1,15 @@
 -- What is seen of a piece.
-use Rattle.std.proofs.Common.{◌≡◌, ℕ, zero, suc, List, [], ◌∷◌, ◌≤◌, ap, refl, drop, length, length-drop, slice_get, arith}
+use Rattle.std.proofs.Common.{◌≡◌, ℕ, List, ap, refl}
 use Rattle.std.specs.Prelude.{Option, Some, None, Result, Ok, Err}
-use Rattle.std.proofs.lemmas.Option.{same_Some, none-some}
 use Rattle.guard_policy.specs.Policies.{AbstractPolicy}
 use Rattle.guard_frames.specs.declared.link.LinkFault.{LinkFault}
 use Rattle.guard_frames.specs.declared.link.LinkFault.TheVariants.{FrameTooLong, WriteFailed, Closed, TornFrame}
-use Rattle.guard_frames.specs.declared.totals.Totals.{Totals}
 use Rattle.guard_frames.specs.Added.{Added}
 use Rattle.guard_frames.specs.LinkView.{AbstractLink}
 use Rattle.guard_streams.specs.declared.counts.Counts.{Counts}
 use Rattle.guard_streams.specs.declared.seen.Seen.{Seen}
 use Rattle.guard_streams.specs.Counted.{AreCounted}
-use Rattle.guard_streams.specs.Tallying.{both, with_links, IsSeen}
+use Rattle.guard_streams.specs.Tallying.{IsSeen}
 use Rattle.guard_streams.specs.inside.Seeing.{counts_in, known_counts, seen_after}
 
 counts_by : (p : AbstractPolicy) (answer : Result (Unit {0}) LinkFault) (old new : Counts) (reports : List ℕ)
@@ -38,18 +36,3 @@ seen_is p (Some s) answer added links counts h = (
   },
   refl,
 )
-
--- ---- the totals of all links, one after another
-
-pub link_next : (links : List AbstractLink) (i : ℕ) (l : AbstractLink) (t : Totals) → slice_get links i ≡ Some l
-    → with_links t (drop i links) ≡ with_links (both t l.totals) (drop (suc i) links)
-link_next [] i l t h = absurd (none-some l h)
-link_next (x ∷ links) zero l t h = ap (λ (y : AbstractLink). with_links (both t y.totals) links) (same_Some x l h)
-link_next (x ∷ links) (suc i) l t h = link_next links i l t h
-
-no_items : {A : Type 0} (xs : List A) → length xs ≡ 0 → xs ≡ []
-no_items [] e = refl
-no_items (x ∷ xs) e = absurd (omega (arith, e))
-
-pub none_left : (links : List AbstractLink) (i : ℕ) → length links ≤ i → drop i links ≡ []
-none_left links i past = no_items (drop i links) (omega (arith, length-drop i links, past))

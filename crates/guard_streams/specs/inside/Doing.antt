@@ -1,5 +1,5 @@
 -- What the code does of one record, with what it wrote.
-use Rattle.std.specs.Prelude.{◌≡◌, ℕ, Bool, max, true, false, List, [], ◌∷◌, ◌++◌, length, Option, Some, slice_get, slice_set, Result, Ok, Err}
+use Rattle.std.specs.Prelude.{◌≡◌, ℕ, Bool, max, true, List, [], ◌∷◌, ◌++◌, length, Option, Some, slice_get, slice_set, Result, Err}
 use Rattle.std.specs.List.{All}
 use Rattle.std.specs.Io.KnownBytes.{Appends}
 use Rattle.guard_frames.specs.declared.gateway.Gateway.{Gateway}
@@ -9,8 +9,6 @@ use Rattle.guard_frames.specs.Added.{Added, Octets}
 use Rattle.guard_frames.specs.Gateways.{AbstractEvent as event, step_answer}
 use Rattle.guard_frames.specs.GatewaySteps.{Step}
 use Rattle.guard_frames.specs.declared.link.LinkFault.{LinkFault}
-use Rattle.guard_frames.specs.declared.link.LinkFault.TheVariants as link_fault
-use Rattle.guard_frames.specs.declared.link.LinkFault.TheVariants.{FrameTooLong, Closed, TornFrame}
 use Rattle.guard_frames.specs.GatewayView.{gateway_view, gateway_ends}
 use Rattle.guard_frames.specs.KeptView.{kept_octets}
 use Rattle.guard_frames.specs.LinkView.{AbstractLink}

@@ -116,12 +116,14 @@ followed p (Some c) m told a h e =
     let s = summed p c told [] a h in (
       s.0,
       record {
-        whys = whys_of told;
-        said = said _ p told [] a h;
-        counts = s.1.counts;
-        rules = rules_in told;
-        by = are_let _ p told [] a h;
-        force = s.1.force;
+        frames = record {
+          whys = whys_of told;
+          said = said _ p told [] a h;
+          counts = s.1.counts;
+          rules = rules_in told;
+          by = are_let _ p told [] a h;
+          force = s.1.force;
+        };
         went = none_more s.0.tally.went c.tally.went (length a.out) (s.1.went 0);
         came = s.1.came;
         reloads = s.1.reloads;
@@ -148,12 +150,7 @@ is_counted p (Some c) mid answer octets added links (d, f, e) = (
   with_piece d (with_links no_frames links) (length octets) answer,
   record {
     totals = refl;
-    whys = f.whys;
-    said = f.said;
-    counts = f.counts;
-    rules = f.rules;
-    by = f.by;
-    force = f.force;
+    frames = f.frames;
     came = came_more c.tally.came d.tally.came (length octets) f.came;
     went = f.went;
     reloads = f.reloads;

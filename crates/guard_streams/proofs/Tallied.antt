@@ -133,12 +133,14 @@ tally_of At p digest path told read a t faults c h e x count =
     subst (λ (x : AbstractCounters). IsTally p digest read a faults x.counted) (sym e) (record {
       all = x;
       totals = count;
-      whys = whys_of told;
-      said = said At p told read a h;
-      counts = s.counts;
-      rules = rules_in told;
-      by = are_let At p told read a h;
-      force = s.force;
+      frames = record {
+        whys = whys_of told;
+        said = said At p told read a h;
+        counts = s.counts;
+        rules = rules_in told;
+        by = are_let At p told read a h;
+        force = s.force;
+      };
       came = s.came;
       went = s.went;
       reloads = s.reloads;

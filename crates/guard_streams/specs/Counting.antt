@@ -17,6 +17,7 @@ use Rattle.guard_frames.specs.Reasons.Told.{pauses, reads, goes, stays}
 use Rattle.guard_frames.specs.Runs.{RunsAll}
 use Rattle.guard_frames.specs.Totals.{later}
 use Rattle.guard_streams.specs.declared.counters.Counters.{Counters}
+use Rattle.guard_streams.specs.declared.counts.Counts.{Counts}
 use Rattle.guard_streams.specs.declared.faults.Faults.{Faults}
 use Rattle.guard_streams.specs.Allowed.{AreLet}
 use Rattle.guard_streams.specs.Counted.{no_counts, count_all, AreSaid}
@@ -77,18 +78,24 @@ pub record IsTelling {B : Type 0} (shown : B → Shown) (old : Counters B) (told
 
 -- ---- what is counted of a stream
 
--- All frames of what was read were decided and are out or reported, and this counts them: how many there are, why those
--- stay that do, which rules denied them, and by which rules the others go; and its link had these faults.
+-- Of the frames that added this it is counted why those stay that do, which rules denied them, and by which rules the
+-- others go.
+pub record CountsFrames (p : AbstractPolicy) (old_counts : Counts) (old_force : AbstractForce) (added : Added)
+    (new_counts : Counts) (new_force : AbstractForce) : Type 0 where
+  pub whys : List Why
+  pub said : AreSaid p whys added.reports
+  pub counts : new_counts ≡ count_all old_counts whys
+  pub rules : List ℕ
+  pub by : AreLet p rules added.out
+  pub force : new_force ≡ allow_all (deny_all old_force whys) rules
+
+-- All frames of what was read were decided and are out or reported, and this counts them, and how many there are; and its
+-- link had these faults.
 pub record IsTally (p : AbstractPolicy) (digest read : List ℕ) (added : Added) (faults : Faults) (c : AbstractCounted)
     : Type 0 where
   pub all : RunsAll (decision_of p) read added (λ rest. Unit {0})
   pub totals : Count all.outcomes c.tally.totals
-  pub whys : List Why
-  pub said : AreSaid p whys added.reports
-  pub counts : c.tally.counts ≡ count_all no_counts whys
-  pub rules : List ℕ
-  pub by : AreLet p rules added.out
-  pub force : c.force ≡ allow_all (deny_all (force_of p digest) whys) rules
+  pub frames : CountsFrames p no_counts (force_of p digest) added c.tally.counts c.force
   pub came : c.tally.came ≡ later 0 (length read)
   pub went : c.tally.went ≡ later 0 (length added.out)
   pub reloads : c.tally.reloads ≡ 0

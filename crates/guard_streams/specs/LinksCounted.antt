@@ -2,14 +2,12 @@
 use Rattle.std.specs.Prelude.{◌≡◌, ℕ, List, length, Option, Some, None, Result}
 use Rattle.guard_policy.specs.Policies.{AbstractPolicy}
 use Rattle.guard_frames.specs.declared.link.LinkFault.{LinkFault}
-use Rattle.guard_frames.specs.declared.why.Why.{Why}
 use Rattle.guard_frames.specs.Added.{Added}
 use Rattle.guard_frames.specs.LinkView.{AbstractLink}
 use Rattle.guard_frames.specs.Totals.{later, no_frames}
 use Rattle.guard_streams.specs.declared.counted.Counted.{Counted}
-use Rattle.guard_streams.specs.Allowed.{AreLet}
-use Rattle.guard_streams.specs.Counted.{count_all, AreSaid}
-use Rattle.guard_streams.specs.Counters.{AbstractCounted, AbstractForce, counted_view, force_of, deny_all, allow_all}
+use Rattle.guard_streams.specs.Counters.{AbstractCounted, AbstractForce, counted_view, force_of}
+use Rattle.guard_streams.specs.Counting.{CountsFrames}
 use Rattle.guard_streams.specs.Faults.{faulted}
 use Rattle.guard_streams.specs.Tallying.{with_links}
 
@@ -22,18 +20,12 @@ maybe_counted (Some c) = Some (counted_view c)
 abbrev pub IsMore : ℕ → ℕ → ℕ → Type 0
 IsMore old n new = later new 0 ≡ later old n
 
--- The links tell how many frames there were so far. The octets of the piece came, and those that it added went out; why
--- frames of it stay is counted, which rules denied them, and by which rules the others go; and so is the fault of its
--- link.
+-- The links tell how many frames there were so far. The octets of the piece came, and those that it added went out; its
+-- frames are counted, and so is the fault of its link.
 pub record CountsPiece (p : AbstractPolicy) (old : AbstractCounted) (answer : Result (Unit {0}) LinkFault) (octets : List ℕ)
     (added : Added) (links : List AbstractLink) (new : AbstractCounted) : Type 0 where
   pub totals : new.tally.totals ≡ with_links no_frames links
-  pub whys : List Why
-  pub said : AreSaid p whys added.reports
-  pub counts : new.tally.counts ≡ count_all old.tally.counts whys
-  pub rules : List ℕ
-  pub by : AreLet p rules added.out
-  pub force : new.force ≡ allow_all (deny_all old.force whys) rules
+  pub frames : CountsFrames p old.tally.counts old.force added new.tally.counts new.force
   pub came : IsMore old.tally.came (length octets) new.tally.came
   pub went : IsMore old.tally.went (length added.out) new.tally.went
   pub reloads : new.tally.reloads ≡ old.tally.reloads

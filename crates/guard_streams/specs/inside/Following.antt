@@ -3,16 +3,15 @@ use Rattle.std.specs.Prelude.{◌≡◌, ℕ, List, length, Option, Some, None, 
 use Rattle.guard_policy.specs.Policies.{AbstractPolicy}
 use Rattle.guard_frames.specs.declared.link.LinkFault.{LinkFault}
 use Rattle.guard_frames.specs.declared.totals.Totals.{Totals}
-use Rattle.guard_frames.specs.declared.why.Why.{Why}
 use Rattle.guard_frames.specs.Added.{Added}
 use Rattle.guard_frames.specs.LinkView.{AbstractLink}
 use Rattle.guard_frames.specs.Reasons.{Told}
 use Rattle.guard_frames.specs.Reasons.Told.{pauses, reads, goes, stays}
 use Rattle.guard_frames.specs.Totals.{later, no_frames}
 use Rattle.guard_streams.specs.declared.following.Following.{Following}
-use Rattle.guard_streams.specs.Allowed.{AreLet}
-use Rattle.guard_streams.specs.Counted.{count_told, count_all, AreSaid, AreCounted}
-use Rattle.guard_streams.specs.Counters.{AbstractCounted, counted_one, deny_all, allow_all}
+use Rattle.guard_streams.specs.Counted.{count_told, AreCounted}
+use Rattle.guard_streams.specs.Counters.{AbstractCounted, counted_one}
+use Rattle.guard_streams.specs.Counting.{CountsFrames}
 use Rattle.guard_streams.specs.Faults.{faulted}
 use Rattle.guard_streams.specs.LinksCounted.{maybe_counted, IsMore}
 use Rattle.guard_streams.specs.Tallying.{with_links}
@@ -31,12 +30,7 @@ pub record Follows (old : Following) (told : Told) (new : Following) : Type 0 wh
 
 -- what is counted of the frames that added this
 pub record Follow (p : AbstractPolicy) (old : AbstractCounted) (added : Added) (new : AbstractCounted) : Type 0 where
-  pub whys : List Why
-  pub said : AreSaid p whys added.reports
-  pub counts : new.tally.counts ≡ count_all old.tally.counts whys
-  pub rules : List ℕ
-  pub by : AreLet p rules added.out
-  pub force : new.force ≡ allow_all (deny_all old.force whys) rules
+  pub frames : CountsFrames p old.tally.counts old.force added new.tally.counts new.force
   pub went : IsMore old.tally.went (length added.out) new.tally.went
   pub came : new.tally.came ≡ old.tally.came
   pub reloads : new.tally.reloads ≡ old.tally.reloads

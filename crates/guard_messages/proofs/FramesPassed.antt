@@ -13,7 +13,7 @@ use Rattle.guard_frames.proofs.Elements.{All_none, All_more}
 use Rattle.guard_frames.proofs.Reading.{Consumes_none, Consumes_trans}
 use Rattle.guard_files.specs.Devices.{input_of}
 use Rattle.guard_files.specs.NextFrame.{IsNoFrame}
-use Rattle.guard_messages.specs.Numbered.{IsNth, HasFewer, BreaksBefore, StopsBefore}
+use Rattle.guard_messages.specs.Numbered.{BreaksBefore, StopsBefore}
 
 -- So many frames were read.
 pub record PassedSoFar (a b : Option (List ℕ)) (n : ℕ) : Type 0 where
@@ -39,27 +39,6 @@ module _ (a b : Option (List ℕ)) (n : ℕ) (so_far : PassedSoFar a b n) where
         each = All_more IsFrame so_far.frames frame so_far.each is;
         many = omega (arith, size, many, next);
       }
-
-  pub nth_is : (c : Option (List ℕ)) (y z : ℕ) (failed : Bool) (frame : List ℕ) (number : ℕ) → IsFrame frame
-      → Consumes b c frame → number ≡ n + 1 → IsNth number (input_of a c y z failed) frame
-  nth_is c y z failed frame number is read last = let many = so_far.many in record {
-    others = so_far.frames;
-    each = so_far.each;
-    number = omega (arith, many, last);
-    is = is;
-    given = Consumes_trans a b c (concat so_far.frames) frame so_far.given read;
-  }
-
-  pub has_fewer : (c : Option (List ℕ)) (y z : ℕ) (failed : Bool) (number : ℕ) → Consumes b c [] → IsAtEnd c
-      → n < number → HasFewer number (input_of a c y z failed)
-  has_fewer c y z failed number read at_end few = let many = so_far.many in record {
-    frames = so_far.frames;
-    each = so_far.each;
-    fewer = omega (arith, many, few);
-    given = subst (λ (s : List ℕ). Consumes a c s) (append-nil (concat so_far.frames))
-        (Consumes_trans a b c (concat so_far.frames) [] so_far.given read);
-    at_end = at_end;
-  }
 
   broken_before : (c : Option (List ℕ)) (y z : ℕ) (failed : Bool) (number : ℕ) (rest : List ℕ)
       (IsRest : List ℕ → Type 0) → Consumes b c rest → n < number → IsRest rest

@@ -3,8 +3,6 @@ pub mod NamedParts
 pub mod ShownAnswers
 pub mod FramesPassed
 pub mod LinkedFrames
-pub mod MessageLaws
-pub mod CapturedFrames
 pub mod Dues
 pub mod JsonNumbers
 pub mod SoundParts

@@ -1,6 +1,6 @@
 -- The frames of one link in records that are read one after another.
 use Rattle.std.proofs.Common.{◌≡◌, ◌∙◌, ◌+◌, ◌<◌, ◌≤◌, ◌^◌, ◌⊎◌, inl, inr, ℕ, Bool, List, [], ◌∷◌, ◌++◌, ap, refl, sym, subst, length, length-append, take, drop, map, arith, append_assoc}
-use Rattle.std.specs.Prelude.{Option}
+use Rattle.std.specs.Prelude.{Option, Some}
 use Rattle.std.specs.List.{concat, All}
 use Rattle.std.specs.Io.KnownBytes.{Consumes, IsAtEnd}
 use Rattle.std.proofs.lemmas.List.{append-nil, take-append-drop}
@@ -27,7 +27,7 @@ use Rattle.guard_messages.specs.declared.unfound.Unfound.TheVariants as unfound
 use Rattle.guard_messages.specs.Finding.{IsUnfound, of_stop}
 use Rattle.guard_messages.specs.Linked.{ReadsLink, IsNthOfLink}
 use Rattle.guard_messages.specs.Numbered.{IsLink, IsNumber}
-use Rattle.guard_messages.specs.Questions.{linked}
+use Rattle.guard_messages.specs.Questions.{framed}
 use Rattle.guard_messages.specs.inside.Passed.{AreFrames, Completes, Holds, IsUnlinked, Refuses, joins}
 
 -- ---- octets that are frames and a rest
@@ -98,14 +98,6 @@ module _ (link : ℕ) (r : Record) (held octets : List ℕ) (before : ℕ) (goin
       subst (λ (x : Unfound). Refuses x link r held before) (sym why)
       (going, (rest, count, few, subst (λ (s : List ℕ). AreFrames (held ++ s) count rest) are passed, long))
   piece_refuses u (inr why) = subst (λ (x : Unfound). Refuses x link r held before) (sym why) tt
-
--- the end of the link
-pub end_refuses : (u : Unfound) (link : ℕ) (r : Record) (held : List ℕ) (before : ℕ) → r ≡ end link
-    → ((u ≡ unfound.NoSuchFrame) × (held ≡ [])) ⊎ ((u ≡ unfound.Faulty (Run TornFrame)) × (0 < length held)) → Refuses u link r held before
-end_refuses u link r held before is (inl (why, none)) =
-    subst (λ (x : Unfound). Refuses x link r held before) (sym why) (is, none)
-end_refuses u link r held before is (inr (why, some)) =
-    subst (λ (x : Unfound). Refuses x link r held before) (sym why) (is, some)
 
 -- The records so far, and what is held of the link.
 pub record LinkedSoFar (link n : ℕ) (a b : Option (List ℕ)) (held : List ℕ) (before : ℕ) : Type 0 where
@@ -260,7 +252,7 @@ module _ (link n : ℕ) (a b : Option (List ℕ)) (held : List ℕ) (before : �
 -- ---- what is answered for it
 
 pub unlinked_is : (u : Unfound) (told : Told) (number word : List ℕ) (link n : ℕ) (input : Input) → IsLink number link → IsNumber word n
-    → IsUnlinked link n input u → IsUnfound told (linked number word) input u
+    → IsUnlinked link n input u → IsUnfound told (framed word (Some number)) input u
 unlinked_is unfound.NoSuchFrame told number word link n input first second h = (link, first, inr (n, second, h))
 unlinked_is (unfound.Faulty (Run f)) told number word link n input first second h = inl (link, n, first, second, h)
 unlinked_is unfound.BadRecord told number word link n input first second h = (link, n, first, second, h)

@@ -6,7 +6,7 @@ use Rattle.guard_policy.specs.Policies.{AbstractPolicy, AbstractRoute}
 use Rattle.guard_policy.specs.Verdicts.{AbstractVerdict, pass, unknown_message, undecodable, outside_type, denied_by, not_allowed, no_rule}
 use Rattle.guard_policy.specs.Decisions.{IsReason}
 use Rattle.guard_report.specs.Text.{verdict_octets}
-use Rattle.guard_notes.specs.Sources.{AbstractSources, sources}
+use Rattle.guard_notes.specs.Sources.{sources}
 use Rattle.guard_frames.specs.Bodies.{AbstractBody}
 use Rattle.guard_frames.specs.OfPolicy.{route_of}
 use Rattle.guard_frames.specs.Texts.{SayPolicy}
@@ -14,7 +14,7 @@ use Rattle.guard_files.specs.Explaining.{AreTextsOf}
 use Rattle.guard_files.specs.Files.{Told}
 use Rattle.guard_files.specs.Answers.{AbstractAnswer}
 use Rattle.guard_messages.specs.HeaderNotes.{spot_note}
-use Rattle.guard_messages.specs.Questions.{AbstractSpot}
+use Rattle.guard_messages.specs.Questions.{AbstractQuestion, AbstractSpot}
 use Rattle.guard_messages.specs.Reasons.{NotesVerdict}
 use Rattle.guard_messages.specs.RuleTypes.{AbstractGrounds}
 
@@ -40,18 +40,16 @@ abbrev pub OfHeld : (AbstractRoute → List ℕ → AbstractAnswer → Type 0) �
 OfHeld IsAnswer (Some b) a = IsAnswer (route_of b) b.message_octets a
 OfHeld IsAnswer None a = (a.out ≡ codes "bad-header\n") × (a.status ≡ 1)
 
--- the verdict on it, under the policy that these texts say, over the trees that those of the modules are; and below it
--- the names in the octets of a frame, or why they aren't there
-abbrev pub IsDecidedOver : Bool → AbstractSources → List ℕ → AbstractSpot → Option AbstractBody → List ℕ → AbstractAnswer
-    → Type 0
-IsDecidedOver explain s text spot held octets a =
-    (p : AbstractPolicy) × (ms : List WrittenModule) × (verdict : AbstractAnswer) × SayPolicy s.modules text p
-    × ReadsModules s.modules (Ok ms)
-    × OfHeld (IsVerdict explain (record { sources = s; modules = ms }) p) held verdict
+-- the verdict on it, and below it the names in the octets of a frame, or why they aren't there
+abbrev pub IsDecidedOver : Bool → AbstractGrounds → AbstractPolicy → AbstractSpot → Option AbstractBody → List ℕ
+    → AbstractAnswer → Type 0
+IsDecidedOver explain g p spot held octets a =
+    (verdict : AbstractAnswer) × OfHeld (IsVerdict explain g p) held verdict
     × (a.out ≡ verdict.out ++ spot_note explain spot held octets) × (a.status ≡ verdict.status)
 
--- under the policy at the path, over the texts that say it
-abbrev pub IsHeldDecided : Bool → Told → List ℕ → AbstractSpot → Option AbstractBody → List ℕ → AbstractAnswer → Type 0
-IsHeldDecided explain told path spot held octets a =
-    (text : List ℕ) × (files : List (List ℕ)) × (modules : List (List ℕ)) × AreTextsOf told path text files modules
-    × IsDecidedOver explain (sources path files modules) text spot held octets a
+-- under the policy at the path, over the texts that say it and the trees that those of the modules are
+abbrev pub IsHeldDecided : AbstractQuestion → Told → AbstractSpot → Option AbstractBody → List ℕ → AbstractAnswer → Type 0
+IsHeldDecided q told spot held octets a =
+    (text : List ℕ) × (files : List (List ℕ)) × (modules : List (List ℕ)) × (p : AbstractPolicy) × (ms : List WrittenModule)
+    × AreTextsOf told q.policy text files modules × SayPolicy modules text p × ReadsModules modules (Ok ms)
+    × IsDecidedOver q.explain (record { sources = sources q.policy files modules; modules = ms }) p spot held octets a

@@ -11,15 +11,14 @@ use Rattle.guard_files.specs.Reading.{IsPolicyAt}
 use Rattle.guard_files.specs.Writing.{TellsText}
 use Rattle.guard_messages.specs.Decided.{IsHeldDecided}
 use Rattle.guard_messages.specs.Finding.{AnswersFound, CapturesFrame}
-use Rattle.guard_messages.specs.Questions.{AbstractQuestion, AbstractSpot, written, kept, framed, linked, asked_route, decide_spot, show_spot}
+use Rattle.guard_messages.specs.Questions.{AbstractQuestion, AbstractSpot, written, kept, framed, asked_route, decide_spot, show_spot}
 use Rattle.guard_messages.specs.Shown.{ShowsHeld}
 
 -- the message that the octets at a spot are on this route, or that they hold as the body of a frame
 abbrev pub held_in : AbstractRoute → AbstractSpot → List ℕ → Option AbstractBody
 held_in route (written digits) octets = Some (route_body route octets)
 held_in route (kept path) octets = Some (route_body route octets)
-held_in route (framed number) octets = body_in octets
-held_in route (linked link number) octets = body_in octets
+held_in route (framed number link) octets = body_in octets
 
 -- what is reported where the words don't say where a message is
 abbrev pub unasked : List ℕ
@@ -32,21 +31,16 @@ TellsUnasked input out err status = IsUnread input × IsUntouched out × TellsTe
 
 -- ---- decide
 
--- of the message that these octets hold, by whether it is to be explained
-abbrev pub GivesHeld : Bool → Told → List ℕ → AbstractSpot → Option AbstractBody → List ℕ → Device → Device → ℕ
-    → Type 0
-GivesHeld explain told path spot held octets =
-    Gives (IsHeldDecided explain told path spot held octets) (IsNoPolicyWith explain told path)
-
 abbrev pub DecidesAt : Option AbstractSpot → Told → AbstractQuestion → Input → Device → Device → ℕ → Type 0
-DecidesAt (Some spot) told q input out err status =
+DecidesAt (Some spot) told q =
     AnswersFound q.explain
-    (λ later octets. GivesHeld q.explain later q.policy spot (held_in (asked_route q) spot octets) octets)
-    told spot input out err status
-DecidesAt None told q input out err status = TellsUnasked input out err status
+    (λ later octets. Gives (IsHeldDecided q later spot (held_in (asked_route q) spot octets) octets)
+    (IsNoPolicyWith q.explain later q.policy))
+    told spot
+DecidesAt None told q = TellsUnasked
 
 abbrev pub Decides : Told → AbstractQuestion → Input → Device → Device → ℕ → Type 0
-Decides told q input out err status = DecidesAt (decide_spot q) told q input out err status
+Decides told q = DecidesAt (decide_spot q) told q
 
 -- ---- show
 
@@ -56,22 +50,19 @@ IsHeldShown q told held a =
     (p : AbstractPolicy) × IsPolicyAt told q.policy p × ShowsHeld q.json q.explain p held a
 
 abbrev pub ShowsAt : Option AbstractSpot → Told → AbstractQuestion → Input → Device → Device → ℕ → Type 0
-ShowsAt (Some spot) told q input out err status =
+ShowsAt (Some spot) told q =
     AnswersFound false
-    (λ later octets. Gives (IsHeldShown q later (held_in (asked_route q) spot octets))
-    (IsNoPolicyWith false later q.policy))
-    told spot input out err status
-ShowsAt None told q input out err status = TellsUnasked input out err status
+    (λ later octets. Gives (IsHeldShown q later (held_in (asked_route q) spot octets)) (IsNoPolicyWith false later q.policy))
+    told spot
+ShowsAt None told q = TellsUnasked
 
 -- ---- the frame itself, which no policy and no file is asked for
 
 abbrev pub CapturesAt : Option AbstractSpot → Told → Input → Device → Device → ℕ → Type 0
-CapturesAt (Some (framed word)) told input out err status = CapturesFrame told (framed word) input out err status
-CapturesAt (Some (linked number word)) told input out err status =
-    CapturesFrame told (linked number word) input out err status
-CapturesAt (Some (written digits)) told input out err status = TellsUnasked input out err status
-CapturesAt (Some (kept path)) told input out err status = TellsUnasked input out err status
-CapturesAt None told input out err status = TellsUnasked input out err status
+CapturesAt (Some (framed word link)) told = CapturesFrame told (framed word link)
+CapturesAt (Some (written digits)) told = TellsUnasked
+CapturesAt (Some (kept path)) told = TellsUnasked
+CapturesAt None told = TellsUnasked
 
 -- by whether the frame itself is asked for
 abbrev pub ShowsBy : Bool → Told → AbstractQuestion → Input → Device → Device → ℕ → Type 0
@@ -79,4 +70,4 @@ ShowsBy true told q = CapturesAt (show_spot q) told
 ShowsBy false told q = ShowsAt (show_spot q) told q
 
 abbrev pub ShowsAsked : Told → AbstractQuestion → Input → Device → Device → ℕ → Type 0
-ShowsAsked told q input out err status = ShowsBy q.capture told q input out err status
+ShowsAsked told q = ShowsBy q.capture told q

@@ -1,5 +1,5 @@
 -- The octets of a message that is written, is in a file or comes in, and why they can't be had.
-use Rattle.std.specs.Prelude.{◌≡◌, ◌<◌, ◌≤◌, ◌⊎◌, ℕ, Bool, true, false, List, [], codes, bytes_eq, drop, length, string_bytes, Ok, Err}
+use Rattle.std.specs.Prelude.{◌≡◌, ◌<◌, ◌≤◌, ◌⊎◌, ℕ, Bool, true, false, List, [], codes, bytes_eq, drop, length, string_bytes, Some, None, Ok, Err}
 use Rattle.hex.specs.Hex.{decode_of}
 use Rattle.hex.specs.declared.error.FromHexError.{FromHexError}
 use Rattle.guard_frames.specs.declared.running.RunFault.{RunFault}
@@ -16,7 +16,7 @@ use Rattle.guard_messages.specs.declared.unfound.Unfound.{Unfound}
 use Rattle.guard_messages.specs.declared.unfound.Unfound.TheVariants.{BadHex, Faulty, TooLong, NoSuchLink, NoSuchFrame, BadRecord}
 use Rattle.guard_messages.specs.Linked.{IsNthOfLink, EndsBefore, IsTornBefore, IsTooLongBefore, IsBadBefore, IsLostBefore}
 use Rattle.guard_messages.specs.Numbered.{IsLink, IsNumber, IsNth, HasFewer, StopsBefore}
-use Rattle.guard_messages.specs.Questions.{AbstractSpot, written, kept, framed, linked}
+use Rattle.guard_messages.specs.Questions.{AbstractSpot, written, kept, framed}
 
 -- ---- all that is at a path
 
@@ -40,29 +40,24 @@ IsNotKeptBy false told path input _ = ⊥
 
 -- the frame of what comes in, its length octets included
 abbrev pub IsFrameAt : AbstractSpot → Input → List ℕ → Type 0
-IsFrameAt (framed word) input frame = (n : ℕ) × IsNumber word n × IsNth n input frame
-IsFrameAt (linked number word) input frame =
+IsFrameAt (framed word None) input frame = (n : ℕ) × IsNumber word n × IsNth n input frame
+IsFrameAt (framed word (Some number)) input frame =
     (link : ℕ) × (n : ℕ) × IsLink number link × IsNumber word n × IsNthOfLink link n input frame
 IsFrameAt _ input frame = ⊥
-
--- what follows the length of the frame
-abbrev pub IsBodyAt : AbstractSpot → Input → List ℕ → Type 0
-IsBodyAt spot input octets = (frame : List ℕ) × IsFrameAt spot input frame × (octets ≡ drop 4 frame)
 
 -- A message has 1,048,576 octets at most. Of a frame they are those behind its length.
 abbrev pub IsFound : Told → AbstractSpot → Input → List ℕ → Told → Type 0
 IsFound told (written digits) input octets later = (decode_of digits ≡ Ok octets) × (later ≡ told)
 IsFound told (kept path) input octets later =
     IsKeptBy (is_input path) told path input octets later × (length octets ≤ 1048576)
-IsFound told (framed word) input octets later = IsBodyAt (framed word) input octets × (later ≡ told)
-IsFound told (linked number word) input octets later = IsBodyAt (linked number word) input octets × (later ≡ told)
+IsFound told (framed word link) input octets later =
+    (frame : List ℕ) × IsFrameAt (framed word link) input frame × (octets ≡ drop 4 frame) × (later ≡ told)
 
 -- nothing is read for digits
 abbrev pub LeavesInput : AbstractSpot → Input → Type 0
 LeavesInput (written digits) input = IsUnread input
 LeavesInput (kept path) input = Unit {0}
-LeavesInput (framed word) input = Unit {0}
-LeavesInput (linked number word) input = Unit {0}
+LeavesInput (framed word link) input = Unit {0}
 
 -- the digits write none
 abbrev pub IsBadHexAt : AbstractSpot → Type 0
@@ -76,14 +71,14 @@ IsTooLongAt told _ input = ⊥
 
 -- the word is no number of a link
 abbrev pub HasNoSuchLink : AbstractSpot → Input → Type 0
-HasNoSuchLink (linked number word) input = ((link : ℕ) → IsLink number link → ⊥) × IsUnread input
+HasNoSuchLink (framed word (Some number)) input = ((link : ℕ) → IsLink number link → ⊥) × IsUnread input
 HasNoSuchLink _ input = ⊥
 
 -- the word is no number of a frame, or there are fewer frames
 abbrev pub HasNoSuchFrame : AbstractSpot → Input → Type 0
-HasNoSuchFrame (framed word) input =
+HasNoSuchFrame (framed word None) input =
     (((n : ℕ) → IsNumber word n → ⊥) × IsUnread input) ⊎ ((n : ℕ) × IsNumber word n × HasFewer n input)
-HasNoSuchFrame (linked number word) input =
+HasNoSuchFrame (framed word (Some number)) input =
     (link : ℕ) × IsLink number link
     × ((((n : ℕ) → IsNumber word n → ⊥) × IsUnread input) ⊎ ((n : ℕ) × IsNumber word n × EndsBefore link n input []))
 HasNoSuchFrame _ input = ⊥
@@ -97,14 +92,14 @@ StopsLink _ link n input = ⊥
 
 abbrev pub IsFaultyAt : Told → AbstractSpot → Input → Fault → Type 0
 IsFaultyAt told (kept path) input f = IsNotKeptBy (is_input path) told path input f
-IsFaultyAt told (framed word) input (Run f) = (n : ℕ) × IsNumber word n × StopsBefore f n input
-IsFaultyAt told (linked number word) input (Run f) =
+IsFaultyAt told (framed word None) input (Run f) = (n : ℕ) × IsNumber word n × StopsBefore f n input
+IsFaultyAt told (framed word (Some number)) input (Run f) =
     (link : ℕ) × (n : ℕ) × IsLink number link × IsNumber word n × StopsLink f link n input
 IsFaultyAt told _ input _ = ⊥
 
 -- what comes in is no record, or is cut short
 abbrev pub IsBadAt : AbstractSpot → Input → Type 0
-IsBadAt (linked number word) input =
+IsBadAt (framed word (Some number)) input =
     (link : ℕ) × (n : ℕ) × IsLink number link × IsNumber word n × IsBadBefore link n input
 IsBadAt _ input = ⊥
 

@@ -4,7 +4,7 @@ use Rattle.std.specs.Prelude.{ℕ, Bool, true, false, ◌||◌, List, [], ◌∷
 use Rattle.hex.specs.Hex.{encode_upper}
 use Rattle.guard_policy.specs.Names.{is_name}
 use Rattle.guard_frames.specs.Bodies.{AbstractBody}
-use Rattle.guard_messages.specs.Questions.{AbstractSpot, written, kept, framed, linked}
+use Rattle.guard_messages.specs.Questions.{AbstractSpot, written, kept, framed}
 
 -- the first octet that is no name where it stands alone, as each octet of a name is
 abbrev pub first_other : List ℕ → Option ℕ
@@ -81,5 +81,4 @@ abbrev pub spot_note : Bool → AbstractSpot → Option AbstractBody → List �
 spot_note false spot held octets = []
 spot_note true (written digits) held octets = []
 spot_note true (kept path) held octets = []
-spot_note true (framed number) held octets = frame_note held octets
-spot_note true (linked link number) held octets = frame_note held octets
+spot_note true (framed number link) held octets = frame_note held octets

@@ -49,10 +49,8 @@ pub data AbstractSpot : Type 0 where
   written : List ℕ → AbstractSpot
   -- all that is at this path
   kept : List ℕ → AbstractSpot
-  -- in the frame of this number
-  framed : List ℕ → AbstractSpot
-  -- in that of the link of this number, the link first
-  linked : List ℕ → List ℕ → AbstractSpot
+  -- in the frame of this number, of the link of the second one if that is given
+  framed : List ℕ → Option (List ℕ) → AbstractSpot
 
 -- the one of the two that is given
 abbrev pub octets_spot : Option (List ℕ) → Option (List ℕ) → Option AbstractSpot
@@ -61,17 +59,13 @@ octets_spot None (Some path) = Some (kept path)
 octets_spot (Some digits) None = Some (written digits)
 octets_spot (Some digits) (Some path) = None
 
-abbrev pub frame_spot : List ℕ → Option (List ℕ) → AbstractSpot
-frame_spot number None = framed number
-frame_spot number (Some link) = linked link number
-
 -- By whether all names are given that the command takes, and whether some are: HEX or `--der` comes with all of them,
 -- `--frame` with none, and `--link` with `--frame`. Other words don't say where, or say more than one place.
 abbrev pub spot_by : Bool → Bool → Option (List ℕ) → Option (List ℕ) → Option (List ℕ) → Option (List ℕ)
     → Option AbstractSpot
 spot_by all some None link hex der = if all && is_none link then octets_spot hex der else None
 spot_by all some (Some number) link hex der =
-    if some || is_some hex || is_some der then None else Some (frame_spot number link)
+    if some || is_some hex || is_some der then None else Some (framed number link)
 
 -- `decide` takes all three names
 abbrev pub decide_spot : AbstractQuestion → Option AbstractSpot
@@ -88,5 +82,4 @@ show_spot q = spot_by (is_some q.message) (is_some q.message) q.frame q.link q.h
 abbrev pub spot_view : Spot → AbstractSpot
 spot_view (code.Written digits) = written digits.now
 spot_view (code.Kept path) = kept path.now
-spot_view (code.Framed number) = framed number.now
-spot_view (code.Linked link number) = linked link.now number.now
+spot_view (code.Framed number link) = framed number.now (option_map (λ link. link.now) link)

@@ -1,23 +1,23 @@
 //! What becomes of one message.
 ghost use Rattle.std.specs.Prelude.{◌≡◌, map, option_map, string_bytes, IfOk, IfErr};
+ghost use Rattle.guard_syntax.specs.ModuleViews.{module_view};
 ghost use Rattle.guard_policy.specs.PolicyView.{policy_view, route_view};
 ghost use Rattle.guard_policy.specs.Verdicts.{verdict_view};
 ghost use Rattle.guard_frames.specs.Bodies.{body_view};
 ghost use Rattle.guard_notes.specs.Sources.{sources};
 ghost use Rattle.guard_files.specs.Answers.{answer_view};
 ghost use Rattle.guard_files.specs.Explaining.{IsNoPolicyWith};
-ghost use Rattle.guard_files.specs.Reading.{SayNoneLoaded};
 ghost use Rattle.guard_messages.specs.Decided.{verdict_status, IsVerdict, OfHeld};
 ghost use Rattle.guard_messages.specs.Decided.{IsDecidedOver, IsHeldDecided};
-ghost use Rattle.guard_messages.specs.Questions.{spot_view};
+ghost use Rattle.guard_messages.specs.Questions.{question_view, spot_view};
 ghost use Rattle.guard_messages.specs.RuleTypes.{grounds_view};
 
 use crate::header_notes::spot_note;
 use crate::holding::bad_header;
-use crate::question::Spot;
+use crate::question::{Question, Spot};
 use crate::reasons::verdict_note;
 use crate::rule_types::Grounds;
-use guard_files::{Answer, Fault, Files, Loaded, Refusal, Texts, add, read_noted, sources_of};
+use guard_files::{Answer, Fault, Files, Loaded, Refusal, add, sources_of};
 use guard_frames::{Body, route_of};
 use guard_model::OutOfMemory;
 use guard_policy::{Policy, Route, Verdict};
@@ -28,46 +28,47 @@ use std::alloc::Global;
 /// are explained where that is asked for.
 pub fn decide_held<F: Files>(
     alloc: Global,
-    path: &str,
-    explain: bool,
+    question: &Question,
     spot: &Spot,
     held: Option<Body>,
     octets: &[u8],
     files: &mut F,
 ) -> Result<Answer, Refusal>
-    ensures decided { IfOk result (λ a. IsHeldDecided explain (F.told files.old) path.now (spot_view spot.now)
-        (option_map body_view held.entry) octets.now (answer_view a)) }
-    ensures none { IfErr result (λ r. IsNoPolicyWith explain (F.told files.old) path.now r.fault
-        (string_bytes r.note)) }
+    ensures decided { IfOk result (λ a. IsHeldDecided (question_view question.now) (F.told files.old)
+        (spot_view spot.now) (option_map body_view held.entry) octets.now (answer_view a)) }
+    ensures none { IfErr result (λ r. IsNoPolicyWith (question_view question.now).explain (F.told files.old)
+        (question_view question.now).policy r.fault (string_bytes r.note)) }
 {
-    let texts = read_noted(alloc, path, explain, files)?;
-    match decided_over(alloc, path, explain, spot, held, octets, &texts) {
+    let (mut texts, mut trees) = (None, Vec::new(alloc));
+    let (path, explain) = (question.policy, question.explain);
+    let loaded = Loaded::at(alloc, path, explain, files, &mut texts, &mut trees)?;
+    match decided_over(alloc, path, explain, &loaded, spot, held, octets) {
         Ok(answer) => Ok(answer),
-        Err(fault) => Err(Refusal::over(alloc, explain, path, &texts, fault)),
+        Err(_) => Err(Refusal::plain(alloc, Fault::NoMemory)),
     }
 }
 
-/// The verdict over these texts, or why they say no policy.
+/// The verdict under this policy of the path, and what explains it.
 fn decided_over(
     alloc: Global,
     path: &str,
     explain: bool,
+    loaded: &Loaded,
     spot: &Spot,
     held: Option<Body>,
     octets: &[u8],
-    texts: &Texts,
-) -> Result<Answer, Fault>
-    ensures decided { IfOk result (λ a. IsDecidedOver explain
-        (sources path.now (map string_bytes texts.now.files.items)
-        (map (λ text. text.items) texts.now.modules.items))
-        texts.now.policy.items (spot_view spot.now) (option_map body_view held.entry) octets.now (answer_view a)) }
-    ensures none { IfErr result (SayNoneLoaded
-        (map (λ text. text.items) texts.now.modules.items) texts.now.policy.items) }
+) -> Result<Answer, OutOfMemory>
+    ensures { IfOk result (λ a. IsDecidedOver explain
+        (record {
+          sources = sources path.now (map string_bytes loaded.now.texts.now.files.items)
+              (map (λ text. text.items) loaded.now.texts.now.modules.items);
+          modules = map module_view loaded.now.trees.now;
+        })
+        (policy_view loaded.now.policy) (spot_view spot.now) (option_map body_view held.entry) octets.now
+        (answer_view a)) }
 {
-    let mut trees = Vec::new(alloc);
-    let loaded = Loaded::of(alloc, texts, &mut trees)?;
     let grounds = Grounds {
-        sources: sources_of(path, texts),
+        sources: sources_of(path, loaded.texts),
         modules: loaded.trees,
     };
     let verdict = verdict_answer(alloc, explain, &grounds, &loaded.policy, held)?;

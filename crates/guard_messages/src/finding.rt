@@ -1,11 +1,11 @@
 //! The octets of a message that is written, is in a file or comes in.
-ghost use Rattle.std.specs.Prelude.{◌≡◌, ◌⊎◌, IfOk, IfErr};
+ghost use Rattle.std.specs.Prelude.{◌≡◌, ◌≤◌, ◌⊎◌, None, Some, length, option_map, IfOk, IfErr};
 ghost use Rattle.guard_files.specs.Devices.{Input, source_of};
 ghost use Rattle.guard_files.specs.Files.{Told};
 ghost use Rattle.guard_files.specs.declared.fault.Fault.TheVariants.{NoMemory};
 ghost use Rattle.guard_messages.specs.Finding.{is_input, IsFrameAt, IsKeptBy, IsNotKeptBy, IsFound, IsUnfound};
 ghost use Rattle.guard_messages.specs.Finding.{LeavesInput};
-ghost use Rattle.guard_messages.specs.Questions.{spot_view, written, kept, framed, linked};
+ghost use Rattle.guard_messages.specs.Questions.{spot_view, written, kept, framed};
 
 use crate::linked::linked_frame;
 use crate::numbered::{link_in, nth_frame, number_in};
@@ -35,8 +35,7 @@ pub fn find<F: Files, S: Source>(
     match spot {
         Spot::Written(digits) => written_octets(alloc, digits),
         Spot::Kept(path) => kept_octets(alloc, path, files, input),
-        Spot::Framed(number) => framed_octets(alloc, number, input),
-        Spot::Linked(link, number) => linked_octets(alloc, link, number, input),
+        Spot::Framed(number, link) => framed_octets(alloc, number, *link, input),
     }
 }
 
@@ -91,28 +90,51 @@ fn all_at<F: Files, S: Source>(
     }
 }
 
-/// What follows the length of the frame of this number.
-fn framed_octets<S: Source>(alloc: Global, word: &str, input: &mut S) -> Result<Vec<u8>, Unfound>
-    ensures found { (told : Told) → IfOk result (λ octets. IsFound told (framed word.now)
+/// What follows the length of the frame of this number, of the link if that is given.
+fn framed_octets<S: Source>(
+    alloc: Global,
+    word: &str,
+    link: Option<&str>,
+    input: &mut S,
+) -> Result<Vec<u8>, Unfound>
+    ensures found { (told : Told) → IfOk result (λ octets.
+        IsFound told (framed word.now (option_map (λ link. link.now) link.entry))
         (source_of S.tells S.takes S.has_failed input.old input.new) octets.items told) }
-    ensures unfound { (told : Told) → IfErr result (IsUnfound told (framed word.now)
+    ensures unfound { (told : Told) → IfErr result
+        (IsUnfound told (framed word.now (option_map (λ link. link.now) link.entry))
         (source_of S.tells S.takes S.has_failed input.old input.new)) }
 {
-    match frame_of_number(alloc, word, input) {
+    match frame_at(alloc, word, link, input) {
         Ok(frame) => Ok(copied(alloc, &frame[LENGTH_OCTETS..])?),
         Err(none) => Err(none),
     }
 }
 
-/// The frame of this number, its length octets included.
-pub fn frame_of_number<S: Source>(
+/// The frame of this number, of the link if that is given, its length octets included.
+pub fn frame_at<S: Source>(
     alloc: Global,
     word: &str,
+    link: Option<&str>,
     input: &mut S,
 ) -> Result<Vec<u8>, Unfound>
-    ensures frame { IfOk result (λ frame. IsFrameAt (framed word.now)
+    ensures frame { IfOk result (λ frame. IsFrameAt (framed word.now (option_map (λ link. link.now) link.entry))
         (source_of S.tells S.takes S.has_failed input.old input.new) frame.items) }
-    ensures unfound { (told : Told) → IfErr result (IsUnfound told (framed word.now)
+    ensures long { IfOk result (λ frame. 4 ≤ length frame.items) }
+    ensures unfound { (told : Told) → IfErr result
+        (IsUnfound told (framed word.now (option_map (λ link. link.now) link.entry))
+        (source_of S.tells S.takes S.has_failed input.old input.new)) }
+{
+    match link {
+        None => frame_of_number(alloc, word, input),
+        Some(link) => frame_of_link(alloc, link, word, input),
+    }
+}
+
+/// The frame of this number, its length octets included.
+fn frame_of_number<S: Source>(alloc: Global, word: &str, input: &mut S) -> Result<Vec<u8>, Unfound>
+    ensures frame { IfOk result (λ frame. IsFrameAt (framed word.now None)
+        (source_of S.tells S.takes S.has_failed input.old input.new) frame.items) }
+    ensures unfound { (told : Told) → IfErr result (IsUnfound told (framed word.now None)
         (source_of S.tells S.takes S.has_failed input.old input.new)) }
 {
     let Some(number) = number_in(word) else {
@@ -126,34 +148,16 @@ pub fn frame_of_number<S: Source>(
     }
 }
 
-/// What follows the length of the frame of this number of the link.
-fn linked_octets<S: Source>(
-    alloc: Global,
-    number: &str,
-    word: &str,
-    input: &mut S,
-) -> Result<Vec<u8>, Unfound>
-    ensures found { (told : Told) → IfOk result (λ octets. IsFound told (linked number.now word.now)
-        (source_of S.tells S.takes S.has_failed input.old input.new) octets.items told) }
-    ensures unfound { (told : Told) → IfErr result (IsUnfound told (linked number.now word.now)
-        (source_of S.tells S.takes S.has_failed input.old input.new)) }
-{
-    match frame_of_link(alloc, number, word, input) {
-        Ok(frame) => Ok(copied(alloc, &frame[LENGTH_OCTETS..])?),
-        Err(none) => Err(none),
-    }
-}
-
 /// The frame of this number of the link, its length octets included.
-pub fn frame_of_link<S: Source>(
+fn frame_of_link<S: Source>(
     alloc: Global,
     number: &str,
     word: &str,
     input: &mut S,
 ) -> Result<Vec<u8>, Unfound>
-    ensures frame { IfOk result (λ frame. IsFrameAt (linked number.now word.now)
+    ensures frame { IfOk result (λ frame. IsFrameAt (framed word.now (Some number.now))
         (source_of S.tells S.takes S.has_failed input.old input.new) frame.items) }
-    ensures unfound { (told : Told) → IfErr result (IsUnfound told (linked number.now word.now)
+    ensures unfound { (told : Told) → IfErr result (IsUnfound told (framed word.now (Some number.now))
         (source_of S.tells S.takes S.has_failed input.old input.new)) }
 {
     let Some(link) = link_in(number) else {

@@ -1,11 +1,11 @@
 //! What is shown of the body of a frame: its names, or why they aren't there.
-ghost use Rattle.std.specs.Prelude.{◌≡◌, ◌++◌, codes, map, option_map, string_bytes, take, IfOk, OnOk};
+ghost use Rattle.std.specs.Prelude.{◌≡◌, ◌++◌, map, option_map, string_bytes, take, IfOk, OnOk};
 ghost use Rattle.guard_frames.specs.Bodies.{body_view};
-ghost use Rattle.guard_messages.specs.HeaderNotes.{behind_name, cut_text, end_text, first_other, frame_note};
+ghost use Rattle.guard_messages.specs.HeaderNotes.{behind_name, cut_text, first_other, frame_note};
 ghost use Rattle.guard_messages.specs.HeaderNotes.{spot_note};
 ghost use Rattle.guard_messages.specs.Questions.{spot_view};
 ghost use Rattle.guard_messages.specs.HeaderNotes.{length_text, name_at, name_line, name_lines, octets_line};
-ghost use Rattle.guard_messages.specs.HeaderNotes.{other_text, parts, unnamed, unnamed_of, why_line};
+ghost use Rattle.guard_messages.specs.HeaderNotes.{other_text, unnamed, unnamed_of, why_line};
 
 use crate::question::Spot;
 use guard_files::add;
@@ -37,7 +37,7 @@ pub fn spot_note(
     }
     match spot {
         Spot::Written(_) | Spot::Kept(_) => Ok(Vec::new(alloc)),
-        Spot::Framed(_) | Spot::Linked(_, _) => frame_note(alloc, held, octets),
+        Spot::Framed(_, _) => frame_note(alloc, held, octets),
     }
 }
 
@@ -113,11 +113,7 @@ fn add_octets(alloc: Global, note: &mut Vec<u8>, body: &[u8]) -> Result<(), OutO
 fn front(octets: &[u8], most: usize) -> &[u8]
     ensures { result.now ≡ take most octets.now }
 {
-    if octets.len() > most {
-        &octets[..most]
-    } else {
-        octets
-    }
+    &octets[..octets.len().min(most)]
 }
 
 /// Why no name stands at the beginning of these octets, after its length; None where one does.
@@ -197,13 +193,6 @@ fn behind_name(octets: &[u8]) -> &[u8]
 {
     match octets {
         [] => octets,
-        [length, rest @ ..] => {
-            let length = usize::from(*length);
-            if rest.len() > length {
-                &rest[length..]
-            } else {
-                &[]
-            }
-        }
+        [length, rest @ ..] => &rest[rest.len().min(usize::from(*length))..],
     }
 }

@@ -17,26 +17,19 @@ use guard_model::OutOfMemory;
 use guard_policy::{Policy, Route};
 use std::alloc::Global;
 
-/// The message that the octets at the spot are, on the route of these names, or that they hold as the body of a frame;
-/// none where they aren't three names and a message.
-pub fn held_in<'a>(
-    from: &'a [u8],
-    to: &'a [u8],
-    message: &'a [u8],
-    spot: &Spot,
-    octets: &'a [u8],
-) -> Option<Body<'a>>
-    ensures { option_map body_view result ≡ held_in (record { from = from.now; to = to.now; message = message.now })
-        (spot_view spot.now) octets.now }
+/// The message that the octets at the spot are, on this route, or that they hold as the body of a frame; none where they
+/// aren't three names and a message.
+pub fn held_in<'a>(route: Route<'a>, spot: &Spot, octets: &'a [u8]) -> Option<Body<'a>>
+    ensures { option_map body_view result ≡ held_in (route_view route.entry) (spot_view spot.now) octets.now }
 {
     match spot {
         Spot::Written(_) | Spot::Kept(_) => Some(Body {
-            sender: from,
-            receiver: to,
-            name: message,
+            sender: route.from,
+            receiver: route.to,
+            name: route.message,
             message_octets: octets,
         }),
-        Spot::Framed(_) | Spot::Linked(_, _) => read_body(octets),
+        Spot::Framed(_, _) => read_body(octets),
     }
 }
 

@@ -1,6 +1,6 @@
 //! What is asked of one message.
 ghost use Rattle.std.specs.Prelude.{◌≡◌, option_map};
-ghost use Rattle.guard_messages.specs.Questions.{question_view, frame_spot, octets_spot, spot_by, decide_spot};
+ghost use Rattle.guard_messages.specs.Questions.{question_view, octets_spot, spot_by, decide_spot};
 ghost use Rattle.guard_messages.specs.Questions.{show_spot, spot_view};
 
 /// What the words give of one message: by which policy it is asked of, and where its octets are.
@@ -33,10 +33,8 @@ pub enum Spot<'a> {
     Written(&'a str),
     /// All that is at this path.
     Kept(&'a str),
-    /// In the frame of this number.
-    Framed(&'a str),
-    /// In that of the link of this number, the link first.
-    Linked(&'a str, &'a str),
+    /// In the frame of this number, of the link of the second one if that is given.
+    Framed(&'a str, Option<&'a str>),
 }
 
 impl<'a> Question<'a> {
@@ -65,20 +63,10 @@ impl<'a> Question<'a> {
     {
         match self.frame {
             Some(_) if some || self.hex.is_some() || self.der.is_some() => None,
-            Some(number) => Some(frame_spot(number, self.link)),
+            Some(number) => Some(Spot::Framed(number, self.link)),
             None if all && self.link.is_none() => octets_spot(self.hex, self.der),
             None => None,
         }
-    }
-}
-
-/// The frame of this number, of a link if that is given.
-fn frame_spot<'a>(number: &'a str, link: Option<&'a str>) -> Spot<'a>
-    ensures { spot_view result ≡ frame_spot number.now (option_map (λ number. number.now) link.entry) }
-{
-    match link {
-        None => Spot::Framed(number),
-        Some(link) => Spot::Linked(link, number),
     }
 }
 

@@ -1,5 +1,5 @@
 //! A value as JSON.
-ghost use Rattle.std.specs.Prelude.{◌≡◌, ◌++◌, ◌∷◌, [], IfOk, OnOk, codes, decimal, map, option_map, string_bytes};
+ghost use Rattle.std.specs.Prelude.{◌≡◌, ◌++◌, ◌∷◌, [], IfOk, OnOk, decimal, map, option_map, string_bytes};
 ghost use Rattle.std.specs.Prelude.{◌-◌, ◌*◌, chars, flat_map, length, Some};
 ghost use Rattle.std.specs.Str.{encode_utf8_all};
 ghost use Rattle.std.specs.Fmt.{signed_decimal};

@@ -15,31 +15,19 @@ past_or_inside-requires-clause-sound c =
     let is = part_is c.in_ok-part.field-0 c.in-Some-2.part c.deref.result.now way due tag c.in-Some-2.is c.in_ok-part.ensures.part c.deref.ensures in
     (sound_part way due tag (part_view c.in-Some-2.part) is c.requires.sound).0
 
-pub returns-in-Some-2-clause-lines : goal.returns-in-Some-2-clause-lines
-returns-in-Some-2-clause-lines c =
+pub returns-in-Some-2 : goal.returns-in-Some-2
+returns-in-Some-2 c =
     let s = spot_in_view c.args.spot.now in
     let h = c.in-Some.header in
+    let p = part_view c.in-Some-2.part in
     let is = part_is c.in_ok-part.field-0 c.in-Some-2.part c.deref.result.now s.way s.due h.tag c.in-Some-2.is c.in_ok-part.ensures.part c.deref.ensures in
-    IfOk-weaker c.past_or_inside.result _ _ (λ next over.
-    goes_on c.args.octets.now c.args.breach s c.args.lines.now.items c.past_or_inside.new.lines.items h (part_view c.in-Some-2.part) (option_map spot_in_view next)
-    c.if-spot-breach.false c.in-Some.ensures.header is over) c.past_or_inside.ensures.lines
-
-pub returns-in-Some-2-clause-sound : goal.returns-in-Some-2-clause-sound
-returns-in-Some-2-clause-sound c =
-    let way = string_bytes c.args.spot.now.way in
-    let due = due_view c.args.spot.now.due in
-    let tag = c.in-Some.header.tag in
-    let p = part_view c.in-Some-2.part in
-    let is = part_is c.in_ok-part.field-0 c.in-Some-2.part c.deref.result.now way due tag c.in-Some-2.is c.in_ok-part.ensures.part c.deref.ensures in
-    let sound = sound_part way due tag p is c.requires.sound in
-    IfOk-weaker c.past_or_inside.result _ _ (λ next follows. holds_on HoldsSound p next sound.1 (sound_inside p.ty sound.0) follows) c.past_or_inside.ensures.due
-
-pub returns-in-Some-2-clause-few : goal.returns-in-Some-2-clause-few
-returns-in-Some-2-clause-few c n few =
-    let way = string_bytes c.args.spot.now.way in
-    let due = due_view c.args.spot.now.due in
-    let tag = c.in-Some.header.tag in
-    let p = part_view c.in-Some-2.part in
-    let is = part_is c.in_ok-part.field-0 c.in-Some-2.part c.deref.result.now way due tag c.in-Some-2.is c.in_ok-part.ensures.part c.deref.ensures in
-    IfOk-weaker c.past_or_inside.result _ _ (λ next follows.
-    holds_on (IsNumbered (suc n)) p next (numbered_part n way due tag p is few) (inside_numbered (suc n) (kind_of p.ty)) follows) c.past_or_inside.ensures.due
+    let sound = sound_part s.way s.due h.tag p is c.requires.sound in
+    record {
+      lines = IfOk-weaker c.past_or_inside.result _ _ (λ next over.
+          goes_on c.args.octets.now c.args.breach s c.args.lines.now.items c.past_or_inside.new.lines.items h p (option_map spot_in_view next)
+          c.if-spot-breach.false c.in-Some.ensures.header is over) c.past_or_inside.ensures.lines;
+      sound = IfOk-weaker c.past_or_inside.result _ _
+          (λ next follows. holds_on HoldsSound p next sound.1 (sound_inside p.ty sound.0) follows) c.past_or_inside.ensures.due;
+      few = λ n few. IfOk-weaker c.past_or_inside.result _ _ (λ next follows.
+          holds_on (IsNumbered (suc n)) p next (numbered_part n s.way s.due h.tag p is few) (inside_numbered (suc n) (kind_of p.ty)) follows) c.past_or_inside.ensures.due;
+    }

@@ -4,10 +4,9 @@ ghost use Rattle.std.specs.Prelude.{drop, length, option_map, take, IfOk, IfErr,
 ghost use Rattle.guard_frames.specs.Cutting.{IsRest};
 ghost use Rattle.guard_frames.specs.Totals.{WentUpBy};
 ghost use Rattle.guard_frames.specs.declared.running.RunFault.TheVariants as run;
-ghost use Rattle.guard_policy.specs.PolicyView.{policy_view};
 ghost use Rattle.guard_files.specs.Devices.{source_of, device_of};
 ghost use Rattle.guard_files.specs.Writing.{TellsNoMemory, TookAll, Writes};
-ghost use Rattle.guard_authors.specs.Comparing.{comparing_view, Compares, ComparesFrames, ComparesUnder, ComparesWith};
+ghost use Rattle.guard_authors.specs.Comparing.{comparing_view, Compares, ComparesFrames, ComparesUnder};
 ghost use Rattle.guard_authors.specs.Comparing.{Ends, IsLink, IsMeant, IsStopped, Progress, Reaches, TellsStopped};
 ghost use Rattle.guard_authors.specs.Differing.{comparison_view, compared_status};
 ghost use Rattle.guard_authors.specs.declared.comparing.Uncompared.TheVariants.{Run};
@@ -23,7 +22,6 @@ use guard_files::{
 };
 use guard_frames::{Cut, Failed, MOST_READS, Rest, RunFault, Sink, Source, first_cut, put_all};
 use guard_model::OutOfMemory;
-use guard_policy::Policy;
 use std::alloc::Global;
 
 /// What the words give: the paths of the policies, whether the places of constraints count, whether a summary stands
@@ -152,39 +150,21 @@ fn compare_under<F: Files, S: Source, O: Sink, E: Sink>(
         (device_of O.taken O.has_failed out.old out.new)
         (device_of E.taken E.has_failed err.old err.new) result }
 {
-    match load(alloc, asked.old, files) {
-        Ok(old) => compare_with(alloc, asked, origin, &old, files, input, out, err),
-        Err(fault) => tell(alloc, &fault, err),
-    }
-}
-
-fn compare_with<F: Files, S: Source, O: Sink, E: Sink>(
-    alloc: Global,
-    asked: &Comparing,
-    origin: Origin,
-    old: &Policy,
-    files: &mut F,
-    input: &mut S,
-    out: &mut O,
-    err: &mut E,
-) -> u8
-    ensures { ComparesWith (policy_view old.now) (F.told files.old) (comparing_view asked.now) origin
-        (source_of S.tells S.takes S.has_failed input.old input.new)
-        (device_of O.taken O.has_failed out.old out.new)
-        (device_of E.taken E.has_failed err.old err.new) result }
-{
-    match load(alloc, asked.new, files) {
-        Ok(new) => {
-            let comparison = Comparison {
-                old,
-                new: &new,
-                by_place: asked.by_place,
-                summary: asked.summary,
-            };
-            compare_frames(alloc, &comparison, origin, input, out, err)
-        }
-        Err(fault) => tell(alloc, &fault, err),
-    }
+    let old = match load(alloc, asked.old, files) {
+        Ok(old) => old,
+        Err(fault) => return tell(alloc, &fault, err),
+    };
+    let new = match load(alloc, asked.new, files) {
+        Ok(new) => new,
+        Err(fault) => return tell(alloc, &fault, err),
+    };
+    let comparison = Comparison {
+        old: &old,
+        new: &new,
+        by_place: asked.by_place,
+        summary: asked.summary,
+    };
+    compare_frames(alloc, &comparison, origin, input, out, err)
 }
 
 fn compare_frames<S: Source, O: Sink, E: Sink>(

@@ -1,2 +1,3 @@
 -- What only private contracts and proofs cite.
+pub mod Arguments
 pub mod Joining

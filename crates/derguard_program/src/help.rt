@@ -50,6 +50,8 @@ pub const MUX_EXAMPLE: &str =
 
 pub const MESSAGE_NAME: &str = "The message's name in the policy.";
 
+pub const DIGITS: &str = "The message's octets, in hexadecimal digits.";
+
 pub const IN_FILE: &str = "In place of HEX: a file that has the octets; - is standard input.";
 
 pub const IN_FRAME: &str =

@@ -1,7 +1,7 @@
 //! The words of the command line. `clap` splits them.
 ghost use Rattle.std.specs.Prelude.{◌≡◌, List, Some, codes, false, map, option_map, string_bytes, IfOk, IfErr};
 ghost use Rattle.clap.specs.Words.{HasKind, Row, Text, app_of, fault_of, first_of, found_of};
-ghost use Rattle.clap.specs.Words.{rows_of, rule_of, shape_of, subcommand_rows_of};
+ghost use Rattle.clap.specs.Words.{rows_of, shape_of, subcommand_rows_of};
 ghost use Rattle.guard_messages.specs.Questions.{question_view};
 ghost use Rattle.guard_authors.specs.Comparing.{comparing_view};
 ghost use Rattle.guard_authors.specs.Encodes.{encoding_view};
@@ -12,9 +12,10 @@ ghost use Rattle.derguard_program.specs.Words.{comparing_at, decide_shape, decis
 ghost use Rattle.derguard_program.specs.Words.{flag_of, flag_rule, free_option_rule, free_place_rule, free_rule};
 ghost use Rattle.derguard_program.specs.Words.{mux_shape, option_rule, place_rule, required_rule, run_shape};
 ghost use Rattle.derguard_program.specs.Words.{show_shape, showing_at, test_shape, the_app, trial_at, value_of};
+ghost use Rattle.derguard_program.specs.inside.Arguments.{IsArg};
 
 use crate::help::{
-    ABOUT, ASK_EXAMPLE, BY_PLACE, CHECK_EXAMPLE, COMPARE_EXAMPLE, COUNTS, DECIDE_EXAMPLE,
+    ABOUT, ASK_EXAMPLE, BY_PLACE, CHECK_EXAMPLE, COMPARE_EXAMPLE, COUNTS, DECIDE_EXAMPLE, DIGITS,
     ENCODE_EXAMPLE, EXAMPLE, IN_FILE, IN_FRAME, IN_LINK, JSON, MESSAGE_NAME, MUX_EXAMPLE, OF_LINK,
     RUN_EXAMPLE, SHOW_EXAMPLE, SUMMARY, TEST_EXAMPLE, VALUE_AS_JSON, VERBOSE,
 };
@@ -236,7 +237,7 @@ fn decide<'a>(alloc: Global) -> Result<Command<'a>, AllocError>
         .arg(free_option(alloc, "from", "The sender's name."))?
         .arg(free_option(alloc, "to", "The receiver's name."))?
         .arg(free_option(alloc, "message", MESSAGE_NAME))?
-        .arg(digits(alloc))?
+        .arg(free_place(alloc, "hex", "HEX", DIGITS))?
         .arg(free_option(alloc, "der", IN_FILE))?
         .arg(free_option(alloc, "frame", IN_FRAME))?
         .arg(free_option(alloc, "link", IN_LINK))?
@@ -256,7 +257,7 @@ fn show<'a>(alloc: Global) -> Result<Command<'a>, AllocError>
         .after_help(SHOW_EXAMPLE)
         .arg(policy(alloc))?
         .arg(free_option(alloc, "message", MESSAGE_NAME))?
-        .arg(digits(alloc))?
+        .arg(free_place(alloc, "hex", "HEX", DIGITS))?
         .arg(free_option(alloc, "der", IN_FILE))?
         .arg(free_option(alloc, "frame", IN_FRAME))?
         .arg(free_option(alloc, "link", IN_LINK))?
@@ -281,11 +282,12 @@ fn encode<'a>(alloc: Global) -> Result<Command<'a>, AllocError>
         .after_help(ENCODE_EXAMPLE)
         .arg(policy(alloc))?
         .arg(option(alloc, "message", MESSAGE_NAME))?
-        .arg(
-            free(alloc, "value")
-                .value_name("VALUE")
-                .help("The value; without it, what standard input gives."),
-        )?
+        .arg(free_place(
+            alloc,
+            "value",
+            "VALUE",
+            "The value; without it, what standard input gives.",
+        ))?
         .arg(free_option(alloc, "from", "The sender's name, for a frame."))?
         .arg(free_option(alloc, "to", "The receiver's name, for a frame."))?
         .arg(switch(alloc, "der", "Writes the octets themselves."))
@@ -298,11 +300,12 @@ fn test<'a>(alloc: Global) -> Result<Command<'a>, AllocError>
         .about("Says which cases that are kept beside a policy don't come out as they should.")
         .after_help(TEST_EXAMPLE)
         .arg(policy(alloc))?
-        .arg(
-            free(alloc, "cases").value_name("CASES").help(
-                "The file of cases; without it, tests.toml beside the policy.",
-            ),
-        )?
+        .arg(free_place(
+            alloc,
+            "cases",
+            "CASES",
+            "The file of cases; without it, tests.toml beside the policy.",
+        ))?
         .arg(switch(alloc, "cover", "Lists the rules that no case reaches."))?
         .arg(switch(
             alloc,
@@ -373,8 +376,7 @@ fn mux<'a>(alloc: Global) -> Result<Command<'a>, AllocError>
 }
 
 fn policy<'a>(alloc: Global) -> Arg<'a>
-    ensures rule { rule_of result ≡ place_rule (codes "policy") }
-    ensures local { result.global ≡ false }
+    ensures { IsArg (place_rule (codes "policy")) result }
 {
     required(alloc, "policy").value_name("POLICY").help(
         "The file of the policy; module files are looked for beside it.",
@@ -383,42 +385,35 @@ fn policy<'a>(alloc: Global) -> Arg<'a>
 
 /// A word by itself that must be given.
 fn place<'a>(alloc: Global, id: &'a str, name: &'a str, help: &'a str) -> Arg<'a>
-    ensures rule { rule_of result ≡ place_rule id.entry.now }
-    ensures local { result.global ≡ false }
+    ensures { IsArg (place_rule id.entry.now) result }
 {
     required(alloc, id).value_name(name).help(help)
 }
 
-/// The octets of a message, which may be elsewhere.
-fn digits<'a>(alloc: Global) -> Arg<'a>
-    ensures rule { rule_of result ≡ free_place_rule (codes "hex") }
-    ensures local { result.global ≡ false }
+/// A word by itself, which may be left out.
+fn free_place<'a>(alloc: Global, id: &'a str, name: &'a str, help: &'a str) -> Arg<'a>
+    ensures { IsArg (free_place_rule id.entry.now) result }
 {
-    free(alloc, "hex")
-        .value_name("HEX")
-        .help("The message's octets, in hexadecimal digits.")
+    free(alloc, id).value_name(name).help(help)
 }
 
 /// An option with one value.
 fn option<'a>(alloc: Global, name: &'a str, help: &'a str) -> Arg<'a>
-    ensures rule { rule_of result ≡ option_rule name.entry.now }
-    ensures local { result.global ≡ false }
+    ensures { IsArg (option_rule name.entry.now) result }
 {
     required(alloc, name).long(name).help(help)
 }
 
 /// An option with one value, which may be left out.
 fn free_option<'a>(alloc: Global, name: &'a str, help: &'a str) -> Arg<'a>
-    ensures rule { rule_of result ≡ free_option_rule name.entry.now }
-    ensures local { result.global ≡ false }
+    ensures { IsArg (free_option_rule name.entry.now) result }
 {
     free(alloc, name).long(name).help(help)
 }
 
 /// An option without a value, which may be left out.
 fn switch<'a>(alloc: Global, name: &'a str, help: &'a str) -> Arg<'a>
-    ensures rule { rule_of result ≡ flag_rule name.entry.now }
-    ensures local { result.global ≡ false }
+    ensures { IsArg (flag_rule name.entry.now) result }
 {
     Arg::new(alloc, name)
         .long(name)
@@ -428,15 +423,13 @@ fn switch<'a>(alloc: Global, name: &'a str, help: &'a str) -> Arg<'a>
 
 /// An argument with one value, which may be left out.
 fn free<'a>(alloc: Global, name: &'a str) -> Arg<'a>
-    ensures rule { rule_of result ≡ free_rule name.entry.now }
-    ensures local { result.global ≡ false }
+    ensures { IsArg (free_rule name.entry.now) result }
 {
     Arg::new(alloc, name).action(ArgAction::Set)
 }
 
 fn required<'a>(alloc: Global, name: &'a str) -> Arg<'a>
-    ensures rule { rule_of result ≡ required_rule name.entry.now }
-    ensures local { result.global ≡ false }
+    ensures { IsArg (required_rule name.entry.now) result }
 {
     Arg::new(alloc, name).required(true).action(ArgAction::Set)
 }

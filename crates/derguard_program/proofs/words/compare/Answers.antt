@@ -1,15 +1,14 @@
 use Rattle.std.proofs.Common.{◌≡◌, ◌∙◌, ap, codes}
-use Rattle.std.proofs.lemmas.Result.{IfOk-weaker}
-use Rattle.clap.specs.Simple.{App, app_of, app_of_fields, new_app}
-use Rattle.derguard_program.proofs.Commands.{with_argument}
+use Rattle.clap.specs.Simple.{app_of, app_of_fields, new_app}
+use Rattle.derguard_program.proofs.Commands.{with_argument, with_last}
 use Rattle.derguard_program.proofs.words.compare.Goals as goal
 
 pub returns : goal.returns
 returns c =
     let start : app_of c.after_help.result ≡ new_app (codes "compare") = ap app_of_fields c.after_help.ensures ∙ ap app_of_fields c.about.ensures ∙ c.new.ensures.app in
-    let first = with_argument _ _ _ _ _ c.in_ok-arg.ensures c.place.ensures.local start c.place.ensures.rule in
-    let second = with_argument _ _ _ _ _ c.in_ok-arg-2.ensures c.place-2.ensures.local first c.place-2.ensures.rule in
-    let third = with_argument _ _ _ _ _ c.in_ok-arg-3.ensures c.switch.ensures.local second c.switch.ensures.rule in
-    let fourth = with_argument _ _ _ _ _ c.in_ok-arg-4.ensures c.switch-2.ensures.local third c.switch-2.ensures.rule in
-    let fifth = with_argument _ _ _ _ _ c.in_ok-arg-5.ensures c.free_option.ensures.local fourth c.free_option.ensures.rule in
-    IfOk-weaker c.arg-6.result _ _ (λ r added. ap (λ (a : App). a.top) (with_argument _ r _ _ _ added c.switch-3.ensures.local fifth c.switch-3.ensures.rule)) c.arg-6.ensures
+    let first = with_argument c.in_ok-arg.ensures start c.place.ensures in
+    let second = with_argument c.in_ok-arg-2.ensures first c.place-2.ensures in
+    let third = with_argument c.in_ok-arg-3.ensures second c.switch.ensures in
+    let fourth = with_argument c.in_ok-arg-4.ensures third c.switch-2.ensures in
+    let fifth = with_argument c.in_ok-arg-5.ensures fourth c.free_option.ensures in
+    with_last _ _ c.arg-6.result c.arg-6.ensures fifth c.switch-3.ensures

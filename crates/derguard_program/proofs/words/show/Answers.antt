@@ -1,18 +1,17 @@
 use Rattle.std.proofs.Common.{◌≡◌, ◌∙◌, ap, codes}
-use Rattle.std.proofs.lemmas.Result.{IfOk-weaker}
-use Rattle.clap.specs.Simple.{App, app_of, app_of_fields, new_app}
-use Rattle.derguard_program.proofs.Commands.{with_argument}
+use Rattle.clap.specs.Simple.{app_of, app_of_fields, new_app}
+use Rattle.derguard_program.proofs.Commands.{with_argument, with_last}
 use Rattle.derguard_program.proofs.words.show.Goals as goal
 
 pub returns : goal.returns
 returns c =
     let start : app_of c.after_help.result ≡ new_app (codes "show") = ap app_of_fields c.after_help.ensures ∙ ap app_of_fields c.about.ensures ∙ c.new.ensures.app in
-    let first = with_argument _ _ _ _ _ c.in_ok-arg.ensures c.policy.ensures.local start c.policy.ensures.rule in
-    let second = with_argument _ _ _ _ _ c.in_ok-arg-2.ensures c.free_option.ensures.local first c.free_option.ensures.rule in
-    let third = with_argument _ _ _ _ _ c.in_ok-arg-3.ensures c.digits.ensures.local second c.digits.ensures.rule in
-    let fourth = with_argument _ _ _ _ _ c.in_ok-arg-4.ensures c.free_option-2.ensures.local third c.free_option-2.ensures.rule in
-    let fifth = with_argument _ _ _ _ _ c.in_ok-arg-5.ensures c.free_option-3.ensures.local fourth c.free_option-3.ensures.rule in
-    let sixth = with_argument _ _ _ _ _ c.in_ok-arg-6.ensures c.free_option-4.ensures.local fifth c.free_option-4.ensures.rule in
-    let seventh = with_argument _ _ _ _ _ c.in_ok-arg-7.ensures c.switch.ensures.local sixth c.switch.ensures.rule in
-    let eighth = with_argument _ _ _ _ _ c.in_ok-arg-8.ensures c.switch-2.ensures.local seventh c.switch-2.ensures.rule in
-    IfOk-weaker c.arg-9.result _ _ (λ r added. ap (λ (a : App). a.top) (with_argument _ r _ _ _ added c.switch-3.ensures.local eighth c.switch-3.ensures.rule)) c.arg-9.ensures
+    let first = with_argument c.in_ok-arg.ensures start c.policy.ensures in
+    let second = with_argument c.in_ok-arg-2.ensures first c.free_option.ensures in
+    let third = with_argument c.in_ok-arg-3.ensures second c.free_place.ensures in
+    let fourth = with_argument c.in_ok-arg-4.ensures third c.free_option-2.ensures in
+    let fifth = with_argument c.in_ok-arg-5.ensures fourth c.free_option-3.ensures in
+    let sixth = with_argument c.in_ok-arg-6.ensures fifth c.free_option-4.ensures in
+    let seventh = with_argument c.in_ok-arg-7.ensures sixth c.switch.ensures in
+    let eighth = with_argument c.in_ok-arg-8.ensures seventh c.switch-2.ensures in
+    with_last _ _ c.arg-9.result c.arg-9.ensures eighth c.switch-3.ensures

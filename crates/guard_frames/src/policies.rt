@@ -121,7 +121,8 @@ fn decided(told: Passing) -> Decided
 }
 
 /// What is decided of a frame, whose names are read and looked up. Whether they are names is asked only where no rule
-/// gives them.
+/// gives them. It is no part of `goes`, which needs fewer registers for a frame with the names of the one before.
+#[inline(never)]
 fn goes_as_read(policy: &Policy, octets: &[u8], last: &mut LastRoute) -> Decided
     ensures { IsDecided (decision_of (policy_view policy.now)) (lets_of (policy_view policy.now))
         (reasons_of (policy_view policy.now)) octets.now result }

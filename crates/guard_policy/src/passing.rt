@@ -117,7 +117,9 @@ impl Policy {
 }
 
 /// By which of these rules the octets go: the first one that allows the value of the message's declared type that they
-/// encode, where none denies it. Where they stay, the reason that marks tell.
+/// encode, where none denies it. Where they stay, the reason that marks tell. A part of each of its callers, so that for
+/// a frame that goes no registers are kept and restored between the names and the walk.
+#[inline(always)]
 fn told_by_walk(message: &KeptMessage, rules: &RouteRules, octets: &[u8]) -> Passing
     ensures { IsAnswer message.now rules.now octets.now result }
 {

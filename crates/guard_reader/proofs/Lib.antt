@@ -2,7 +2,7 @@
 pub mod Lengths
 pub mod Small
 pub mod Elements
-pub mod FourOctets
+pub mod FirstOctets
 pub mod FrontSteps
 pub mod Passes
 -- ---- contents of simple kinds

@@ -10,13 +10,15 @@ const EIGHT: usize = 8;
 
 /// Whether the first encoding must come after the second one in a SET OF (X.690 11.6): at the first place where they
 /// differ, the shorter one padded with zero octets, the first has the greater octet. Encodings of four octets, as of
-/// numbers of two, are compared at once, longer ones eight octets at a time.
+/// numbers of two, are compared at once, longer ones eight octets at a time. Those of three, as of small numbers, mostly
+/// differ in the last octet alone.
 #[inline(always)]
 pub fn descends(octets: &[u8], next: &[u8]) -> bool
     ensures { result ≡ descends octets.now next.now }
 {
     match (octets, next) {
         ([a, b, c, d], [e, f, g, h]) => number(*e, *f, *g, *h) < number(*a, *b, *c, *d),
+        ([_, _, _], _) => order::descends(octets, next),
         _ => descends_by_eights(octets, next),
     }
 }

@@ -10,6 +10,7 @@ pub mod Consistency
 pub mod Verdicts
 pub mod Decisions
 pub mod Told
+pub mod FoundRoutes
 -- ---- the text of a policy
 pub mod Documents
 pub mod Entries

@@ -13,6 +13,7 @@
 //! | By which rule does it go, what is told where it stays? | `passing.rt` (`look_at`) | `specs/Told.antt` |
 //! | How does a route lead to its rules? | `routing.rt` | `specs/inside/Routing.antt` |
 //! | Which routes do rules give by names? | `leads.rt`, `route_octets.rt` | `specs/NamedRoutes.antt` |
+//! | What was found of a route, for all messages on it? | `found_route.rt`, `passing.rt` (`find_route`) | `specs/FoundRoutes.antt` |
 //! | Where is a route looked for first? | `last_route.rt`, `passing.rt` (`passes_as_last`) | `specs/NamedRoutes.antt` |
 //! | Which verdict is it? | `policy.rt` (`verdict`), `reason.rt`, `decision.rt` | `specs/Decisions.antt` |
 //! | Do a rule's type and the declared one share no value? | `barren.rt`, `asked.rt`, `sizes.rt` | `specs/Barren.antt` |
@@ -35,6 +36,7 @@ mod document;
 mod entry;
 mod fault;
 mod files;
+mod found_route;
 mod index;
 mod kept;
 mod last_route;
@@ -60,6 +62,7 @@ mod verdict;
 pub use entry::{Entry, Key};
 pub use fault::PolicyFault;
 pub use files::module_files;
+pub use found_route::FoundRoute;
 pub use guard_der::named_types::Types;
 pub use last_route::LastRoute;
 pub use passing::Passing;

@@ -3,6 +3,7 @@
 ghost use Rattle.std.specs.Prelude.{◌≡◌, None, IfSome};
 ghost use Rattle.guard_policy.specs.inside.Passing.{IsAnswer, IsLetBy, IsLetByNone};
 
+use super::found_route::FoundRoute;
 use super::kept::KeptMessage;
 use super::last_route::LastRoute;
 use super::policy::Policy;
@@ -44,6 +45,7 @@ impl Policy {
     ghost use Rattle.guard_policy.specs.Policies.{AbstractRoute};
     ghost use Rattle.guard_policy.specs.Decisions.{Goes};
     ghost use Rattle.guard_policy.specs.NamedRoutes.{IsGiven};
+    ghost use Rattle.guard_policy.specs.FoundRoutes.{Decides};
     ghost use Rattle.guard_policy.specs.Told.{Tells};
 
     /// Whether a message goes on its route: its octets are the encoding of a value of its declared type that some rule
@@ -59,11 +61,20 @@ impl Policy {
     pub fn look_at(&self, route: &Route, octets: &[u8]) -> Passing
         ensures { Tells (policy_view self.now) (route_view route.now) octets.now result }
     {
+        self.find_route(route).look_at(octets)
+    }
+
+    /// What the route leads to, which decides all messages on it. No memory is taken.
+    pub fn find_route(&self, route: &Route) -> FoundRoute<'_>
+        ensures { Decides (policy_view self.now) (route_view route.now) result }
+    {
         let Some((message, _)) = self.found(route.message) else {
-            return Passing::Stopped(Some(PlainReason::UnknownMessage));
+            return FoundRoute { lead: None };
         };
         let rules = message.routing.rules(route);
-        told_by_walk(message, &rules, octets)
+        FoundRoute {
+            lead: Some((message, rules)),
+        }
     }
 
     /// Whether a message goes on the route that these octets are: three names, each after one octet with its length, as
@@ -120,7 +131,7 @@ impl Policy {
 /// encode, where none denies it. Where they stay, the reason that marks tell. A part of each of its callers, so that for
 /// a frame that goes no registers are kept and restored between the names and the walk.
 #[inline(always)]
-fn told_by_walk(message: &KeptMessage, rules: &RouteRules, octets: &[u8]) -> Passing
+pub(crate) fn told_by_walk(message: &KeptMessage, rules: &RouteRules, octets: &[u8]) -> Passing
     ensures { IsAnswer message.now rules.now octets.now result }
 {
     let Some(marks) = walk(&message.table, octets) else {

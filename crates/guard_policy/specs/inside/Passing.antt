@@ -9,6 +9,7 @@ use Rattle.guard_tables.specs.declared.slots.Slots.{Slots}
 use Rattle.guard_tables.specs.declared.table.Table.{Table}
 use Rattle.guard_tables.specs.Slots.{none, has}
 use Rattle.guard_tables.specs.TableView.{declared_of, table_types}
+use Rattle.guard_policy.specs.declared.found_route.FoundRoute.{FoundRoute}
 use Rattle.guard_policy.specs.declared.kept.KeptMessage.{KeptMessage}
 use Rattle.guard_policy.specs.declared.passing.Passing.{Passing}
 use Rattle.guard_policy.specs.declared.passing.Passing.TheVariants as passing
@@ -64,3 +65,10 @@ IsAnswer m rules octets (passing.Stopped None) =
     EncodeNothing m.table octets
     ⊎ ((marks : Marks) × AreMarks m.table octets marks
     × (IsTrue (has marks.members 0) → IsLetByNone rules m.numbers.items marks.members))
+
+-- what is told of them under what was found of their route
+abbrev pub IsAnswerOf : FoundRoute → List ℕ → Passing → Type 0
+IsAnswerOf found octets told = elim found.lead [
+  | Some (message, rules) ↦ IsAnswer message.now rules octets told
+  | None ↦ told ≡ passing.Stopped (Some plain.UnknownMessage)
+]

@@ -38,6 +38,12 @@ seen_more old new others k is same q =
     ∙ last_or (bytes_eq q k) (list_any (bytes_eq q) others)
     ∙ sym (list_any-append (bytes_eq q) others (k ∷ []))
 
+-- the same, where the set has what the names before and this one have
+pub seen_one : (new old others : List (List ℕ)) (k : List ℕ) → HaveSame new (old ++ k ∷ []) → HaveSame old others → HaveSame new (others ++ k ∷ [])
+seen_one new old others k is same q =
+    is q ∙ list_any-append (bytes_eq q) old (k ∷ []) ∙ ap (λ (b : Bool). b || list_any (bytes_eq q) (k ∷ [])) (same q)
+    ∙ sym (list_any-append (bytes_eq q) others (k ∷ []))
+
 -- ---- faults that speak of such names
 
 message_with : AbstractTypes → Bool → ℕ → Members → Option AbstractFault

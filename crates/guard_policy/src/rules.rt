@@ -1,5 +1,5 @@
 //! The rules of a policy's text.
-ghost use Rattle.std.specs.Prelude.{◌≡◌, [], None, Some, All, map, bytes_eq, IfOk, IsTrue};
+ghost use Rattle.std.specs.Prelude.{◌≡◌, [], ◌∷◌, ◌++◌, None, Some, All, map, bytes_eq, IfOk, IsTrue};
 ghost use Rattle.std.specs.List.{list_any};
 ghost use Rattle.guard_der.specs.Sound.{is_sound};
 ghost use Rattle.guard_model.specs.TypeView.{type_view};
@@ -10,7 +10,7 @@ ghost use Rattle.guard_policy.specs.EntryFaults.{rule_fault, entries_fault, has_
 ghost use Rattle.guard_policy.specs.Policies.{message_names};
 ghost use Rattle.guard_policy.specs.SaidView.{said_message_view, said_view};
 ghost use Rattle.guard_policy.specs.inside.Keeping.{AreDeclared};
-ghost use Rattle.guard_policy.specs.inside.Said.{names_in};
+ghost use Rattle.guard_policy.specs.inside.Said.{HaveSame, names_in};
 
 use super::document::{check_entry, text_of};
 use super::entry::{Entry, Key};
@@ -54,34 +54,35 @@ pub(crate) fn rules_of<'a, S: Types>(
     let mut names = IndexSet::new(alloc);
     let mut rules = Vec::with_capacity(alloc, tables.len())?;
     for (index, table) in tables.iter().enumerate() {
-        let rule = rule_of(alloc, schema, &declared, &names, index + 1, *table)?;
-        names.insert(rule.name)?;
+        let rule = rule_of(alloc, schema, &declared, &mut names, index + 1, *table)?;
         rules.push(rule)?;
     }
     Ok(rules)
 }
 
-/// The rule of this number, after those with these names, where messages with these names are declared.
+/// The rule of this number, where messages with these names are declared; its own name is added to those of the rules
+/// before it.
 fn rule_of<'a, S: Types>(
     alloc: Global,
     schema: &'a S,
     declared: &IndexSet<&str>,
-    before: &IndexSet<&str>,
+    names: &mut IndexSet<&'a str>,
     number: usize,
     table: &'a Table,
 ) -> Result<SaidRule<'a>, PolicyFault>
-    ensures met { Meets (rule_fault (S.types schema.now) (names_in declared.now) (names_in before.now) number
+    ensures met { Meets (rule_fault (S.types schema.now) (names_in declared.now) (names_in names.old) number
         (table_view table.now)) result }
     ensures made { IfOk result (λ r. rule_in (S.types schema.now) (table_view table.now) ≡ Some (said_view r)) }
     ensures sound { IfOk result (λ r. IsTrue (is_sound (type_view r.ty.now))) }
     ensures declared { IfOk result (λ r. IsTrue (list_any (bytes_eq r.message.now) (names_in declared.now))) }
+    ensures seen { IfOk result (λ r. HaveSame (names_in names.new) (names_in names.old ++ r.name.now ∷ [])) }
 {
     let entry = Entry::Rule(number);
     check_entry(alloc, entry, &RULE_KEYS, table)?;
     if !has_names(table) {
         return Err(PolicyFault::BadName(entry));
     }
-    if has_name(before, text_of(table, Key::Name)) {
+    if has_name(names, text_of(table, Key::Name)) {
         return Err(PolicyFault::DuplicateName(entry));
     }
     let Some(effect) = effect_named(text_of(table, Key::Effect)) else {
@@ -91,7 +92,9 @@ fn rule_of<'a, S: Types>(
         return Err(PolicyFault::NoSuchMessage(entry));
     }
     let ty = type_named(schema, entry, table)?;
-    Ok(rule_said(table, effect, ty))
+    let rule = rule_said(table, effect, ty);
+    names.insert(rule.name)?;
+    Ok(rule)
 }
 
 /// The rule that the entry says, where its keys are there.

@@ -15,7 +15,7 @@ use Rattle.guard_policy.specs.Policies.{AbstractRule, message_names}
 use Rattle.guard_policy.specs.PolicyFaults.{AbstractFault, named}
 use Rattle.guard_policy.specs.SaidView.{said_message_view, said_view}
 use Rattle.guard_policy.proofs.EntriesRead.{Read, read_one, read_fault, tables_left, name_of_rule}
-use Rattle.guard_policy.proofs.NamesSeen.{rule_same, seen_more}
+use Rattle.guard_policy.proofs.NamesSeen.{rule_same, seen_one}
 use Rattle.guard_policy.proofs.rules.rules_of.Goals as goal
 
 pub loop-index-preserved : goal.loop-index-preserved
@@ -36,8 +36,7 @@ loop-index-preserved g c =
           (sym same ∙ c.in_ok-rule.ensures.met) c.in_ok-rule.ensures.made (name_of_rule types entry r c.in_ok-rule.ensures.made)
           (subst (λ (l : List Members). Read (rule_fault types names) (rule_in types) (λ x. x.name) (tables_view c.args.tables.now) l number made) left c.loop-index.invariant.read));
       seen = rw (c.in_ok-push.ensures.items, map_push said_view c.loop-index.rules.items, map_push (λ (x : AbstractRule). x.name) made)
-          (seen_more c.loop-index.names.keys _ (map (λ x. x.name) made) r.name
-          (λ q. c.in_ok-insert.ensures.updates.0 (record { ref_ptr = (0, 0); now = q })) c.loop-index.invariant.seen);
+          (seen_one _ (names_in c.loop-index.names) (map (λ x. x.name) made) r.name c.in_ok-rule.ensures.seen c.loop-index.invariant.seen);
       sound = rw (c.in_ok-push.ensures.items, map_push said_view c.loop-index.rules.items)
           (All-push (λ (x : AbstractRule). IsTrue (is_sound x.ty)) made r c.loop-index.invariant.sound c.in_ok-rule.ensures.sound);
       declared = rw (c.in_ok-push.ensures.items, map_push said_view c.loop-index.rules.items)

@@ -16,6 +16,7 @@ pub mod Throughout
 pub mod ByNames
 -- ---- lists that are too long
 pub mod ListsInOrder
+pub mod ElementQuestions
 pub mod AskedOfLists
 pub mod LongLists
 -- ---- values that stand alone

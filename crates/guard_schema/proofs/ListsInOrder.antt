@@ -1,6 +1,6 @@
 -- Values of SEQUENCE OF and SET OF, with their elements in the order that a value has them: each has all that its elements
 -- have in turn. And the types of such lists.
-use Rattle.std.proofs.Common.{◌≡◌, ◌≤◌, Bool, true, false, ◌&&◌, cond, List, [], ◌∷◌, ◌++◌, length, map, Option, Some, refl, sym, ap, subst, ◌∙◌, IsTrue}
+use Rattle.std.proofs.Common.{◌≡◌, ◌≤◌, Bool, true, false, ◌&&◌, cond, List, [], ◌∷◌, ◌++◌, length, map, Some, refl, sym, ap, subst, ◌∙◌, IsTrue}
 use Rattle.std.specs.Prelude.{nat_le}
 use Rattle.std.proofs.lemmas.Bool.{and_parts, and_from, le-leb}
 use Rattle.std.proofs.lemmas.Option.{same_Some}
@@ -13,7 +13,7 @@ use Rattle.guard_model.specs.AbstractType.{AbstractType, AbstractKind, Constrain
 use Rattle.guard_model.specs.AbstractValue as value
 use Rattle.guard_model.specs.AbstractValue.{AbstractValue, items_of}
 use Rattle.guard_model.specs.Counts.{item_count}
-use Rattle.guard_model.specs.Kinds.{kind_of, element_of}
+use Rattle.guard_model.specs.Kinds.{element_of}
 use Rattle.guard_model.specs.Limits.{deepest_nesting}
 use Rattle.guard_model.specs.TypeView.{type_view, kind_view, constraint_view, constraints_of}
 use Rattle.guard_model.proofs.Components.{item_count_is}
@@ -25,8 +25,6 @@ use Rattle.guard_der.specs.Encoding.{short_length}
 use Rattle.guard_der.specs.ProperConstraints.{takes_size}
 use Rattle.guard_der.specs.Sound.{is_sound, is_proper, is_proper_kind, has_distinct_tags, are_proper_constraints}
 use Rattle.guard_eval.specs.Elements.{every_item}
-use Rattle.guard_eval.specs.Member.{is_member, parts_are_members}
-use Rattle.guard_eval.specs.Presence.{element_kind}
 use Rattle.guard_syntax.specs.declared.tree.Collection.{Collection}
 use Rattle.guard_syntax.specs.declared.tree.Collection.TheVariants as collection
 use Rattle.guard_syntax.specs.Trees as written
@@ -37,7 +35,7 @@ use Rattle.guard_values.specs.Faults.{faults_of, faults_of_elements, faults_of_c
 use Rattle.guard_values.specs.Meanings.{Meaning}
 use Rattle.guard_values.proofs.Counting.CountedLists.{arranged_short}
 use Rattle.guard_values.proofs.Fitting.DenotedValuesFit.{length_arranged}
-use Rattle.guard_schema.specs.inside.LongLists.{each_has, is_kept}
+use Rattle.guard_schema.specs.inside.Questions.{AbstractQuestion, answers, passes}
 use Rattle.guard_schema.proofs.Sound.Shaped.{element_shaped}
 
 -- ---- in the order of the value
@@ -67,6 +65,12 @@ pub and_crossed : (a b c d : Bool) → ((a && b) && (c && d)) ≡ ((a && c) && (
 and_crossed true b c d = and_swapped b c d
 and_crossed false b c d = refl
 
+pub every_last : (test : AbstractValue → Bool) (vs : List AbstractValue) (v : AbstractValue)
+    → every_item test (items_of (vs ++ v ∷ [])) ≡ (every_item test (items_of vs) && test v)
+every_last test [] v = and_true (test v)
+every_last test (w ∷ ws) v = ap (λ (b : Bool). test w && b) (every_last test ws v)
+    ∙ and_grouped (test w) (every_item test (items_of ws)) (test v)
+
 every_inserted : (test : AbstractValue → Bool) (u : AbstractType) (v : AbstractValue) (ws : List AbstractValue)
     → every_item test (items_of (inserted u v ws)) ≡ (test v && every_item test (items_of ws))
 every_inserted test u v [] = refl
@@ -83,20 +87,14 @@ every_arranged test u [] = refl
 every_arranged test u (v ∷ vs) = every_inserted test u v (arranged u vs)
     ∙ ap (λ (b : Bool). test v && b) (every_arranged test u vs)
 
-every_both : (f g : AbstractValue → Bool) (vs : List AbstractValue)
-    → (every_item f (items_of vs) && every_item g (items_of vs)) ≡ every_item (λ v. f v && g v) (items_of vs)
-every_both f g [] = refl
-every_both f g (v ∷ vs) =
-    and_crossed (f v) (every_item f (items_of vs)) (g v) (every_item g (items_of vs))
-    ∙ ap (λ (b : Bool). (f v && g v) && b) (every_both f g vs)
-
--- whether all are members, and as is asked, doesn't depend on their order
-pub kept_in_order : (each : Option Constraint) (k : Collection) (u : AbstractType) (vs : List AbstractValue)
-    → (every_item (each_has each (element_kind (of_kind k u))) (items_of (in_order k u vs))
-    && parts_are_members (of_kind k u) (list_value k u vs)) ≡ every_item (is_kept each u) (items_of vs)
-kept_in_order each collection.Sequence u vs = every_both (each_has each (kind_of u)) (is_member u) vs
-kept_in_order each collection.Set u vs = every_both (each_has each (kind_of u)) (is_member u) (arranged u vs)
-    ∙ every_arranged (is_kept each u) u vs
+-- what elements answer doesn't depend on their order
+pub told_in_order : (qs : List AbstractQuestion) (k : Collection) (u : AbstractType) (vs : List AbstractValue)
+    → answers qs (items_of (in_order k u vs)) ≡ answers qs (items_of vs)
+told_in_order qs collection.Sequence u vs = refl
+told_in_order [] collection.Set u vs = refl
+told_in_order (q ∷ qs) collection.Set u vs =
+    ap (λ (b : Bool). b ∷ answers qs (items_of (arranged u vs))) (every_arranged (passes q) u vs)
+    ∙ ap (λ (bs : List Bool). every_item (passes q) (items_of vs) ∷ bs) (told_in_order qs collection.Set u vs)
 
 pub length_in_order : (k : Collection) (u : AbstractType) (vs : List AbstractValue)
     → length (in_order k u vs) ≡ length vs
@@ -132,6 +130,10 @@ takes collection.Sequence u = refl
 takes collection.Set u = refl
 
 -- ---- the types of such lists
+
+pub listed_kind : (k : Collection) (u : AbstractType) → element_of (of_kind k u) ≡ Some u
+listed_kind collection.Sequence u = refl
+listed_kind collection.Set u = refl
 
 list_kind : (kind : AbstractKind) (u : AbstractType) → element_of kind ≡ Some u → (k : Collection) × (kind ≡ of_kind k u)
 list_kind (type.sequence_of t) u e = (collection.Sequence, ap type.sequence_of (same_Some t u e))

@@ -10,7 +10,7 @@ use Rattle.guard_model.specs.declared.site.Site.{Site}
 use Rattle.guard_model.specs.declared.tag.Tag.{Tag}
 use Rattle.guard_model.specs.declared.ty.Kind.TheViews.{out-Ty}
 use Rattle.guard_model.specs.declared.ty.Ty.{Ty}
-use Rattle.guard_model.specs.AbstractType.{AbstractType, AbstractKind, Constraint, Constraints, type_of}
+use Rattle.guard_model.specs.AbstractType.{AbstractType, AbstractKind, Constraints, type_of}
 use Rattle.guard_model.specs.AbstractValue as value
 use Rattle.guard_model.specs.AbstractValue.{AbstractValue, items_of}
 use Rattle.guard_model.specs.Kinds.{kind_of, element_of}
@@ -21,13 +21,10 @@ use Rattle.guard_tagcheck.specs.Limits.{nesting}
 use Rattle.guard_tagging.specs.Types.{of_kind}
 use Rattle.guard_der.specs.Der.{der, contents_octets}
 use Rattle.guard_der.specs.Encoding.{longest_encoding, short_length, length_in}
-use Rattle.guard_der.specs.Fits.{fits}
 use Rattle.guard_der.specs.ProperConstraints.{is_short}
 use Rattle.guard_der.specs.Sound.{is_sound, is_proper, has_distinct_tags}
 use Rattle.guard_der.proofs.Functions.Soundness.{told_where_short}
-use Rattle.guard_eval.specs.Elements.{every_item}
-use Rattle.guard_eval.specs.Member.{is_member, all_hold, parts_are_members}
-use Rattle.guard_eval.specs.Presence.{element_kind}
+use Rattle.guard_eval.specs.Member.{is_member}
 use Rattle.guard_syntax.specs.declared.tree.Collection.{Collection}
 use Rattle.guard_syntax.specs.declared.tree.EntryTree.{EntryTree}
 use Rattle.guard_syntax.specs.Trees as written
@@ -56,16 +53,11 @@ use Rattle.guard_schema.specs.Counting.{held, value_nodes, nodes_of_items, all_h
 use Rattle.guard_schema.specs.Faults.{AbstractFault, Value, DefaultOutside, TooLarge, Outcome}
 use Rattle.guard_schema.specs.Known.{Built, Known}
 use Rattle.guard_schema.specs.Outcomes.{Is, Then, RefusesBy}
-use Rattle.guard_schema.specs.inside.LongLists.{AreRead, IsFirstOfElements, ReadsAndHolds, IsAsked, each_has, is_kept}
-use Rattle.guard_schema.proofs.ListsInOrder.{and_true, and_grouped, in_order, list_value, kept_in_order, length_in_order, items_in_order, octets_in_order, says_list, faults_of_list, takes, list_type}
+use Rattle.guard_schema.specs.inside.LongLists.{AreRead, IsFirstOfElements, ReadsAndHolds}
+use Rattle.guard_schema.specs.inside.Questions.{AbstractQuestion, answers, questions_of, TellsMember}
+use Rattle.guard_schema.proofs.ListsInOrder.{in_order, list_value, listed_kind, told_in_order, length_in_order, items_in_order, octets_in_order, says_list, faults_of_list, list_type}
 
 -- ---- elements in turn
-
-every_last : (test : AbstractValue → Bool) (vs : List AbstractValue) (v : AbstractValue)
-    → every_item test (items_of (vs ++ v ∷ [])) ≡ (every_item test (items_of vs) && test v)
-every_last test [] v = and_true (test v)
-every_last test (w ∷ ws) v = ap (λ (b : Bool). test w && b) (every_last test ws v)
-    ∙ and_grouped (test w) (every_item test (items_of ws)) (test v)
 
 short_last : (u : AbstractType) (vs : List AbstractValue) (v : AbstractValue) → IsTrue (are_short u vs)
     → IsTrue (is_short (der u v)) → IsTrue (are_short u (vs ++ v ∷ []))
@@ -84,7 +76,7 @@ first_between : (name fs more : List ValueFault) (f : ValueFault) → slice_get 
 first_between [] fs more f e = first_then fs more f (subst (λ gs. slice_get gs 0 ≡ Some f) (append-nil fs) e)
 first_between (g ∷ name) fs more f e = e
 
-module _ (m : Meaning) (u : AbstractType) (each : Option Constraint) where
+module _ (m : Meaning) (u : AbstractType) (questions : List AbstractQuestion) where
   said_first : (e : WrittenEntry) (rest : WrittenEntries) (v : AbstractValue) (more : List AbstractValue)
       → e.name ≡ None → Says m u e.value v → EntriesSay m u rest more
       → EntriesSay m u (entry e.site e.name e.value rest) (v ∷ more)
@@ -103,21 +95,25 @@ module _ (m : Meaning) (u : AbstractType) (each : Option Constraint) where
         ∙ ap (λ (x : EntryTree). entry (entry_view x).site (entry_view x).name (entry_view x).value (left (i + 1))) (sym is)
 
     -- The entries before this one are read: with values of those that are left they say all, and they have no fault.
-    abbrev pub AreReadTo : ℕ → Bool → ℕ → Type 0
-    AreReadTo i all room =
+    abbrev pub AreReadTo : ℕ → List Bool → ℕ → Type 0
+    AreReadTo i told room =
         (vs : List AbstractValue)
         × ((more : List AbstractValue) → EntriesSay m u (left i) more
         → EntriesSay m u (entries_of (map entry_view entries)) (vs ++ more))
-        × (all ≡ every_item (is_kept each u) (items_of vs))
+        × (told ≡ answers questions (items_of vs))
         × (short_length (items_joined u vs) ≡ Some (longest_encoding - room)) × (length vs ≡ i)
         × (faults_of_elements m u (left i) ≡ faults_of_elements m u (entries_of (map entry_view entries)))
         × IsTrue (are_short u vs)
 
-    pub one_read : (i room n : ℕ) (all after : Bool) (e : EntryTree) (v : AbstractValue)
+    pub none_read : (told : List Bool) → told ≡ answers questions value.no_items → AreReadTo 0 told longest_encoding
+    none_read told none = ([], (λ more others. others), none, refl, refl, refl, refl)
+
+    pub one_read : (i room n : ℕ) (told after : List Bool) (e : EntryTree) (v : AbstractValue)
         → i < length entries → e ≡ get_or entries i e → (entry_view e).name ≡ None
         → Says m u (entry_view e).value v → Some n ≡ short_length (der u v) → n ≤ room → room ≤ longest_encoding
-        → after ≡ (all && is_kept each u v) → AreReadTo i all room → AreReadTo (i + 1) after (room - n)
-    one_read i room n all after e v lt is none said counted within low member h =
+        → ((vs : List AbstractValue) → told ≡ answers questions (items_of vs)
+        → after ≡ answers questions (items_of (vs ++ v ∷ []))) → AreReadTo i told room → AreReadTo (i + 1) after (room - n)
+    one_read i room n told after e v lt is none said counted within low asked h =
         let w = entry_view e in
         let here = split i e lt is in
         let took : room_without w.site room (short_length (der u v)) ≡ Ok (room - n) =
@@ -132,7 +128,7 @@ module _ (m : Meaning) (u : AbstractType) (each : Option Constraint) where
               subst (EntriesSay m u (entries_of (map entry_view entries))) (sym (append_assoc h.0 (v ∷ []) more))
               (h.1 (v ∷ more) (subst (λ es. EntriesSay m u es (v ∷ more)) (sym here) (said_first w (left (i + 1)) v more
               none said others))),
-          member ∙ ap (λ (b : Bool). b && is_kept each u v) h.2 ∙ sym (every_last (is_kept each u) h.0 v),
+          asked h.0 h.2,
           (last_counted u h.0 v w.site room (room - n) h.3 low took).0,
           length-append h.0 (v ∷ []) ∙ ap (λ (k : ℕ). k + 1) h.4,
           sym (ap (faults_of_elements m u) here ∙ faultless) ∙ h.5,
@@ -140,12 +136,12 @@ module _ (m : Meaning) (u : AbstractType) (each : Option Constraint) where
         )
 
     -- the fault that is told of the next one
-    pub faulty_elements : (i room : ℕ) (all : Bool) (e : EntryTree) (told : Option ValueFault) → i < length entries
-        → e ≡ get_or entries i e → AreReadTo i all room
-        → IfSome told (IsFirstOfElements m u (entry (entry_view e).site (entry_view e).name (entry_view e).value no_entries))
-        → IfSome told (IsFirstOfElements m u (entries_of (map entry_view entries)))
-    faulty_elements i room all e None lt is h first = tt
-    faulty_elements i room all e (Some f) lt is h first =
+    pub faulty_elements : (i room : ℕ) (told : List Bool) (e : EntryTree) (fault : Option ValueFault) → i < length entries
+        → e ≡ get_or entries i e → AreReadTo i told room
+        → IfSome fault (IsFirstOfElements m u (entry (entry_view e).site (entry_view e).name (entry_view e).value no_entries))
+        → IfSome fault (IsFirstOfElements m u (entries_of (map entry_view entries)))
+    faulty_elements i room told e None lt is h first = tt
+    faulty_elements i room told e (Some f) lt is h first =
         let w = entry_view e in (
           first.0,
           subst (λ fs. slice_get fs 0 ≡ Some f) (sym (ap (faults_of_elements m u) (split i e lt is)) ∙ h.5)
@@ -153,9 +149,9 @@ module _ (m : Meaning) (u : AbstractType) (each : Option Constraint) where
               (faults_of_elements m u (left (i + 1))) f first.1),
         )
 
-    pub all_read : (i room : ℕ) (all : Bool) → i ≡ length entries → AreReadTo i all room
-        → AreRead m u each (entries_of (map entry_view entries)) (length entries) (all, longest_encoding - room)
-    all_read i room all end h =
+    pub all_read : (i room : ℕ) (told : List Bool) → i ≡ length entries → AreReadTo i told room
+        → AreRead m u questions (entries_of (map entry_view entries)) (length entries) told (longest_encoding - room)
+    all_read i room told end h =
         let none : left i ≡ no_entries =
         at_drop_all (λ xs. entries_of (map entry_view xs)) entries i (omega (arith, end)) in (
           h.0,
@@ -201,9 +197,9 @@ short_whole ty kind is octets whole counted short v contents =
 
 module _ (names : Visible) (fit : AreFitting names.values) (t : AbstractType) (k : Collection) (tags : List Tag)
     (u : AbstractType) (cons : Constraints) (is : t ≡ type_of tags (of_kind k u) cons) (site : Site)
-    (es : WrittenEntries) (count : ℕ) (each : Option Constraint) (kept all : Bool) (octets : ℕ)
-    (sound : IsTrue (is_sound t)) (read : AreRead names.values u each es count (all, octets))
-    (few : count ≤ 4294967295) (asked : IsAsked count (all_hold cons) kept each)
+    (es : WrittenEntries) (count : ℕ) (told rest : List Bool) (kept : Bool) (octets : ℕ)
+    (sound : IsTrue (is_sound t)) (read : AreRead names.values u (questions_of t) es count told octets)
+    (few : count ≤ 4294967295) (tells : TellsMember count t told kept rest)
     (short : (v : AbstractValue) → Some octets ≡ short_length (contents_octets (of_kind k u) v)
     → is_short (der t v) ≡ true) where
   abbrev tree : WrittenValue
@@ -221,20 +217,17 @@ module _ (names : Visible) (fit : AreFitting names.values) (t : AbstractType) (k
         short v (sym (octets_in_order k u read.0 ∙ read.3)),
       )
 
-  member : is_member t v ≡ (kept && all)
+  member : is_member t v ≡ kept
   member =
       let a = and_parts (is_proper t && has_distinct_tags t) (nat_le (nesting t) deepest_nesting) sound in
       let proper = (and_parts (is_proper t) (has_distinct_tags t) a.0).0 in
-      let fitting = sym (ap (λ (x : AbstractType). fits x v) is) ∙ says_fits names.values fit tree t v proper denoted.0 in
-      ap (λ (x : AbstractType). is_member x v) is
-      ∙ ap (λ (b : Bool). b && all_hold cons (of_kind k u) v && parts_are_members (of_kind k u) v) fitting
-      ∙ ap (λ (b : Bool). b && parts_are_members (of_kind k u) v) (asked (of_kind k u) (takes k u)
-      (items_of (in_order k u read.0)) (items_in_order k u read.0 ∙ read.4))
-      ∙ sym (and_grouped kept (every_item (each_has each (element_kind (of_kind k u))) (items_of (in_order k u read.0)))
-      (parts_are_members (of_kind k u) v))
-      ∙ ap (λ (b : Bool). kept && b) (kept_in_order each k u read.0 ∙ sym read.2)
+      (tells u (ap (λ (x : AbstractType). element_of (kind_of x)) is ∙ listed_kind k u) proper
+      (items_of (in_order k u read.0)) (says_fits names.values fit tree t v proper denoted.0)
+      (items_in_order k u read.0 ∙ read.4) []
+      (read.2 ∙ sym (told_in_order (questions_of t) k u read.0)
+      ∙ sym (append-nil (answers (questions_of t) (items_of (in_order k u read.0)))))).0
 
-  one_outside : (before : ℕ) (name : Site) → (kept && all) ≡ false
+  one_outside : (before : ℕ) (name : Site) → kept ≡ false
       → ReadsAndHolds before name names t tree (Err (DefaultOutside site))
   one_outside before name none = inr (
     DefaultOutside site,
@@ -250,7 +243,7 @@ module _ (names : Visible) (fit : AreFitting names.values) (t : AbstractType) (k
     refl,
   )
 
-  too_large : (before : ℕ) (name : Site) → (kept && all) ≡ true → 100000 ≤ count
+  too_large : (before : ℕ) (name : Site) → kept ≡ true → 100000 ≤ count
       → ReadsAndHolds before name names t tree (Err (TooLarge name))
   too_large before name each long =
       let counted : length read.0 ≡ count = read.4 in
@@ -262,9 +255,9 @@ module _ (names : Visible) (fit : AreFitting names.values) (t : AbstractType) (k
       inl (v, inl (v, denoted, inl (tt, member ∙ each, refl)), (refl, lt-leb _ 100000 over))
 
   one_refused : (before : ℕ) (name : Site) → 100000 ≤ count
-      → ReadsAndHolds before name names t tree (Err (cond (kept && all) (TooLarge name) (DefaultOutside site)))
-  one_refused before name long = by (kept && all) refl where
-    by : (b : Bool) → (kept && all) ≡ b → ReadsAndHolds before name names t tree (Err (cond b (TooLarge name)
+      → ReadsAndHolds before name names t tree (Err (cond kept (TooLarge name) (DefaultOutside site)))
+  one_refused before name long = by kept refl where
+    by : (b : Bool) → kept ≡ b → ReadsAndHolds before name names t tree (Err (cond b (TooLarge name)
         (DefaultOutside site)))
     by true e = too_large before name e long
     by false e = one_outside before name e
@@ -308,13 +301,13 @@ pub record Listed (ty : Ty) (u : AbstractType) (tree : ValueTree) (entries : Vec
   pub element : element_of (kind_view (out-Ty ty).kind) ≡ Some u
 
 -- such a list of which all elements are read, and whose size the constraints were asked for
-pub record Counted (names : Visible) (ty : Ty) (u : AbstractType) (each : Option Constraint)
-    (entries : Vec EntryTree) (kept all : Bool) (octets : ℕ) : Type 0 where
+pub record Counted (names : Visible) (ty : Ty) (u : AbstractType) (entries : Vec EntryTree) (told rest : List Bool)
+    (kept : Bool) (octets : ℕ) : Type 0 where
   pub fit : AreFitting names.values
-  pub read : AreRead names.values u each (entries_of (map entry_view entries.items)) (length entries.items)
-      (all, octets)
+  pub read : AreRead names.values u (questions_of (type_view ty)) (entries_of (map entry_view entries.items))
+      (length entries.items) told octets
   pub few : length entries.items ≤ 4294967295
-  pub asked : IsAsked (length entries.items) (all_hold (constraints ty)) kept each
+  pub tells : TellsMember (length entries.items) (type_view ty) told kept rest
   pub whole : Option ℕ
   pub counted : whole ≡ length_in (out-Ty ty).tags.items (Some octets)
   pub short : is_some whole ≡ true
@@ -335,16 +328,16 @@ module _ (names : Visible) (ty : Ty) (u : AbstractType) (tree : ValueTree) (entr
       ∙ ap (λ (f : ValueForm). value_node (out-ValueTree tree).site (value_form_view f)) l.listed
       ∙ ap (value_node (out-ValueTree tree).site) (form_list entries)
 
-  pub refused : (each : Option Constraint) (kept all : Bool) (octets : ℕ)
-      → Counted names ty u each entries kept all octets
+  pub refused : (told rest : List Bool) (kept : Bool) (octets : ℕ)
+      → Counted names ty u entries told rest kept octets
       → 100000 ≤ length entries.items → (site : Site) (before : ℕ)
       → ReadsAndHolds before site names (type_view ty) (value_view tree)
-      (Err (cond (kept && all) (TooLarge site) (DefaultOutside (out-ValueTree tree).site)))
-  refused each kept all octets c long site before =
-      subst (λ w. ReadsAndHolds before site names (type_view ty) w (Err (cond (kept && all) (TooLarge site)
+      (Err (cond kept (TooLarge site) (DefaultOutside (out-ValueTree tree).site)))
+  refused told rest kept octets c long site before =
+      subst (λ w. ReadsAndHolds before site names (type_view ty) w (Err (cond kept (TooLarge site)
       (DefaultOutside (out-ValueTree tree).site)))) (sym tree_is) (one_refused names c.fit (type_view ty) k
-      (out-Ty ty).tags.items u (constraints ty) type_is (out-ValueTree tree).site es (length entries.items) each kept all
-      octets l.sound c.read c.few c.asked (short_whole ty (of_kind k u) (ap kind_of type_is) octets c.whole c.counted
+      (out-Ty ty).tags.items u (constraints ty) type_is (out-ValueTree tree).site es (length entries.items) told rest kept
+      octets l.sound c.read c.few c.tells (short_whole ty (of_kind k u) (ap kind_of type_is) octets c.whole c.counted
       c.short) before site long)
 
   pub faulty : (f : ValueFault) → IsFirstOfElements names.values u es f → (site : Site) (before : ℕ)

@@ -5,13 +5,15 @@ ghost use Rattle.std.specs.Prelude.{IsTrue, IfOk, IfErr, IfSome, if◌then◌els
 ghost use Rattle.guard_constraints.specs.Views.{visible_in};
 ghost use Rattle.guard_der.specs.Encoding.{longest_encoding};
 ghost use Rattle.guard_der.specs.Fits.{fits};
-ghost use Rattle.guard_der.specs.Sound.{is_sound, is_proper_constraint};
-ghost use Rattle.guard_model.specs.TypeView.{type_view, constraint_view};
+ghost use Rattle.guard_der.specs.Sound.{is_sound};
+ghost use Rattle.guard_model.specs.TypeView.{type_view};
 ghost use Rattle.guard_model.specs.ValueView.{value_view};
 ghost use Rattle.guard_schema.specs.Faults.{named, DefaultOutside, TooLarge};
 ghost use Rattle.guard_schema.specs.Outcomes.{RefusesBy};
 ghost use Rattle.guard_schema.specs.Pairs.{AreBuilt};
-ghost use Rattle.guard_schema.specs.inside.LongLists.{AreRead, IsFirstOfElements, ReadsAndHolds, is_kept};
+ghost use Rattle.guard_schema.specs.inside.LongLists.{AreRead, IsFirstOfElements, ReadsAndHolds};
+ghost use Rattle.guard_schema.specs.inside.QuestionViews.{questions_view};
+ghost use Rattle.guard_schema.specs.inside.Questions.{MayBeAsked};
 ghost use Rattle.guard_syntax.specs.Trees.{entry as before, entries_of, no_entries};
 ghost use Rattle.guard_syntax.specs.Views as trees;
 ghost use Rattle.guard_values.specs.declared.fault.ValueFault.TheVariants as value_fault;
@@ -19,10 +21,10 @@ ghost use Rattle.guard_values.specs.Denotes.{Says};
 ghost use Rattle.guard_values.specs.Views as values;
 
 use crate::fault::SchemaFault;
-use crate::list_sizes::all_asked;
+use crate::list_sizes::type_allows;
+use crate::questions::{Question, ask, questions_of, unasked};
 use guard_der::{LONGEST_ENCODING, encoded_length, length_in};
-use guard_eval::{holds, member};
-use guard_model::{Comp, Cons, Kind, MOST_ITEMS, Presence, Site, Ty, Value};
+use guard_model::{Comp, Kind, MOST_ITEMS, Presence, Site, Ty, Value};
 use guard_syntax::{EntryTree, ValueForm, ValueTree};
 use guard_values::{Scope, ValueFault, shared_value};
 use std::alloc::Global;
@@ -33,9 +35,8 @@ const LONG: usize = 100_000;
 
 /// Refuses a value assignment, whose name is at the site, where its value is a list that is longer than may be: by the
 /// first fault of its elements where one denotes nothing, S2 where an element or the list itself is no member, else S3.
-/// Of other values nothing is said, nor of a list whose type's constraints look at its elements otherwise than by one
-/// WITH COMPONENT alone, as a single value, a contained subtype or a union of WITH COMPONENT does, nor of one whose
-/// encoding, or that of an element before its first fault, may be too long.
+/// Of other values nothing is said, nor of a list where its type's constraints, or those of a type that one contains, have
+/// a single value, nor of one whose encoding, or that of an element before its first fault, may be too long.
 pub fn check_length(
     alloc: Global,
     scope: Scope,
@@ -55,25 +56,28 @@ pub fn check_length(
     if !is_long(count, &element.kind) || !has_small_defaults(element) {
         return Ok(());
     }
-    let Some((is_allowed, each)) = all_asked(alloc, &ty.cons, count) else {
+    let Some(questions) = questions_of(alloc, ty) else {
         return Ok(());
     };
-    let (are_members, octets) = match elements_read(alloc, scope, entries, element, each) {
+    let (told, octets) = match elements_read(alloc, scope, entries, element, &questions) {
         Ok(read) => read,
         Err(Some(fault)) => return Err(SchemaFault::Value(fault)),
         Err(None) => return Ok(()),
     };
-    if length_in(&ty.tags, octets).is_none() {
+    let (Some((is_member, _)), Some(_)) = (
+        type_allows(alloc, ty, count, &told),
+        length_in(&ty.tags, octets),
+    ) else {
         return Ok(());
-    }
-    Err(refusal(is_allowed, are_members, tree.site, site))
+    };
+    Err(refusal(is_member, tree.site, site))
 }
 
-/// S3 at the name, or S2 at the value where its size isn't allowed or an element is no member.
-fn refusal(is_allowed: bool, are_members: bool, value: Site, name: Site) -> SchemaFault
-    ensures { named result ≡ Some (if is_allowed && are_members then TooLarge name else DefaultOutside value) }
+/// S3 at the name, or S2 at the value where this is no member.
+fn refusal(is_member: bool, value: Site, name: Site) -> SchemaFault
+    ensures { named result ≡ Some (if is_member then TooLarge name else DefaultOutside value) }
 {
-    if is_allowed && are_members {
+    if is_member {
         SchemaFault::TooLarge(name)
     } else {
         SchemaFault::DefaultOutside(value)
@@ -128,28 +132,29 @@ fn is_number(value: &Value) -> bool {
     }
 }
 
-/// Whether all elements are members of the type and as the constraint says, if there is one, and how many octets their
-/// encodings have.
+/// The answers to the questions for all elements, and how many octets their encodings have.
 ///
 /// Errors: the first fault of the elements, where one denotes nothing. None where all have more octets than an encoding
-/// may have, and where `element_value` says nothing.
+/// may have, where `element_value` says nothing, and where there is no memory for the answers.
 fn elements_read(
     alloc: Global,
     scope: Scope,
     entries: &[EntryTree],
     ty: &Ty,
-    each: Option<&Cons>,
-) -> Result<(bool, usize), Option<ValueFault>>
+    questions: &[Question],
+) -> Result<(Vec<bool>, usize), Option<ValueFault>>
     requires sound { IsTrue (is_sound (type_view ty.now)) }
     requires known { AreBuilt scope.known.now }
-    requires each { IfSome each (λ c. IsTrue (is_proper_constraint (constraint_view c.now) (type_view ty.now))) }
-    ensures read { IfOk result (AreRead (visible_in scope.entry).values (type_view ty.now)
-        (option_map (λ c. constraint_view c.now) each.entry) (entries_of (map trees.entry_view entries.now)) (length entries.now)) }
+    requires asked { MayBeAsked (type_view ty.now) (questions_view questions.now) }
+    ensures read { IfOk result (λ x. AreRead (visible_in scope.entry).values (type_view ty.now)
+        (questions_view questions.now) (entries_of (map trees.entry_view entries.now)) (length entries.now) x.0.items x.1) }
     ensures bound { IfOk result (λ x. x.1 ≤ longest_encoding) }
     ensures first { IfErr result (λ o. IfSome o (IsFirstOfElements (visible_in scope.entry).values (type_view ty.now)
         (entries_of (map trees.entry_view entries.now)))) }
 {
-    let mut are_members = true;
+    let Some(mut told) = unasked(alloc, questions) else {
+        return Err(None);
+    };
     let mut room = LONGEST_ENCODING;
     for entry in entries {
         let value = element_value(alloc, scope, entry, ty)?;
@@ -160,23 +165,9 @@ fn elements_read(
             return Err(None);
         }
         room -= length;
-        are_members = are_members && is_kept(each, ty, &value);
+        ask(questions, &value, &mut told);
     }
-    Ok((are_members, LONGEST_ENCODING - room))
-}
-
-/// Whether the value is a member of the type, and as the constraint says if there is one.
-fn is_kept(each: Option<&Cons>, ty: &Ty, value: &Value) -> bool
-    requires sound { IsTrue (is_sound (type_view ty.now)) }
-    requires each { IfSome each (λ c. IsTrue (is_proper_constraint (constraint_view c.now) (type_view ty.now))) }
-    requires fits { IsTrue (fits (type_view ty.now) (value_view value.now)) }
-    ensures { result ≡ is_kept (option_map (λ c. constraint_view c.now) each.entry) (type_view ty.now)
-        (value_view value.now) }
-{
-    match each {
-        Some(each) => holds(each, ty, value) && member(ty, value),
-        None => member(ty, value),
-    }
+    Ok((told, LONGEST_ENCODING - room))
 }
 
 /// The value of an element.

@@ -1,6 +1,7 @@
 -- What constraints say of lists by how many elements they have and what these answer, one constraint after another.
-use Rattle.std.proofs.Common.{◌≡◌, ℕ, zero, suc, ◌+◌, ◌≤◌, ◌<◌, Bool, not, ◌&&◌, List, [], ◌∷◌, ◌++◌, length, map, drop, get_or, Option, Some, None, sym, ap, subst, ◌∙◌, IsTrue, IfSome, arith, append_assoc}
-use Rattle.std.proofs.lemmas.Bool.{and_parts}
+use Rattle.std.proofs.Common.{◌≡◌, ℕ, zero, suc, ◌+◌, ◌≤◌, ◌<◌, Bool, false, not, ◌&&◌, List, [], ◌∷◌, ◌++◌, length, map, drop, get_or, Option, Some, None, refl, sym, ap, subst, ◌∙◌, IsTrue, IfSome, arith, append_assoc}
+use Rattle.std.proofs.Math.Bool.{and-false}
+use Rattle.std.proofs.lemmas.Bool.{and_parts, eqb-false}
 use Rattle.std.proofs.lemmas.List.{at_drop_more, at_drop_all, map-append}
 use Rattle.std.proofs.lemmas.Option.{same_Some}
 use Rattle.std.specs.Prelude.{nat_le}
@@ -14,13 +15,14 @@ use Rattle.guard_model.specs.AbstractValue as value
 use Rattle.guard_model.specs.AbstractValue.{AbstractValue, Items}
 use Rattle.guard_model.specs.Counts.{item_count}
 use Rattle.guard_model.specs.Kinds.{kind_of, element_of}
+use Rattle.guard_model.specs.Same.{same, same_items}
 use Rattle.guard_model.specs.SameType.{same_base}
 use Rattle.guard_model.specs.TypeView.{OneComponent, OnePart, type_view, kind_view, constraint_view, constraints_of, element_view, kind_step, rule_step, comp_step, cons_step, part_step, ty_step}
 use Rattle.guard_model.specs.declared.ty.Kind.TheFolds.{fold-roll-Rule}
 use Rattle.guard_model.specs.declared.ty.Kind.TheOpen.{Rule-F}
-use Rattle.guard_model.specs.declared.ty.Rule.{Rule, Any, Both}
-use Rattle.guard_model.specs.declared.ty.Rule.TheVariants.{rolls-Any, rolls-Both}
-use Rattle.std.specs.Global.{Vec}
+use Rattle.guard_model.specs.declared.ty.Rule.{Rule, Size, Any, Both}
+use Rattle.guard_model.specs.declared.ty.Rule.TheVariants.{rolls-Size, rolls-Any, rolls-Both}
+use Rattle.std.specs.Global.{Box, Vec}
 use Rattle.guard_model.proofs.TypeViews.{type_view_is}
 use Rattle.guard_tagcheck.specs.Limits.{nesting, is_tagged, are_low}
 use Rattle.guard_der.specs.Fits.{fits}
@@ -31,7 +33,7 @@ use Rattle.guard_eval.specs.Member.{holds, holds_element, all_hold, is_member, p
 use Rattle.guard_eval.specs.Presence.{element_kind}
 use Rattle.guard_eval.proofs.Applied.{contained_holds, size_holds}
 use Rattle.guard_eval.proofs.AtPlace.{constraint_view_is}
-use Rattle.guard_schema.specs.inside.LongLists.{is_size_in}
+use Rattle.guard_schema.specs.inside.LongLists.{is_list_of, is_size_in}
 use Rattle.guard_schema.specs.inside.Questions.{AbstractQuestion, answers, asked_of, passes, questions_among, questions_by, questions_in, Tells, TellsMember}
 use Rattle.guard_schema.proofs.ElementQuestions.{element_of_base}
 
@@ -131,6 +133,11 @@ abbrev pub ConstraintTells : ℕ → Constraint → List Bool → Bool → List 
 ConstraintTells count c given result rest =
     Tells count (is_proper_constraint c) (questions_by c) (λ t. holds c (kind_of t)) given result rest
 
+pub view_size : (rule : Rule) (c : Box Cons) → rule ≡ Size c → element_view rule ≡ type.size (constraint_view c.value)
+view_size rule c is = ap element_view is ∙ ap element_view (sym (rolls-Size c))
+    ∙ fold-roll-Rule AbstractKind Element OneComponent Constraint OnePart AbstractType kind_step rule_step comp_step cons_step
+    part_step ty_step (Rule-F.Size c)
+
 pub by_rule : (count : ℕ) (c : Cons) (e : Element) (given rest : List Bool) (result : Bool)
     → element_view (out-Cons c).rule ≡ e → ElementTells count e given result rest
     → ConstraintTells count (constraint_view c) given result rest
@@ -143,6 +150,18 @@ element_kind_is (type.sequence_of t) u e = ap kind_of (same_Some t u e)
 element_kind_is (type.set_of t) u e = ap kind_of (same_Some t u e)
 element_kind_is _ u e = absurd cc
 
+other_count : (ws vs : Items) → (item_count ws ≡ item_count vs → ⊥) → same_items ws vs ≡ false
+other_count value.no_items value.no_items h = absurd (h refl)
+other_count value.no_items (value.item v vs) h = refl
+other_count (value.item w ws) value.no_items h = refl
+other_count (value.item w ws) (value.item v vs) h =
+    ap (λ (b : Bool). same w v && b) (other_count ws vs (λ e. h (ap suc e))) ∙ and-false (same w v)
+
+other_list : (w : AbstractValue) (vs : Items) → is_list_of (item_count vs) w ≡ false → same w (value.items vs) ≡ false
+other_list (value.items ws) vs h =
+    other_count ws vs (eqb-false (item_count ws) (item_count vs) h)
+other_list _ vs h = refl
+
 module _ (count : ℕ) where
   pub inside_tells : (w : AbstractType) (given rest : List Bool) (result : Bool) → TellsMember count w given result rest
       → ElementTells count (type.contained_subtype w) given result rest
@@ -153,6 +172,11 @@ module _ (count : ℕ) where
       let r = told e.0 e.1 (and_parts (is_proper w) (has_distinct_tags w) b.0).0 vs
       (same_base_fits w t (value.items vs) a.0 ∙ fit) many more asked in
       (sym (contained_holds w t (value.items vs) proper) ∙ r.0, r.1)
+
+  pub one_tells : (w : AbstractValue) (given : List Bool) → is_list_of count w ≡ false
+      → ElementTells count (type.single_value w) given false given
+  one_tells w given other t u listed proper vs fit many more asked =
+      (other_list w vs (subst (λ (n : ℕ). is_list_of n w ≡ false) (sym many) other), asked)
 
   pub size_tells : (c : Constraint) (given : List Bool) (result : Bool) → result ≡ is_size_in c count
       → ElementTells count (type.size c) given result given

@@ -5,16 +5,17 @@ ghost use Rattle.guard_der.specs.Sound.{are_proper_constraints, is_proper_constr
 ghost use Rattle.guard_eval.specs.Member.{holds, all_hold, some_hold};
 ghost use Rattle.guard_model.specs.Kinds.{kind_of, element_of};
 ghost use Rattle.guard_model.specs.TypeView.{type_view, constraint_view, constraints_of};
+ghost use Rattle.guard_model.specs.ValueView.{value_view};
 ghost use Rattle.guard_schema.specs.inside.Questions.{questions_among, questions_by, Tells, TellsMember};
-ghost use Rattle.guard_schema.specs.inside.LongLists.{is_size_in};
+ghost use Rattle.guard_schema.specs.inside.LongLists.{is_list_of, is_size_in};
 
 use guard_eval::numbers_of;
-use guard_model::{Cons, Rule, Ty};
+use guard_model::{Cons, Rule, Ty, Value};
 use std::alloc::Global;
 
 /// Whether a list of so many elements is a member of the type, where the first of the answers are those to what the type
-/// asks of elements, and the answers after these. None where one of its constraints looks at a list otherwise, and where
-/// there is no memory for the sizes that one allows.
+/// asks of elements, and the answers after these. None where a list of so many is a single value of its constraints or one
+/// of them isn't a constraint on lists, and where there is no memory for the sizes that one allows.
 #[cycle(list_sizes)]
 pub fn type_allows<'a>(
     alloc: Global,
@@ -105,6 +106,12 @@ fn allows<'a>(
             let (is_taken, rest) = allows(alloc, taken, count, told)?;
             Some((!is_taken, rest))
         }
+        Rule::One(value) => {
+            if is_list_of(value, count) {
+                return None;
+            }
+            Some((false, told))
+        }
         _ => None,
     }
 }
@@ -116,5 +123,15 @@ fn has_size(alloc: Global, sizes: &Cons, count: usize) -> Option<bool>
     match numbers_of(alloc, sizes) {
         Ok(numbers) => Some(numbers.has(count as i128)),
         Err(_) => None,
+    }
+}
+
+/// Whether the value is a list of so many elements.
+fn is_list_of(value: &Value, count: usize) -> bool
+    ensures { result ≡ is_list_of count (value_view value.now) }
+{
+    match value {
+        Value::Items(items) => items.len() == count,
+        _ => false,
     }
 }

@@ -33,10 +33,14 @@ use std::sync::Arc;
 /// So many elements and the list itself are more values than all definitions may hold.
 const LONG: usize = 100_000;
 
+/// Defaults of so many octets, characters or arcs are quickly compared.
+const SHORT: usize = 64;
+
 /// Refuses a value assignment, whose name is at the site, where its value is a list that is longer than may be: by the
 /// first fault of its elements where one denotes nothing, S2 where an element or the list itself is no member, else S3.
-/// Of other values nothing is said, nor of a list where its type's constraints, or those of a type that one contains, have
-/// a single value, nor of one whose encoding, or that of an element before its first fault, may be too long.
+/// Of other values nothing is said, nor of a list where its type's constraints, with those of the types that they contain,
+/// ask too much of each element or have a list of so many elements as a single value, nor of one whose encoding, or that
+/// of an element before its first fault, may be too long.
 pub fn check_length(
     alloc: Global,
     scope: Scope,
@@ -120,14 +124,18 @@ fn have_small_defaults(comps: &[Comp]) -> bool {
 
 fn is_small(presence: &Presence) -> bool {
     match presence {
-        Presence::Default(value) => is_number(value),
+        Presence::Default(value) => is_short(value),
         _ => true,
     }
 }
 
-fn is_number(value: &Value) -> bool {
+fn is_short(value: &Value) -> bool {
     match value {
         Value::Bool(_) | Value::Int(_) | Value::Enumerated(_) | Value::Null => true,
+        Value::Bits(bits) => bits.octets.len() <= SHORT,
+        Value::Octets(octets) => octets.len() <= SHORT,
+        Value::Oid(arcs) => arcs.len() <= SHORT,
+        Value::Chars(characters) => characters.len() <= SHORT,
         _ => false,
     }
 }

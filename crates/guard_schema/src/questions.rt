@@ -14,6 +14,9 @@ use guard_eval::{holds, proper_member};
 use guard_model::{Cons, Rule, Ty, Value};
 use std::alloc::Global;
 
+/// So many are asked of each element. Contained types are shared, so there may be many more than the text has constraints.
+const MOST_QUESTIONS: usize = 64;
+
 /// What is asked of a value of the type: whether the constraint on the type has it, or where there is none, whether it is
 /// a member.
 #[derive(Clone, Copy)]
@@ -24,9 +27,9 @@ pub struct Question<'a> {
 
 // ---- gathered
 
-/// What the type of lists asks of their elements: first whether they are members of their type. None where one of its
-/// constraints looks at a list otherwise, as a single value does, where it is no type of lists, and where there is no
-/// memory.
+/// What the type of lists asks of their elements: first whether they are members of their type. A single value asks
+/// nothing. None where these are more than `MOST_QUESTIONS`, where it is no type of lists or a constraint isn't one on
+/// lists, and where there is no memory.
 pub fn questions_of<'a>(alloc: Global, ty: &'a Ty) -> Option<Vec<Question<'a>>>
     ensures { IfSome result (λ all. questions_view all.items ≡ questions_of (type_view ty.now)) }
 {
@@ -71,6 +74,7 @@ fn with_constraint<'a>(
         ++ questions_by (constraint_view cons.now) (type_view element.now)) }
 {
     match &cons.rule {
+        Rule::One(_) => Some(asked),
         Rule::Size(_) => Some(asked),
         Rule::Each(each) => with_one(asked, element, Some(each)),
         Rule::Inside(ty) => with_type(asked, ty),
@@ -85,7 +89,7 @@ fn with_constraint<'a>(
     }
 }
 
-/// These, and this one. None where there is no memory.
+/// These, and this one. None where there are as many as may be, and where there is no memory.
 fn with_one<'a>(
     asked: Vec<Question<'a>>,
     ty: &'a Ty,
@@ -94,6 +98,9 @@ fn with_one<'a>(
     ensures { IfSome result (λ all. questions_view all.items ≡ questions_view asked.entry.items
         ++ (record { ty = type_view ty.now; within = option_map (λ c. constraint_view c.now) within.entry } ∷ [])) }
 {
+    if MOST_QUESTIONS <= asked.len() {
+        return None;
+    }
     let mut all = asked;
     match all.push(Question { ty, within }) {
         Ok(()) => Some(all),

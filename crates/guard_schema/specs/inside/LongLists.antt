@@ -1,11 +1,12 @@
 -- Assigned lists of which no element is kept: what is found out about their elements and from how many there are, and how
 -- they are refused.
-use Rattle.std.specs.Prelude.{◌≡◌, ℕ, Bool, List, [], length, slice_get, Some, IsTrue}
+use Rattle.std.specs.Prelude.{◌≡◌, ℕ, Bool, false, nat_eq, List, [], length, slice_get, Some, IsTrue}
 use Rattle.guard_model.specs.declared.site.Site.{Site}
 use Rattle.guard_model.specs.AbstractType as type
-use Rattle.guard_model.specs.AbstractType.{AbstractType, AbstractKind, Constraint}
+use Rattle.guard_model.specs.AbstractType.{AbstractType, Constraint}
 use Rattle.guard_model.specs.AbstractValue as value
 use Rattle.guard_model.specs.AbstractValue.{AbstractValue, Items, items_of}
+use Rattle.guard_model.specs.Counts.{item_count}
 use Rattle.guard_der.specs.Der.{contents_octets}
 use Rattle.guard_der.specs.Encoding.{short_length}
 use Rattle.guard_eval.specs.Elements.{some_passes}
@@ -44,3 +45,8 @@ ReadsAndHolds before site names t tree =
 -- whether the constraint on INTEGER, inside SIZE, has this size (X.680 51.5)
 abbrev pub is_size_in : Constraint → ℕ → Bool
 is_size_in c count = some_passes (holds c (type.integer [])) (Some count)
+
+-- whether the value is a list of so many elements
+abbrev pub is_list_of : ℕ → AbstractValue → Bool
+is_list_of count (value.items vs) = nat_eq (item_count vs) count
+is_list_of count _ = false

@@ -54,8 +54,9 @@ abbrev mutual
   questions_in (type.intersection cs) u = questions_among cs u
   questions_in (type.except c d) u = questions_by c u ++ questions_by d u
   questions_in (type.all_except c) u = questions_by c u
-  -- these don't look at elements, but for a single value, which isn't asked for
+  -- none is asked where there is a single value, which no list of another size is
   questions_in (type.single_value v) u = []
+  -- these don't look at elements
   questions_in (type.range low high) u = []
   questions_in (type.size c) u = []
   questions_in (type.permitted_alphabet ranges) u = []

@@ -1,15 +1,18 @@
-use Rattle.std.proofs.Common.{Bor, ◌≡◌, Bool, ◌&&◌, ◌||◌, not, List, refl, sym, ap, subst, ◌∙◌}
+use Rattle.std.proofs.Common.{Bor, ◌≡◌, Bool, false, ◌&&◌, ◌||◌, not, List, refl, sym, ap, subst, ◌∙◌}
 use Rattle.std.proofs.Math.Bool.{or_assoc, or-false}
 use Rattle.guard_model.specs.AbstractType as type
 use Rattle.guard_model.specs.AbstractType.{AbstractType, Constraint, Element}
 use Rattle.guard_model.specs.declared.ty.Cons.{Cons}
 use Rattle.guard_model.specs.declared.ty.Kind.TheViews.{out-Cons}
 use Rattle.guard_model.specs.declared.ty.Ty.{Ty}
-use Rattle.guard_model.specs.TypeView.{type_view, constraint_view}
+use Rattle.guard_model.specs.declared.value.Value.{Value}
+use Rattle.guard_model.specs.TypeView.{type_view, constraint_view, element_view}
+use Rattle.guard_model.specs.ValueView.{value_view}
 use Rattle.guard_eval.specs.Member.{all_hold, some_hold}
-use Rattle.guard_eval.proofs.RuleViews.{view_inside, view_minus, view_other}
+use Rattle.guard_eval.proofs.AtPlace.{element_view_each}
+use Rattle.guard_eval.proofs.RuleViews.{view_one, view_inside, view_minus, view_other}
 use Rattle.guard_schema.specs.inside.Questions.{TellsMember}
-use Rattle.guard_schema.proofs.AskedOfLists.{left, one_told, all_told, some_too, view_any, view_both, by_rule, inside_tells, minus_tells, other_tells, ElementTells, ConstraintTells, member_tells}
+use Rattle.guard_schema.proofs.AskedOfLists.{left, one_told, all_told, some_too, view_any, view_both, view_size, by_rule, one_tells, size_tells, each_tells, inside_tells, minus_tells, other_tells, ElementTells, ConstraintTells, member_tells}
 use Rattle.guard_schema.proofs.ListsInOrder.{and_true, and_grouped}
 use Rattle.guard_schema.proofs.list_sizes.+list_sizes.Goals as goal
 use Rattle.guard_schema.proofs.list_sizes.+list_sizes.Goals.{all_allow-then-all, all_allow-else-all, some_allow-then-some, some_allow-else-some, allows-then-is_kept, allows-else-is_kept, type_allows-then-is_allowed, type_allows-else-is_allowed}
@@ -140,3 +143,35 @@ type_allows-returns t c =
     subst (λ (b : Bool). TellsMember n (type_view ty) c.args.told.now b rest) (sym result)
     (member_tells n ty c.args.told.now c.in_ok-are_members.told.now rest are allowed c.in_ok-are_members.ensures.cases.0
     (rw c.deref.ensures.value at c.in_ok-is_allowed.ensures))
+
+pub allows-returns-else-is_list_of : goal.allows-returns-else-is_list_of
+allows-returns-else-is_list_of t c =
+    let cons = c.args.cons.now in
+    let told = c.args.told.now in
+    let w = value_view c.deref-in-One.result.now in
+    by_rule c.args.count cons (type.single_value w) told told false
+    (view_one (out-Cons cons).rule c.in-One.value c.in-One.is
+    ∙ ap (λ (v : Value). type.single_value (value_view v)) (sym c.deref-in-One.ensures))
+    (one_tells c.args.count w told (sym c.is_list_of.ensures ∙ c.if-is_list_of.false))
+
+pub allows-returns-in_ok-is_allowed-in-Size : goal.allows-returns-in_ok-is_allowed-in-Size
+allows-returns-in_ok-is_allowed-in-Size t c =
+    let cons = c.args.cons.now in
+    let told = c.args.told.now in
+    let d = constraint_view c.deref-in-Size.result.now in
+    let allowed = c.in_ok-is_allowed-in-Size.is_allowed in
+    by_rule c.args.count cons (type.size d) told told allowed
+    (view_size (out-Cons cons).rule c.in-Size.sizes c.in-Size.is
+    ∙ ap (λ (x : Cons). type.size (constraint_view x)) (sym c.deref-in-Size.ensures))
+    (size_tells c.args.count d told allowed c.in_ok-is_allowed-in-Size.ensures)
+
+pub allows-returns-in_ok-each-in-Each : goal.allows-returns-in_ok-each-in-Each
+allows-returns-in_ok-each-in-Each t c =
+    let cons = c.args.cons.now in
+    let told = c.args.told.now in
+    let d = constraint_view c.in-Each.field-0.value in
+    let each = c.in_ok-each-in-Each.each.now in
+    let rest = c.in_ok-each-in-Each.rest.now in
+    by_rule c.args.count cons (type.with_component d) told rest each
+    (ap element_view c.in-Each.is ∙ element_view_each c.in-Each.field-0)
+    (each_tells c.args.count d told rest each c.in_ok-each-in-Each.ensures.cases.0)

@@ -1,18 +1,22 @@
 -- What a policy decides of a body, by the octets of its names or by the names.
 use Rattle.std.proofs.Common.{◌≡◌, ◌∙◌, ◌-◌, ◌≤◌, List, ℕ, ◌++◌, true, false, ap, sym, subst, length, take, length-append, arith}
-use Rattle.std.specs.Prelude.{Some}
+use Rattle.std.specs.Prelude.{Option, Some, None, IfSome}
 use Rattle.std.proofs.lemmas.Bool.{false≢true}
 use Rattle.std.proofs.lemmas.List.{append_assoc}
 use Rattle.std.proofs.Math.Seq.{take-append_seam}
+use Rattle.guard_policy.specs.declared.found_route.FoundRoute.{FoundRoute}
 use Rattle.guard_policy.specs.declared.passing.Passing.{Passing}
 use Rattle.guard_policy.specs.declared.passing.Passing.TheVariants as passing
+use Rattle.guard_policy.specs.FoundRoutes.{Answers, Decides}
 use Rattle.guard_policy.specs.NamedRoutes.{with_length, IsGiven}
 use Rattle.guard_policy.specs.Policies.{AbstractPolicy, AbstractRoute, AbstractRule}
 use Rattle.guard_policy.specs.Told.{Tells}
 use Rattle.guard_frames.specs.Bodies.{AbstractBody, IsBody, HasNames, header_of, named, parts_in, has_names}
 use Rattle.guard_frames.specs.OfPolicy.{route_of, decision_of, lets_of, reasons_of}
 use Rattle.guard_frames.specs.Outcomes.{IsDecided}
+use Rattle.guard_frames.specs.Recalling.{recalled, Recalls}
 use Rattle.guard_frames.specs.declared.decision.Decided.{Decided}
+use Rattle.guard_frames.specs.declared.last_route.LastRoute.{LastRoute}
 use Rattle.guard_frames.specs.inside.Deciding.{decided}
 use Rattle.guard_frames.proofs.HeaderLaws.{names_in, names_again, parts_take, same_parts}
 
@@ -77,3 +81,29 @@ decided_as_named p octets b told answer there named tells is =
 -- what is in their places isn't names
 pub misnamed : (octets : List ℕ) (b : AbstractBody) → Some b ≡ parts_in octets → has_names b ≡ false → (c : AbstractBody) → IsBody octets c → ⊥
 misnamed octets b there none c is = false≢true (sym none ∙ names_again b (subst HasNames (same_parts octets b c there is) is.names))
+
+-- ---- by what was found of a route before
+
+-- the header of a body before another message
+with_message : (b : AbstractBody) (message : List ℕ) → has_names b ≡ true → IsBody (header_of b ++ message) (record { sender = b.sender; receiver = b.receiver; name = b.name; message_octets = message })
+with_message b message names = record {
+  joined =
+      append_assoc (named b.sender) (named b.receiver ++ named b.name) message
+      ∙ ap (λ (rest : List ℕ). named b.sender ++ rest) (append_assoc (named b.receiver) (named b.name) message);
+  names = (let n = names_in b names in record { sender = n.sender; receiver = n.receiver; name = n.name });
+}
+
+pub decided_as_recalled : (p : AbstractPolicy) (octets header message : List ℕ) (found : FoundRoute) (last : LastRoute) (told : Passing) (answer : Decided)
+    → Recalls (decision_of p) (lets_of p) (reasons_of p) last → recalled last ≡ Some (header, found) → octets ≡ header ++ message → Answers found message told → answer ≡ decided told
+    → IsDecided (decision_of p) (lets_of p) (reasons_of p) octets answer
+decided_as_recalled p octets header message found last told answer recalls is whole answers same =
+    rw (whole, same) (subst (λ (o : Option (List ℕ × FoundRoute)). IfSome o (λ x. (m : List ℕ) (t : Passing) → Answers x.1 m t → IsDecided (decision_of p) (lets_of p) (reasons_of p) (x.0 ++ m) (decided t)))
+    is recalls message told answers)
+
+-- what is kept of a body's header and its route
+pub recalls_kept : (p : AbstractPolicy) (b : AbstractBody) (header : List ℕ) (found : FoundRoute) (o : Option (List ℕ × FoundRoute)) → has_names b ≡ true → header ≡ header_of b → Decides p (route_of b) found
+    → IfSome o (λ last. (last.0 ≡ header) × (last.1 ≡ found))
+    → IfSome o (λ x. (m : List ℕ) (t : Passing) → Answers x.1 m t → IsDecided (decision_of p) (lets_of p) (reasons_of p) (x.0 ++ m) (decided t))
+recalls_kept p b header found None names is decides kept = tt
+recalls_kept p b header found (Some x) names is decides (same, route) = λ m t answers.
+    rw (same ∙ is) (decided_of p (header_of b ++ m) _ t (with_message b m names) (decides m t (subst (λ (f : FoundRoute). Answers f m t) route answers)))

@@ -10,6 +10,7 @@ pub mod Splitting
 pub mod HeaderLaws
 pub mod NameSizes
 pub mod BodyDecisions
+pub mod Recalled
 pub mod Reporting
 pub mod LineOfFrame
 -- ---- frames that are decided one after another

@@ -6,6 +6,7 @@ pub mod Cutting
 pub mod Bodies
 -- ---- what comes of frames
 pub mod Outcomes
+pub mod Recalling
 pub mod Totals
 pub mod Prefix
 pub mod Added

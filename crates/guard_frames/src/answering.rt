@@ -13,9 +13,9 @@ use crate::cut::frame_of;
 use crate::decision::{Decide, Decided};
 use crate::devices::{Failed, Sink, put_all};
 use crate::header::cut_body;
+use crate::last_route::LastRoute;
 use crate::report::{put_report, report_on};
 use crate::short_line::{ShortLine, append};
-use guard_policy::LastRoute;
 use itoa::Buffer;
 use std::alloc::Global;
 

@@ -5,12 +5,14 @@ ghost use Rattle.guard_policy.specs.declared.verdict.PlainReason.{PlainReason};
 ghost use Rattle.guard_frames.specs.Bodies.{AbstractBody, body_view, header_of, HasNames};
 ghost use Rattle.guard_frames.specs.Calls.{EndsLine};
 ghost use Rattle.guard_frames.specs.Outcomes.{Decision, IsDecided};
+ghost use Rattle.guard_frames.specs.Recalling.{Recalls};
 ghost use Rattle.guard_frames.specs.declared.why.Reason.{Reason};
 
 use crate::body::Body;
+use crate::last_route::LastRoute;
 use crate::why::Reason;
 use guard_model::OutOfMemory;
-use guard_policy::{LastRoute, PlainReason};
+use guard_policy::PlainReason;
 use std::alloc::Global;
 
 /// What is decided of a frame.
@@ -47,11 +49,13 @@ pub trait Decide {
 
     /// Whether a frame goes, by the octets that follow its four octets of length: they are three names and a message,
     /// and this body is decided to go. The rule is told by which one goes. Of one that stays is told whether it has
-    /// three names, so that nobody asks again, and the reason may be, for `line`. No memory is taken. The place where
-    /// the frame's route was found may be kept in `last`, so that the next frame's is compared with that one first; no
-    /// answer depends on it.
-    fn goes(&self, body: &[u8], last: &mut LastRoute) -> Decided
-        ensures { IsDecided (decides self.now) (lets self.now) (reasons_of self.now) body.now result };
+    /// three names, so that nobody asks again, and the reason may be, for `line`. No memory is taken. What was found of
+    /// the frame's route may be kept in `last`, so that the names of the next frame are compared with its names before
+    /// they are looked up; no answer depends on it. Condition: what is kept there is right.
+    fn goes<'a>(&'a self, body: &[u8], last: &mut LastRoute<'a>) -> Decided
+        requires { Recalls (decides self.now) (lets self.now) (reasons_of self.now) last.old }
+        ensures decided { IsDecided (decides self.now) (lets self.now) (reasons_of self.now) body.now result }
+        ensures recalls { Recalls (decides self.now) (lets self.now) (reasons_of self.now) last.new };
 
     /// Puts the report line of the frame of this number and with this body, with its line feed, in the place of what
     /// `line` has, and answers the reason that it gives. One list serves many lines, and keeps its memory. Conditions:

@@ -10,14 +10,16 @@ ghost use Rattle.guard_frames.specs.Calls.{EndsLine};
 ghost use Rattle.guard_frames.specs.OfPolicy.{route_of, decision_of, lets_of, reasons_of, gives_of};
 ghost use Rattle.guard_frames.specs.Outcomes.{IsDecided};
 ghost use Rattle.guard_frames.specs.Reasons.{reason_of};
+ghost use Rattle.guard_frames.specs.Recalling.{Recalls};
 ghost use Rattle.guard_frames.specs.inside.Deciding.{decided};
 
 use crate::body::Body;
 use crate::decision::{Decide, Decided, Known};
 use crate::header::{cut_body, has_names};
+use crate::last_route::LastRoute;
 use crate::why::{Reason, reason_of, reason_told};
 use guard_model::OutOfMemory;
-use guard_policy::{LastRoute, Passing, PlainReason, Policy, Route};
+use guard_policy::{Passing, PlainReason, Policy, Route};
 use guard_report::{add_line, add_line_told};
 use std::alloc::Global;
 
@@ -30,9 +32,12 @@ impl Decide for Policy {
 
     ghost gives = { λ policy. gives_of (policy_view policy) };
 
-    fn goes(&self, octets: &[u8], last: &mut LastRoute) -> Decided {
-        match self.passes_as_last(*last, octets) {
-            Some(told) => decided(told),
+    fn goes<'a>(&'a self, octets: &[u8], last: &mut LastRoute<'a>) -> Decided {
+        if let Some(told) = self.passes_as_last(last.given, octets) {
+            return decided(told);
+        }
+        match last.found(octets) {
+            Some((found, message)) => decided(found.look_at(message)),
             None => goes_as_read(self, octets, last),
         }
     }
@@ -123,21 +128,27 @@ fn decided(told: Passing) -> Decided
 /// What is decided of a frame, whose names are read and looked up. Whether they are names is asked only where no rule
 /// gives them. It is no part of `goes`, which needs fewer registers for a frame with the names of the one before.
 #[inline(never)]
-fn goes_as_read(policy: &Policy, octets: &[u8], last: &mut LastRoute) -> Decided
-    ensures { IsDecided (decision_of (policy_view policy.now)) (lets_of (policy_view policy.now))
+fn goes_as_read<'a>(policy: &'a Policy, octets: &[u8], last: &mut LastRoute<'a>) -> Decided
+    requires { Recalls (decision_of (policy_view policy.now)) (lets_of (policy_view policy.now))
+        (reasons_of (policy_view policy.now)) last.old }
+    ensures decided { IsDecided (decision_of (policy_view policy.now)) (lets_of (policy_view policy.now))
         (reasons_of (policy_view policy.now)) octets.now result }
+    ensures recalls { Recalls (decision_of (policy_view policy.now)) (lets_of (policy_view policy.now))
+        (reasons_of (policy_view policy.now)) last.new }
 {
     let Some(body) = cut_body(octets) else {
         return Decided::Stays(Known::BadHeader);
     };
     let names = &octets[..octets.len() - body.message_octets.len()];
-    if let Some(told) = policy.passes_and_found(names, body.message_octets, last) {
+    if let Some(told) = policy.passes_and_found(names, body.message_octets, &mut last.given) {
         return decided(told);
     }
     if !has_names(&body) {
         return Decided::Stays(Known::BadHeader);
     }
-    decided(policy.look_at(&route_of(&body), body.message_octets))
+    let found = policy.find_route(&route_of(&body));
+    last.keep(names, found);
+    decided(found.look_at(body.message_octets))
 }
 
 /// The route of a body: who sends what to whom, by the names in its header.

@@ -9,6 +9,7 @@ ghost use Rattle.guard_frames.specs.inside.Putting.{ArePut, IsBroken, SinkFailed
 use crate::cut::{Cut, Rest, first_cut};
 use crate::decision::{Decide, Decided};
 use crate::devices::Sink;
+use crate::last_route::LastRoute;
 use crate::report::{line_of, report_on};
 use crate::sending::{Broken, put_going};
 use crate::short_line::ShortLine;
@@ -17,7 +18,6 @@ use crate::unsent::Unsent;
 use crate::untold::Untold;
 use crate::waiting::Waiting;
 use crate::why::Watch;
-use guard_policy::LastRoute;
 use std::alloc::Global;
 
 /// How far the whole frames of some octets reach.

@@ -5,6 +5,7 @@ use Rattle.guard_frames.specs.Guarding.{Adds}
 use Rattle.guard_frames.specs.Answering.{pass_line}
 use Rattle.guard_frames.specs.inside.Judged.{report_line, ReportEnds}
 use Rattle.guard_frames.proofs.LineOfFrame.{body_that_goes, passes_by, stays_by}
+use Rattle.guard_frames.proofs.Recalled.{nothing_recalled}
 use Rattle.guard_frames.proofs.NameSizes.{name_short}
 use Rattle.guard_frames.proofs.Reporting.{not_without}
 use Rattle.guard_frames.proofs.Steps.{on_err_of}
@@ -12,30 +13,30 @@ use Rattle.guard_frames.proofs.answering.answer.Goals as goal
 
 pub unreachable-requires : goal.unreachable-requires
 unreachable-requires g c =
-    let go = c.in-Goes.ensures.0 in
+    let go = c.in-Goes.ensures.decided.0 in
     not_without c.frame_of-frame.result.body.now go.body go.is c.in_default.ensures
 
 pub put_pass-requires-clause-sender : goal.put_pass-requires-clause-sender
 put_pass-requires-clause-sender g c =
     name_short c.in-Some.body.sender.now
-    (body_that_goes (g.D.Decide.decides c.args.policy.now) c.frame_of-frame.result.body.now (body_view c.in-Some.body) c.in-Goes.ensures.0 c.in-Some.ensures).names.sender
+    (body_that_goes (g.D.Decide.decides c.args.policy.now) c.frame_of-frame.result.body.now (body_view c.in-Some.body) c.in-Goes.ensures.decided.0 c.in-Some.ensures).names.sender
 
 pub put_pass-requires-clause-receiver : goal.put_pass-requires-clause-receiver
 put_pass-requires-clause-receiver g c =
     name_short c.in-Some.body.receiver.now
-    (body_that_goes (g.D.Decide.decides c.args.policy.now) c.frame_of-frame.result.body.now (body_view c.in-Some.body) c.in-Goes.ensures.0 c.in-Some.ensures).names.receiver
+    (body_that_goes (g.D.Decide.decides c.args.policy.now) c.frame_of-frame.result.body.now (body_view c.in-Some.body) c.in-Goes.ensures.decided.0 c.in-Some.ensures).names.receiver
 
 pub put_pass-requires-clause-name : goal.put_pass-requires-clause-name
 put_pass-requires-clause-name g c =
     name_short c.in-Some.body.name.now
-    (body_that_goes (g.D.Decide.decides c.args.policy.now) c.frame_of-frame.result.body.now (body_view c.in-Some.body) c.in-Goes.ensures.0 c.in-Some.ensures).names.name
+    (body_that_goes (g.D.Decide.decides c.args.policy.now) c.frame_of-frame.result.body.now (body_view c.in-Some.body) c.in-Goes.ensures.decided.0 c.in-Some.ensures).names.name
 
 pub returns-in_ok-put_pass-in-Goes-clause-all : goal.returns-in_ok-put_pass-in-Goes-clause-all
 returns-in_ok-put_pass-in-Goes-clause-all g c =
     let d = g.D.Decide.decides c.args.policy.now in
     let b = body_view c.in-Some.body in (
       pass_line c.args.number b,
-      passes_by d c.args.number c.args.frame.now c.frame_of-frame.result.body.now b c.frame_of-frame.ensures.body c.in-Goes.ensures.0 c.in-Some.ensures,
+      passes_by d c.args.number c.args.frame.now c.frame_of-frame.result.body.now b c.frame_of-frame.ensures.body c.in-Goes.ensures.decided.0 c.in-Some.ensures,
       c.in_ok-put_pass-in-Goes.ensures.all,
     )
 
@@ -49,7 +50,7 @@ returns-in_err-put_pass-in-Goes-clause-part g c =
       pass_line c.args.number b,
       p.0,
       refl,
-      passes_by d c.args.number c.args.frame.now c.frame_of-frame.result.body.now b c.frame_of-frame.ensures.body c.in-Goes.ensures.0 c.in-Some.ensures,
+      passes_by d c.args.number c.args.frame.now c.frame_of-frame.result.body.now b c.frame_of-frame.ensures.body c.in-Goes.ensures.decided.0 c.in-Some.ensures,
       p.1,
       p.2,
     )
@@ -78,3 +79,6 @@ returns-in_ok-put_report-in-Stays-clause-all g c =
     subst (λ s. Adds d n (staying c.args.frame.now) (report_line n c.report_on-why.result s)) (sym c.as_slice.ensures.value)
     (subst (λ f. Adds d n (staying f) (report_line n c.report_on-why.result c.report_on-why.new.line.items)) c.frame_of-frame.ensures.whole c.report_on-why.ensures.adds) in
     (line, stays_by d n c.args.frame.now line adds, c.in_ok-put_report-in-Stays.ensures.all)
+
+pub goes-requires : goal.goes-requires
+goes-requires g c = nothing_recalled _ _ _ c.none.result c.none.ensures

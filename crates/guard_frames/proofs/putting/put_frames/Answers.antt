@@ -10,6 +10,7 @@ use Rattle.guard_frames.proofs.Asking.{asks_none, asks_trans}
 use Rattle.guard_frames.proofs.Appending.{sent_more, reported_more, both_none, both_sent, both_reported}
 use Rattle.guard_frames.proofs.Noting.{noted_none, noted_staying, but_none, but_told, but_more}
 use Rattle.guard_frames.proofs.Counting.{with_none, with_one_more, with_none_behind}
+use Rattle.guard_frames.proofs.Recalled.{nothing_recalled}
 use Rattle.guard_frames.proofs.Reporting.{goes_as_body, adds_line}
 use Rattle.guard_frames.proofs.Steps.{first_at, at_last}
 use Rattle.guard_frames.proofs.Waits.{no_lines, at_start, frames_put, so_far_told, broken_out, told_going, told_staying, goes_next, line_breaks, stays_next}
@@ -25,7 +26,11 @@ loop-frame-init g c = (
   no_lines c.none-waiting.result.lines.items c.none-waiting.ensures,
   rw (c.none-unsent.ensures, c.none-untold.ensures, c.none-waiting.ensures)
       (but_none _ _ _ _ _ _ _ _ (noted_none _ (g.D.Decide.gives c.args.policy.now) (g.D.Decide.lets c.args.policy.now) g.W.Watch.notes c.args.watch.now)),
+  nothing_recalled _ _ _ c.none-last.result c.none-last.ensures,
 )
+
+pub goes-requires : goal.goes-requires
+goes-requires g c = c.loop-frame.invariant.6
 
 -- ---- no whole frame is left
 
@@ -101,7 +106,7 @@ loop-frame-preserved-in-Goes g c =
     let s = c.args.octets.now in
     let f = c.in-Frame.frame in
     let at = first_at s c.loop-frame.end f h.1.so_far.within c.in-Frame.ensures in
-    let goes = goes_as_body d f.octets.now f.body.now c.in-Frame.ensures.body c.in-Goes.ensures.0 in
+    let goes = goes_as_body d f.octets.now f.body.now c.in-Frame.ensures.body c.in-Goes.ensures.decided.0 in
     let more : Unsent = record { totals = c.loop-frame.unsent.totals; frames = c.loop-frame.unsent.frames + 1; start = c.loop-frame.unsent.start } in (
       reported_more h.0 c.loop-frame.waiting.lines.items,
       goes_next d c.args.totals (totals_with c.loop-frame.unsent) c.loop-frame.unsent.totals (totals_with more) s f.octets.now c.loop-frame.waiting.lines.items c.put-in-Goes.new.self.lines.items
@@ -111,7 +116,8 @@ loop-frame-preserved-in-Goes g c =
       no_lines c.put-in-Goes.new.self.lines.items c.in_ok-put-in-Goes.ensures.none,
       rw (sym (told_going s f.octets.now c.loop-frame.waiting.lines.items c.put-in-Goes.new.self.lines.items c.loop-frame.unsent.start c.loop-frame.end h.0
           h.1.so_far.ordered at c.in_ok-put-in-Goes.ensures.none))
-          (but_more _ _ _ _ _ _ _ _ _ _ _ _ _ _ f.body.now h.5 c.add_one.ensures at.frame c.in-Frame.ensures.body c.in-Goes.ensures.1),
+          (but_more _ _ _ _ _ _ _ _ _ _ _ _ _ _ f.body.now h.5 c.add_one.ensures at.frame c.in-Frame.ensures.body c.in-Goes.ensures.decided.1),
+      c.in-Goes.ensures.recalls,
     )
 
 -- ---- a frame stays
@@ -190,6 +196,7 @@ loop-frame-preserved g c =
           (noted_staying _ (g.D.Decide.gives c.args.policy.now) (g.D.Decide.lets c.args.policy.now) g.W.Watch.notes c.args.watch.now c.tell-in-Stays.new.watch c.stays.new.self
           c.next_number-number.result c.report_on-why.result said (so_far_told h.0 s c.loop-frame.waiting.lines.items c.loop-frame.unsent.start c.loop-frame.end)
           c.line_of.result.now (but_told _ _ _ _ _ _ _ _ _ _ _ h.5 c.tell-in-Stays.ensures) is c.report_on-why.ensures.gives c.stays.ensures))),
+      c.in-Stays.ensures.recalls,
     )
 
 -- ---- each call ends a line

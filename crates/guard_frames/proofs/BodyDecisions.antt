@@ -17,7 +17,7 @@ use Rattle.guard_frames.specs.Outcomes.{IsDecided}
 use Rattle.guard_frames.specs.Recalling.{recalled, Recalls}
 use Rattle.guard_frames.specs.declared.decision.Decided.{Decided}
 use Rattle.guard_frames.specs.declared.last_route.LastRoute.{LastRoute}
-use Rattle.guard_frames.specs.inside.Deciding.{decided}
+use Rattle.guard_frames.specs.Deciding.{decided}
 use Rattle.guard_frames.proofs.HeaderLaws.{names_in, names_again, parts_take, same_parts}
 
 -- ---- the names, and the message after them

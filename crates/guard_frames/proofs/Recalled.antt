@@ -9,7 +9,7 @@ use Rattle.guard_frames.specs.Bodies.{AbstractBody}
 use Rattle.guard_frames.specs.Outcomes.{Decision, IsDecided}
 use Rattle.guard_frames.specs.Recalling.{recalled, Recalls}
 use Rattle.guard_frames.specs.declared.last_route.LastRoute.{LastRoute}
-use Rattle.guard_frames.specs.inside.Deciding.{decided}
+use Rattle.guard_frames.specs.Deciding.{decided}
 
 pub nothing_recalled : (d : Decision) (lets : AbstractBody → ℕ → Type 0) (reasons : AbstractBody → PlainReason → Type 0) (last : LastRoute) → recalled last ≡ None
     → Recalls d lets reasons last

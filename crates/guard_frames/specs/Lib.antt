@@ -6,6 +6,7 @@ pub mod Cutting
 pub mod Bodies
 -- ---- what comes of frames
 pub mod Outcomes
+pub mod Deciding
 pub mod Recalling
 pub mod Totals
 pub mod Prefix

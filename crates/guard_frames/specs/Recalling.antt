@@ -7,7 +7,7 @@ use Rattle.guard_policy.specs.FoundRoutes.{Answers}
 use Rattle.guard_frames.specs.Bodies.{AbstractBody}
 use Rattle.guard_frames.specs.Outcomes.{Decision, IsDecided}
 use Rattle.guard_frames.specs.declared.last_route.LastRoute.{LastRoute}
-use Rattle.guard_frames.specs.inside.Deciding.{decided}
+use Rattle.guard_frames.specs.Deciding.{decided}
 
 -- the header that is kept, and what its route leads to
 abbrev pub recalled : LastRoute → Option (List ℕ × FoundRoute)

@@ -1,6 +1,5 @@
 -- What private contracts alone cite: the parts of the code.
 pub mod Closing
-pub mod Deciding
 pub mod Judged
 pub mod Putting
 pub mod Seats

@@ -11,7 +11,7 @@ ghost use Rattle.guard_frames.specs.OfPolicy.{route_of, decision_of, lets_of, re
 ghost use Rattle.guard_frames.specs.Outcomes.{IsDecided};
 ghost use Rattle.guard_frames.specs.Reasons.{reason_of};
 ghost use Rattle.guard_frames.specs.Recalling.{Recalls};
-ghost use Rattle.guard_frames.specs.inside.Deciding.{decided};
+ghost use Rattle.guard_frames.specs.Deciding.{decided};
 
 use crate::body::Body;
 use crate::decision::{Decide, Decided, Known};

@@ -19,8 +19,8 @@ use Rattle.guard_policy.specs.Told.{Tells}
 use Rattle.guard_policy.specs.inside.Keeping.{IsFirst}
 use Rattle.guard_policy.specs.inside.Leads.{given_route, lead_there, lead_of, found_lead}
 use Rattle.guard_policy.specs.inside.Listings.{AbstractListed, found_in, listing, place_among, numbers_for}
-use Rattle.guard_policy.specs.inside.Passing.{IsAnswer}
-use Rattle.guard_policy.specs.inside.Routing.{route_rules}
+use Rattle.guard_policy.specs.Passing.{IsAnswer}
+use Rattle.guard_policy.specs.Routing.{route_rules}
 use Rattle.guard_policy.specs.inside.KeptRules.{rules_kept}
 use Rattle.guard_policy.proofs.ByMarks.{tells}
 use Rattle.guard_policy.proofs.GivenRoutes.{is_given, given_is, gives_own}

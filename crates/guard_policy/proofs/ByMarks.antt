@@ -37,8 +37,8 @@ use Rattle.guard_policy.specs.Policies.{AbstractPolicy, AbstractMessage, Abstrac
 use Rattle.guard_policy.specs.inside.Keeping.{IsFirst}
 use Rattle.guard_policy.specs.inside.Listings.{numbers_for}
 use Rattle.guard_policy.specs.Told.{IsAllowedBy, IsToldReason, Tells}
-use Rattle.guard_policy.specs.inside.Passing.{AreMarks, EncodeNothing, IsAnswer, IsLetBy, IsLetByNone, IsToldBy, first_in}
-use Rattle.guard_policy.specs.inside.Routing.{rules_named, slots_where, has_effect, common, speaking_slots, slots_for, route_rules as rules_on, IsRouting, IsRouted}
+use Rattle.guard_policy.specs.Passing.{AreMarks, EncodeNothing, IsAnswer, IsLetBy, IsLetByNone, IsToldBy, first_in}
+use Rattle.guard_policy.specs.Routing.{rules_named, slots_where, has_effect, common, speaking_slots, slots_for, route_rules as rules_on, IsRouting, IsRouted}
 use Rattle.guard_policy.specs.inside.KeptRules.{messages_kept, rules_kept}
 use Rattle.guard_policy.proofs.Applicable.{declared_sound}
 use Rattle.guard_policy.proofs.Goes.{judged_denied, judged_undenied, nothing_allows, none_allowed}

@@ -9,7 +9,7 @@ use Rattle.guard_tables.specs.declared.slots.Slots.{Slots}
 use Rattle.guard_policy.specs.declared.routing.Side.{Side}
 use Rattle.guard_policy.specs.Names.{is_meant, anyone}
 use Rattle.guard_policy.specs.Policies.{AbstractRule}
-use Rattle.guard_policy.specs.inside.Routing.{given_by, slots_meant, slots_from}
+use Rattle.guard_policy.specs.Routing.{given_by, slots_meant, slots_from}
 use Rattle.guard_policy.proofs.Listed.{alike}
 
 -- ---- a look-up after an insertion

@@ -18,7 +18,7 @@ use Rattle.guard_policy.specs.declared.policy.SaidRule.{SaidRule}
 use Rattle.guard_policy.specs.Policies.{AbstractRule}
 use Rattle.guard_policy.specs.SaidView.{said_view}
 use Rattle.guard_policy.specs.inside.Said.{rules_view}
-use Rattle.guard_policy.specs.inside.Routing.{slots_from, slots_where, common}
+use Rattle.guard_policy.specs.Routing.{slots_from, slots_where, common}
 use Rattle.guard_policy.proofs.EntriesRead.{taken_is}
 use Rattle.guard_policy.proofs.Listed.{taken_length}
 

@@ -18,7 +18,7 @@ use Rattle.guard_policy.specs.Policies.{AbstractRule}
 use Rattle.guard_policy.specs.SaidView.{said_view}
 use Rattle.guard_policy.specs.inside.Listings.{numbers_for}
 use Rattle.guard_policy.specs.inside.Said.{rules_view}
-use Rattle.guard_policy.specs.inside.Routing.{rules_named, IsRouting, IsRouted}
+use Rattle.guard_policy.specs.Routing.{rules_named, IsRouting, IsRouted}
 
 pub types_named : (name : List ℕ) (rules : List AbstractRule) → map (λ r. r.ty) (rules_named name rules) ≡ types_for name rules
 types_named name [] = refl

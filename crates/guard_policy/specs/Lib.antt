@@ -10,6 +10,8 @@ pub mod Consistency
 pub mod Verdicts
 pub mod Decisions
 pub mod Told
+pub mod Routing
+pub mod Passing
 pub mod FoundRoutes
 -- ---- the text of a policy
 pub mod Documents

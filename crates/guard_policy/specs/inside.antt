@@ -5,7 +5,5 @@ pub mod Asked
 pub mod Applicable
 pub mod Keeping
 pub mod Leads
-pub mod Passing
-pub mod Routing
 pub mod Said
 pub mod KeptRules

@@ -8,7 +8,7 @@ ghost use Rattle.guard_policy.specs.inside.Listings.{IsIndex, listed_view};
 ghost use Rattle.guard_policy.specs.SaidView.{said_message_view, said_view};
 ghost use Rattle.guard_policy.specs.inside.Keeping.{type_place, IsSaid, ArePlaced, AreDeclared, tabled_view, tabled};
 ghost use Rattle.guard_policy.specs.inside.Leads.{AreLeads};
-ghost use Rattle.guard_policy.specs.inside.Routing.{IsRouted};
+ghost use Rattle.guard_policy.specs.Routing.{IsRouted};
 ghost use Rattle.guard_policy.specs.declared.kept.KeptMessage.{KeptMessage};
 
 use super::index::{Index, Listed};

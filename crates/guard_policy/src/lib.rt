@@ -11,9 +11,9 @@
 //! | Which verdicts are there? | `verdict.rt` | `specs/Verdicts.antt` |
 //! | When does a message go? | `passing.rt` (`passes`) | `specs/Decisions.antt` |
 //! | By which rule does it go, what is told where it stays? | `passing.rt` (`look_at`) | `specs/Told.antt` |
-//! | How does a route lead to its rules? | `routing.rt` | `specs/inside/Routing.antt` |
+//! | How does a route lead to its rules? | `routing.rt` | `specs/Routing.antt` |
 //! | Which routes do rules give by names? | `leads.rt`, `route_octets.rt` | `specs/NamedRoutes.antt` |
-//! | What was found of a route, for all messages on it? | `found_route.rt`, `passing.rt` (`find_route`) | `specs/FoundRoutes.antt` |
+//! | What was found of a route, for all messages on it? | `found_route.rt`, `passing.rt` (`find_route`) | `specs/FoundRoutes.antt`, `specs/Passing.antt` |
 //! | Where is a route looked for first? | `last_route.rt`, `passing.rt` (`passes_as_last`) | `specs/NamedRoutes.antt` |
 //! | Which verdict is it? | `policy.rt` (`verdict`), `reason.rt`, `decision.rt` | `specs/Decisions.antt` |
 //! | Do a rule's type and the declared one share no value? | `barren.rt`, `asked.rt`, `sizes.rt` | `specs/Barren.antt` |

@@ -1,7 +1,7 @@
 //! Whether a message goes: one pass over its octets, without memory. What it costs grows neither with rules nor with
 //! messages nor with names.
 ghost use Rattle.std.specs.Prelude.{◌≡◌, None, IfSome};
-ghost use Rattle.guard_policy.specs.inside.Passing.{IsAnswer, IsLetBy, IsLetByNone};
+ghost use Rattle.guard_policy.specs.Passing.{IsAnswer, IsLetBy, IsLetByNone};
 
 use super::found_route::FoundRoute;
 use super::kept::KeptMessage;

@@ -1,7 +1,7 @@
 //! The reason why a message stays. That a denying rule has its value, or that no rule allows it or may allow one, the
 //! marks tell that the walk over its octets found; a value is made of them where a breach or violations have to be named.
 ghost use Rattle.std.specs.Prelude.{◌≡◌, IfSome};
-ghost use Rattle.guard_policy.specs.inside.Passing.{IsToldBy, first_in};
+ghost use Rattle.guard_policy.specs.Passing.{IsToldBy, first_in};
 
 use super::decision::judge;
 use super::policy::Policy;

@@ -4,8 +4,8 @@ ghost use Rattle.std.specs.Prelude.{◌≡◌, ◌≢◌, ◌↔◌, ◌+◌, �
 ghost use Rattle.guard_tables.specs.Slots.{none, only, added};
 ghost use Rattle.guard_policy.specs.PolicyView.{route_view};
 ghost use Rattle.guard_policy.specs.SaidView.{said_view};
-ghost use Rattle.guard_policy.specs.inside.Routing.{slots_where, slots_meant, slots_for, given_by, has_effect, common};
-ghost use Rattle.guard_policy.specs.inside.Routing.{route_rules, AreParties, IsRouting};
+ghost use Rattle.guard_policy.specs.Routing.{slots_where, slots_meant, slots_for, given_by, has_effect, common};
+ghost use Rattle.guard_policy.specs.Routing.{route_rules, AreParties, IsRouting};
 ghost use Rattle.guard_policy.specs.inside.Said.{rules_view};
 
 use super::policy::{Effect, SaidRule};

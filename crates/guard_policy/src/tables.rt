@@ -6,7 +6,7 @@ ghost use Rattle.guard_tables.specs.TableView.{table_types};
 ghost use Rattle.guard_tables.specs.Tables.{types_view, first_fault};
 ghost use Rattle.guard_policy.specs.inside.Answers.{Meets};
 ghost use Rattle.guard_policy.specs.inside.Keeping.{tabled_view, tabled};
-ghost use Rattle.guard_policy.specs.inside.Routing.{rules_named, IsRouted};
+ghost use Rattle.guard_policy.specs.Routing.{rules_named, IsRouted};
 ghost use Rattle.guard_policy.specs.EntryFaults.{tables_fault};
 ghost use Rattle.guard_policy.specs.Consistency.{types_for};
 ghost use Rattle.guard_policy.specs.SaidView.{said_message_view, said_view};

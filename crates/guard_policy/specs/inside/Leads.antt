@@ -9,7 +9,7 @@ use Rattle.guard_policy.specs.NamedRoutes.{route_octets}
 use Rattle.guard_policy.specs.Names.{is_plain}
 use Rattle.guard_policy.specs.Policies.{AbstractRule, AbstractRoute, own_route}
 use Rattle.guard_policy.specs.inside.Listings.{AbstractListed, found_in}
-use Rattle.guard_policy.specs.inside.Routing.{route_rules}
+use Rattle.guard_policy.specs.Routing.{route_rules}
 
 -- the route of the first of these rules whose own names are names, with these octets
 abbrev pub given_route : List ℕ → List AbstractRule → Option AbstractRoute

@@ -7,7 +7,7 @@ use Rattle.guard_policy.specs.declared.kept.KeptMessage.{KeptMessage}
 use Rattle.guard_policy.specs.declared.passing.Passing.TheVariants as passing
 use Rattle.guard_policy.specs.declared.routing.RouteRules.{RouteRules}
 use Rattle.guard_policy.specs.declared.verdict.PlainReason.{PlainReason}
-use Rattle.guard_policy.specs.inside.Passing.{AreMarks, IsAnswer, IsLetByNone, IsToldBy}
+use Rattle.guard_policy.specs.Passing.{AreMarks, IsAnswer, IsLetByNone, IsToldBy}
 use Rattle.guard_policy.proofs.passing.told_by_walk.Goals as goal
 
 stopped : (m : KeptMessage) (rules : RouteRules) (octets : List ℕ) (marks : Marks) → AreMarks m.table octets marks → IsTrue (has marks.members 0)

@@ -7,7 +7,7 @@ use Rattle.guard_tables.specs.declared.slots.Slots.{Slots}
 use Rattle.guard_tables.specs.Slots.{only, without, has, IsLowest}
 use Rattle.guard_tables.proofs.SlotSets.{none_law, only_law}
 use Rattle.guard_tables.proofs.SlotRanges.{without_law}
-use Rattle.guard_policy.specs.inside.Passing.{first_in}
+use Rattle.guard_policy.specs.Passing.{first_in}
 use Rattle.guard_policy.proofs.ByMarks.{none_in}
 use Rattle.guard_policy.proofs.Listed.{item_there}
 use Rattle.guard_policy.proofs.reason.first_in.Goals as goal

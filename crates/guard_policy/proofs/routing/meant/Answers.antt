@@ -1,5 +1,5 @@
 use Rattle.std.proofs.Common.{List, ℕ, sym, ap, ◌∙◌}
-use Rattle.guard_policy.specs.inside.Routing.{given_by}
+use Rattle.guard_policy.specs.Routing.{given_by}
 use Rattle.guard_policy.specs.Names.{is_meant}
 use Rattle.guard_policy.specs.Policies.{AbstractRule}
 use Rattle.guard_policy.proofs.RuleSlots.{slot_in, slot_out}

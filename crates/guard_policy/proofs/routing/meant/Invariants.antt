@@ -1,5 +1,5 @@
 use Rattle.std.proofs.Common.{◌≡◌, take}
-use Rattle.guard_policy.specs.inside.Routing.{slots_meant}
+use Rattle.guard_policy.specs.Routing.{slots_meant}
 use Rattle.guard_policy.specs.inside.Said.{rules_view}
 use Rattle.guard_policy.proofs.routing.meant.Given as goal
 

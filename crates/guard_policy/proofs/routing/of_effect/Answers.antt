@@ -1,5 +1,5 @@
 use Rattle.std.proofs.Common.{sym, ◌∙◌}
-use Rattle.guard_policy.specs.inside.Routing.{has_effect}
+use Rattle.guard_policy.specs.Routing.{has_effect}
 use Rattle.guard_policy.proofs.RuleSlots.{slot_in, slot_out}
 use Rattle.guard_policy.proofs.routing.of_effect.Goals as goal
 use Rattle.guard_policy.proofs.routing.of_effect.Goals.{then-has_effect, else-has_effect}

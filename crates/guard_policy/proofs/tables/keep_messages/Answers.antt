@@ -6,7 +6,7 @@ use Rattle.guard_policy.specs.SaidView.{said_message_view, said_view}
 use Rattle.guard_policy.specs.PolicyFaults.{named}
 use Rattle.guard_policy.specs.inside.Keeping.{Tabled, tabled_view, tabled}
 use Rattle.std.proofs.lemmas.List.Elements.{All-push}
-use Rattle.guard_policy.specs.inside.Routing.{IsRouted}
+use Rattle.guard_policy.specs.Routing.{IsRouted}
 use Rattle.guard_policy.proofs.EntriesRead.{left_is, taken_is, sound_at, tables_one, tables_here}
 use Rattle.guard_policy.proofs.tables.keep_messages.Goals as goal
 

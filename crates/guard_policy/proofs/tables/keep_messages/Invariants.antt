@@ -2,7 +2,7 @@ use Rattle.std.proofs.Common.{◌≡◌, ◌+◌, All, map, drop, take}
 use Rattle.guard_policy.specs.EntryFaults.{tables_fault}
 use Rattle.guard_policy.specs.SaidView.{said_message_view, said_view}
 use Rattle.guard_policy.specs.inside.Keeping.{tabled_view, tabled}
-use Rattle.guard_policy.specs.inside.Routing.{IsRouted}
+use Rattle.guard_policy.specs.Routing.{IsRouted}
 use Rattle.guard_policy.proofs.tables.keep_messages.Given as goal
 
 abbrev pub invariant-loop-index : goal.invariant-loop-index

@@ -4,7 +4,7 @@ use Rattle.guard_model.specs.TypeView.{type_view}
 use Rattle.guard_policy.specs.declared.policy.SaidRule.{SaidRule}
 use Rattle.guard_policy.specs.Policies.{AbstractRule}
 use Rattle.guard_policy.specs.SaidView.{said_view}
-use Rattle.guard_policy.specs.inside.Routing.{IsRouting}
+use Rattle.guard_policy.specs.Routing.{IsRouting}
 use Rattle.guard_policy.specs.inside.Said.{rules_view}
 use Rattle.guard_policy.proofs.RulesNamed.{few_named, routed_here}
 use Rattle.guard_policy.proofs.tables.keep_table.Goals as goal

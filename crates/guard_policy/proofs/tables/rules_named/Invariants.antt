@@ -1,5 +1,5 @@
 use Rattle.std.proofs.Common.{◌≡◌, ◌++◌, map, drop}
-use Rattle.guard_policy.specs.inside.Routing.{rules_named}
+use Rattle.guard_policy.specs.Routing.{rules_named}
 use Rattle.guard_policy.specs.SaidView.{said_view}
 use Rattle.guard_policy.specs.inside.Said.{rules_view}
 use Rattle.guard_policy.proofs.tables.rules_named.Given as goal

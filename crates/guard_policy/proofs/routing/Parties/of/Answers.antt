@@ -6,7 +6,7 @@ use Rattle.std.proofs.Math.Seq.{take-length}
 use Rattle.guard_policy.specs.declared.policy.SaidRule.{SaidRule}
 use Rattle.guard_policy.specs.SaidView.{said_view}
 use Rattle.guard_policy.specs.inside.Said.{rules_view}
-use Rattle.guard_policy.specs.inside.Routing.{slots_meant}
+use Rattle.guard_policy.specs.Routing.{slots_meant}
 use Rattle.guard_policy.proofs.EntriesRead.{taken_is}
 use Rattle.guard_policy.proofs.PartyNames.{Finds, put_one, finds_all}
 use Rattle.guard_policy.proofs.routing.Parties.of.Goals as goal

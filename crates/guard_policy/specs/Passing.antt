@@ -9,14 +9,13 @@ use Rattle.guard_tables.specs.declared.slots.Slots.{Slots}
 use Rattle.guard_tables.specs.declared.table.Table.{Table}
 use Rattle.guard_tables.specs.Slots.{none, has}
 use Rattle.guard_tables.specs.TableView.{declared_of, table_types}
-use Rattle.guard_policy.specs.declared.found_route.FoundRoute.{FoundRoute}
 use Rattle.guard_policy.specs.declared.kept.KeptMessage.{KeptMessage}
 use Rattle.guard_policy.specs.declared.passing.Passing.{Passing}
 use Rattle.guard_policy.specs.declared.passing.Passing.TheVariants as passing
 use Rattle.guard_policy.specs.declared.routing.RouteRules.{RouteRules}
 use Rattle.guard_policy.specs.declared.verdict.PlainReason.{PlainReason}
 use Rattle.guard_policy.specs.declared.verdict.PlainReason.TheVariants as plain
-use Rattle.guard_policy.specs.inside.Routing.{common}
+use Rattle.guard_policy.specs.Routing.{common}
 
 -- the octets are the encoding of a value of the declared type, which has these marks
 abbrev pub AreMarks : Table → List ℕ → Marks → Type 0
@@ -65,10 +64,3 @@ IsAnswer m rules octets (passing.Stopped None) =
     EncodeNothing m.table octets
     ⊎ ((marks : Marks) × AreMarks m.table octets marks
     × (IsTrue (has marks.members 0) → IsLetByNone rules m.numbers.items marks.members))
-
--- what is told of them under what was found of their route
-abbrev pub IsAnswerOf : FoundRoute → List ℕ → Passing → Type 0
-IsAnswerOf found octets told = elim found.lead [
-  | Some (message, rules) ↦ IsAnswer message.now rules octets told
-  | None ↦ told ≡ passing.Stopped (Some plain.UnknownMessage)
-]

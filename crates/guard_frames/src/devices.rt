@@ -85,8 +85,9 @@ pub fn put_all<S: Sink>(sink: &mut S, octets: &[u8]) -> Result<(), Failed>
     }
 }
 
-/// Puts all of the octets, as `put_all` does. Where the sink has failed the error is how many of them it took.
-pub(crate) fn put_or_count<S: Sink>(sink: &mut S, octets: &[u8]) -> Result<(), usize>
+/// Puts all of the octets: in one call, and where the sink took only a part of them, in one more for all that is left,
+/// and so on. Where the sink has failed the error is how many octets it took, which is fewer than all.
+pub fn put_or_count<S: Sink>(sink: &mut S, octets: &[u8]) -> Result<(), usize>
     ensures all { OnOk result (Appends (S.taken sink.old) (S.taken sink.new) octets.now) }
     ensures part { IfErr result (λ n. (n < length octets.now)
         × Appends (S.taken sink.old) (S.taken sink.new) (take n octets.now)) }

@@ -74,7 +74,7 @@ pub use answering::answer;
 pub use body::Body;
 pub use cut::{Cut, Frame, LENGTH_OCTETS, LONGEST_BODY, Rest, allowed_length, first_cut};
 pub use decision::{Decide, Decided, Known};
-pub use devices::{Failed, Sink, Source, put_all, put_both};
+pub use devices::{Failed, Sink, Source, put_all, put_both, put_or_count};
 pub use filling::LONGEST_FRAME;
 pub use gateway::{Event, Gateway, NoRoom, StepFault};
 pub use guarding::run;

@@ -1,6 +1,6 @@
 -- How parts of an object come together.
 use Rattle.std.proofs.Common.{◌≡◌, ℕ, zero, suc, ◌+◌, ◌<◌, ◌≤◌, lit<, Bool, true, false, ◌==◌, ◌&&◌, cond, List, [], ◌∷◌, ◌++◌, length, drop, refl, sym, ap, ap₂, ◌∙◌, subst, append-nil, append_assoc, arith, Bor}
-use Rattle.std.specs.Prelude.{Option, Some, None, IfSome, IfOk, Result, Ok, Err, OnOk, option_and_then, option_map}
+use Rattle.std.specs.Prelude.{Option, Some, None, IfSome, IfOk, Result, Ok, Err, OnOk, is_ok, option_and_then, option_map}
 use Rattle.std.specs.List.{list_all, prefix_len}
 use Rattle.std.specs.Char.{is_ascii_digit}
 use Rattle.std.proofs.lemmas.Bool.{true≢false, false≢true, ne_eqb, eqb-true, leb-true, and_parts, and_from}
@@ -13,6 +13,7 @@ use Rattle.guard_policy.specs.Names.{is_name_octet, is_name}
 use Rattle.json.specs.Token.{Token, begin_object, end_object, begin_array, end_array, key, string, number, boolean, null, bad}
 use Rattle.json.specs.Word.{after_whole, after_fraction, after_exponent, after_number}
 use Rattle.json.specs.Print.{IsNumber, IsPrintable}
+use Rattle.json.specs.Written.{Writes}
 use Rattle.guard_json.specs.declared.draft.Draft.{Draft}
 use Rattle.guard_json.specs.Cutting.{is_number, is_visible, is_path}
 use Rattle.guard_json.specs.Members.{Part, both, mark}
@@ -79,7 +80,7 @@ with_token : (b : Bool) (ts us : List Token) (t : Token) → us ≡ ts ++ t ∷ 
 with_token true ts us t e = ap Some e
 with_token false ts us t e = refl
 
-pub Adds_token : {a b : Draft} {t : Token} → b.writer.before ≡ a.writer.before → b.writer.tokens ≡ a.writer.tokens ++ t ∷ []
+Adds_token : {a b : Draft} {t : Token} → b.writer.before ≡ a.writer.before → b.writer.tokens ≡ a.writer.tokens ++ t ∷ []
     → b.has_form ≡ a.has_form → b.has_memory ≡ a.has_memory → is_fine t ≡ true → Adds a b (mark t)
 Adds_token {a} {b} {t} before grew form memory fine = record {
   before = before;
@@ -89,13 +90,19 @@ Adds_token {a} {b} {t} before grew form memory fine = record {
 }
 
 -- where memory has run out all may be
-pub Adds_none : {a b : Draft} {p : Part} → b.writer.before ≡ a.writer.before → b.writer.tokens ≡ a.writer.tokens → b.has_memory ≡ false → Adds a b p
+Adds_none : {a b : Draft} {p : Part} → b.writer.before ≡ a.writer.before → b.writer.tokens ≡ a.writer.tokens → b.has_memory ≡ false → Adds a b p
 Adds_none {a} {b} {p} before same memory = record {
   before = before;
   memory = λ m. absurd (true≢false (sym m ∙ memory));
   added = λ m. absurd (true≢false (sym m ∙ memory));
   fine = λ f. ap (list_all is_fine) same ∙ f;
 }
+
+-- the token is added, where there was memory for it
+pub Adds_written : {a b : Draft} {t : Token} {E : Type 0} (r : Result (Unit {0}) E) → Writes r a.writer b.writer t
+    → b.has_form ≡ a.has_form → a.has_memory ≡ true → b.has_memory ≡ is_ok r → is_fine t ≡ true → Adds a b (mark t)
+Adds_written (Ok _) w form had memory fine = Adds_token w.room.0 w.ok form (memory ∙ sym had) fine
+Adds_written (Err _) w form had memory fine = Adds_none w.room.0 w.err memory
 
 pub Adds_no_form : (a : Draft) → Adds a (record a { has_form = false }) None
 Adds_no_form a = record {

@@ -3,19 +3,19 @@ use Rattle.std.specs.Prelude.{ℕ, ◌+◌, ◌-◌, Bool, false, ◌&&◌, ◌=
 use Rattle.std.specs.Char.{is_ascii_digit}
 use Rattle.std.specs.List.{list_all, position_or_len}
 
--- where the first such octet is, or the end
+-- where the first mark is in the text, or the end
 abbrev pub place_of : ℕ → List ℕ → ℕ
 place_of mark text = position_or_len (λ c. c == mark) text
 
--- what stands before the first such octet, or all
+-- what stands before the first mark in the text, or all of it
 abbrev pub up_to : ℕ → List ℕ → List ℕ
 up_to mark text = take (place_of mark text) text
 
--- the first such octet and what comes after it
+-- the first mark in the text and what comes after it
 abbrev pub from : ℕ → List ℕ → List ℕ
 from mark text = drop (place_of mark text) text
 
--- what comes after the first such octet; nothing where there is none
+-- what comes after the first mark in the text; nothing where there is none
 abbrev pub behind : ℕ → List ℕ → List ℕ
 behind mark text = drop (place_of mark text + 1) text
 

@@ -1,6 +1,7 @@
 -- The members of a line's object, by the form of the line, as tokens. A line that doesn't have its form to the end has
 -- none of them.
-use Rattle.std.specs.Prelude.{ℕ, Bool, true, false, ◌||◌, ◌==◌, cond, bytes_eq, codes, List, [], ◌∷◌, ◌++◌, take, length, map, Option, Some, None}
+use Rattle.std.specs.Prelude.{ℕ, Bool, true, false, ◌||◌, ◌==◌, cond, bytes_eq, codes, List, [], ◌∷◌, ◌++◌, length, map, nat_eq, Option, Some, None}
+use Rattle.std.specs.List.{starts_with}
 use Rattle.std.specs.Str.{is_utf8}
 use Rattle.json.specs.Token.{Token, begin_object, end_object, begin_array, end_array, key, string, number}
 use Rattle.guard_policy.specs.Names.{is_name}
@@ -183,7 +184,7 @@ link_in text =
 abbrev pub is_fault : List ℕ → Bool
 is_fault text =
     is_code (up_to blank text) || bytes_eq text (codes "no-memory") || bytes_eq text (codes "bad record")
-    || bytes_eq (take 12 text) (codes "cannot read ")
+    || starts_with nat_eq text (codes "cannot read ")
 
 -- what comes after `derguard: `
 abbrev pub said_in : List ℕ → Part

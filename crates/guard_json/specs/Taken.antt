@@ -61,9 +61,9 @@ lines_from torn seen (c ∷ cs) =
 abbrev pub told : ℕ → List ℕ → List ℕ → List ℕ → List ℕ
 told name before lines begun = name ∷ length before ∷ (before ++ (lines ++ begun))
 
--- The same by the name of the sink behind, whether this one has failed, how many octets of JSON it wrote, the front of a
--- line and what the sink behind has taken; nothing where that doesn't tell. That it is something says too that the
--- octets of JSON are what `json_line` makes of the lines.
+-- What a sink of lines tells, by the name of the sink behind, whether this one has failed, how many octets of JSON it
+-- wrote, the front of a line and what the sink behind has taken; nothing where that doesn't tell. That it is something
+-- says too that the octets of JSON are what `json_line` makes of the lines.
 abbrev pub lines_taken_by : ℕ → Bool → ℕ → List ℕ → Option (List ℕ) → Option (List ℕ)
 lines_taken_by name torn written begun None = None
 lines_taken_by name torn written begun (Some octets) =

@@ -4,7 +4,7 @@ ghost use Rattle.guard_json.specs.Cutting.{place_of, up_to, from, behind, last_t
 ghost use Rattle.std.specs.Char.{is_ascii_digit};
 ghost use Rattle.std.specs.List.{list_all};
 
-/// Where the first such octet is, or the text's length.
+/// Where the first mark is in the text, or the text's length.
 pub fn place_of(mark: u8, text: &[u8]) -> usize
     ensures place { result ≡ place_of mark text.now }
     ensures within { result ≤ length text.now }
@@ -18,21 +18,21 @@ fn find(mark: u8, text: &[u8]) -> Option<usize>
     text.iter().position(|octet| *octet == mark)
 }
 
-/// What stands before the first such octet, or all.
+/// What stands before the first mark in the text, or all of the text.
 pub fn up_to(mark: u8, text: &[u8]) -> &[u8]
     ensures { result.now ≡ up_to mark text.now }
 {
     &text[..place_of(mark, text)]
 }
 
-/// The first such octet and what comes after it.
+/// The first mark in the text and what comes after it.
 pub fn from(mark: u8, text: &[u8]) -> &[u8]
     ensures { result.now ≡ from mark text.now }
 {
     &text[place_of(mark, text)..]
 }
 
-/// What comes after the first such octet; nothing where there is none.
+/// What comes after the first mark in the text; nothing where there is none.
 pub fn behind(mark: u8, text: &[u8]) -> &[u8]
     ensures { result.now ≡ behind mark text.now }
 {
@@ -44,14 +44,14 @@ pub fn behind(mark: u8, text: &[u8]) -> &[u8]
     }
 }
 
-/// The last two octets, or all where there are fewer.
+/// The last two octets of the text, or all where there are fewer.
 pub fn last_two(text: &[u8]) -> &[u8]
     ensures { result.now ≡ last_two text.now }
 {
     &text[text.len().saturating_sub(2)..]
 }
 
-/// All but the last two octets.
+/// All but the last two octets of the text.
 pub fn but_last_two(text: &[u8]) -> &[u8]
     ensures { result.now ≡ but_last_two text.now }
 {
@@ -101,7 +101,7 @@ pub fn is_path(word: &[u8]) -> bool
 fn are_visible(octets: &[u8]) -> bool
     ensures { result ≡ list_all is_visible octets.now }
 {
-    octets.iter().all(|octet| 33 <= *octet && *octet <= 126)
+    octets.iter().all(|octet| octet.is_ascii_graphic())
 }
 
 /// Whether this is a fault's code: a capital letter and a number.
@@ -109,7 +109,7 @@ pub fn is_code(word: &[u8]) -> bool
     ensures { result ≡ is_code word.now }
 {
     match word.split_first() {
-        Some((first, rest)) => 65 <= *first && *first <= 90 && is_number(rest),
+        Some((first, rest)) => first.is_ascii_uppercase() && is_number(rest),
         None => false,
     }
 }

@@ -45,12 +45,8 @@ impl Draft {
         requires { is_fine (token_of token) ≡ true }
         ensures { Adds self.old self.new (mark (token_of token.entry)) }
     {
-        if !self.has_memory {
-            return;
-        }
-        match self.writer.token(token) {
-            Ok(()) => {}
-            Err(_) => self.has_memory = false,
+        if self.has_memory {
+            self.has_memory = self.writer.token(token).is_ok();
         }
     }
 

@@ -1,11 +1,10 @@
 //! A sink that takes plain lines and writes them as JSON.
-ghost use Rattle.std.specs.Prelude.{◌<◌, length, take, OnOk, IfErr, IfOk};
-ghost use Rattle.std.specs.Io.KnownBytes.{Appends};
+ghost use Rattle.std.specs.Prelude.{IfErr, IfOk};
 ghost use Rattle.guard_json.specs.inside.Putting.{PutsObject, PutsTorn};
 
 use crate::cutting::place_of;
 use crate::object::json_line;
-use guard_frames::{Failed, Sink};
+use guard_frames::{Failed, Sink, put_or_count};
 use std::alloc::Global;
 
 /// A sink of plain lines, which writes each of them into another sink once it has ended: as one object of JSON and a line
@@ -108,24 +107,8 @@ fn put_line<S: Sink>(alloc: Global, sink: &mut S, line: &[u8], written: u64) -> 
     let Some(after) = written.checked_add(octets.len() as u64) else {
         return Err(written);
     };
-    match put_counted(sink, octets) {
+    match put_or_count(sink, octets) {
         Ok(()) => Ok(after),
         Err(sent) => Err(written + sent as u64),
     }
-}
-
-/// Puts all of the octets. Where the sink has failed the error is how many of them it took.
-fn put_counted<S: Sink>(sink: &mut S, octets: &[u8]) -> Result<(), usize>
-    ensures all { OnOk result (Appends (S.taken sink.old) (S.taken sink.new) octets.now) }
-    ensures part { IfErr result (λ n. (n < length octets.now)
-        × Appends (S.taken sink.old) (S.taken sink.new) (take n octets.now)) }
-{
-    let mut sent = 0;
-    while sent < octets.len() {
-        match sink.put(&octets[sent..]) {
-            Ok(more) => sent += more,
-            Err(_) => return Err(sent),
-        }
-    }
-    Ok(())
 }

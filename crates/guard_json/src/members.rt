@@ -44,7 +44,7 @@ fn is_fault(said: &[u8]) -> bool
     is_code(up_to(b' ', said))
         || is(said, "no-memory")
         || is(said, "bad record")
-        || is(&said[..said.len().min(12)], "cannot read ")
+        || said.starts_with(b"cannot read ")
 }
 
 /// Adds what comes after `link `: its number, and the line of a frame or a fault.

@@ -27,7 +27,7 @@ pub fn json_line(alloc: Global, line: &[u8]) -> Result<Vec<u8>, OutOfMemory>
     }
 }
 
-/// The object of a line that is text: with its members, or where it has no form of its own without.
+/// The object of a line that is text, with the line's members; without them where the line has no form of its own.
 fn text_object(alloc: Global, line: &str) -> Result<Vec<u8>, OutOfMemory>
     ensures json { IfOk result (λ text. text.items ≡ print (text_object line.now)) }
     ensures reads { OnOk result (Reads (text_object line.now)) }

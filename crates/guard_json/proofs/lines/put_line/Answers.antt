@@ -17,14 +17,14 @@ returns-in_default-push-clause-part g c = record { part = []; taken = Appends_no
 pub returns-in_default-checked_add-clause-part : goal.returns-in_default-checked_add-clause-part
 returns-in_default-checked_add-clause-part g c = record { part = []; taken = Appends_none _; counted = omega arith; one = refl }
 
-pub returns-in-Ok-put_counted-clause-whole : goal.returns-in-Ok-put_counted-clause-whole
-returns-in-Ok-put_counted-clause-whole g c =
+pub returns-in-Ok-put_or_count-clause-whole : goal.returns-in-Ok-put_or_count-clause-whole
+returns-in-Ok-put_or_count-clause-whole g c =
     let whole : c.as_slice-octets.result.now ≡ whole_object c.args.line.now =
     c.as_slice-octets.ensures.value
     ∙ rw c.in-Ok-push.is at c.push.ensures.items
     ∙ ap (λ x. x ++ line_feed ∷ []) c.in-Ok.ensures.json in
     record {
-      taken = Appends_is _ _ _ _ whole c.in-Ok-put_counted.ensures.all;
+      taken = Appends_is _ _ _ _ whole c.in-Ok-put_or_count.ensures.all;
       counted = c.in-Some.ensures.1 ∙ ap (λ x. c.args.written + length x) whole;
       tells = c.in-Ok.ensures.reads_back;
       one = c.in-Ok.ensures.one_line;

@@ -89,7 +89,7 @@ fn add_names(line: &mut Vec<u8>, names: &[u8], route: &Route) -> Result<(), OutO
     ensures { OnOk result (line.new.items ≡ line.old.items ++ (codes " " ++ route_text (route_view route.now))) }
 {
     let start = line.len();
-    add(line, names)?;
+    line.extend_from_slice(names)?;
     let middle = start + 1 + route.from.len();
     let end = middle + 1 + route.to.len();
     line[start] = b' ';

@@ -33,5 +33,5 @@ replaced old r start long =
 
 pub returns : goal.returns
 returns c =
-    rw (c.in_ok-add.ensures, c.requires)
+    rw (c.in_ok-extend_from_slice.ensures.items, c.requires)
     (replaced c.args.line.now.items (route_view c.args.route.now) c.len-start.result (sym (c.len-start.ensures ∙ c.args.line.now.ok.0)))

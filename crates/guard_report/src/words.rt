@@ -13,7 +13,9 @@ pub fn add(text: &mut Vec<u8>, octets: &[u8]) -> Result<(), OutOfMemory>
     Ok(())
 }
 
-/// Appends the number in decimal. OutOfMemory is the only error.
+/// Appends the number in decimal. OutOfMemory is the only error. Each line begins with one, which is written without a
+/// call.
+#[inline(always)]
 pub fn add_number(text: &mut Vec<u8>, number: u64) -> Result<(), OutOfMemory>
     ensures { OnOk result (text.new.items ≡ text.old.items ++ decimal number) }
 {

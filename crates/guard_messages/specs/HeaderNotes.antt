@@ -36,12 +36,12 @@ abbrev pub unnamed : List ℕ → Option (List ℕ)
 unnamed [] = Some end_text
 unnamed (n ∷ octets) = unnamed_of n octets
 
--- the name there
+-- the name after its length
 abbrev pub name_at : List ℕ → List ℕ
 name_at [] = []
 name_at (n ∷ octets) = take n octets
 
--- what follows it
+-- what follows the name and its length
 abbrev pub behind_name : List ℕ → List ℕ
 behind_name [] = []
 behind_name (n ∷ octets) = drop n octets

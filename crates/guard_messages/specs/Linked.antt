@@ -26,23 +26,23 @@ pub record IsNthOfLink (link n : ℕ) (input : Input) (frame : List ℕ) : Type 
   pub number : length all.frames + 1 ≡ n
   pub is : IsFrame frame
 
--- Before it the link has its end, or the records end.
+-- Before the frame of the number the link has its end, or the records end.
 abbrev pub EndsBefore : ℕ → ℕ → Input → List ℕ → Type 0
 EndsBefore link n input held =
     ReadsLink link n input held (record_octets (end link)) ⊎ (ReadsLink link n input held [] × IsAtEnd input.after)
 
--- inside a frame
+-- The link or the records end inside a frame.
 abbrev pub IsTornBefore : ℕ → ℕ → Input → Type 0
 IsTornBefore link n input = (held : List ℕ) × EndsBefore link n input held × (0 < length held) × IsUnfinished held
 
--- with a length that no frame may have
+-- What is held begins with a length that no frame may have.
 abbrev pub IsTooLongBefore : ℕ → ℕ → Input → Type 0
 IsTooLongBefore link n input = (held : List ℕ) × ReadsLink link n input held [] × IsTooLong held
 
--- What comes in is no record, or is cut short.
+-- Before the frame of the number what comes in is no record, or is cut short.
 abbrev pub IsBadBefore : ℕ → ℕ → Input → Type 0
 IsBadBefore link n input = (held : List ℕ) × (rest : List ℕ) × ReadsLink link n input held rest × IsBadRecord input rest
 
--- It failed, or was asked too often.
+-- Before the frame of the number the source failed, or was asked too often.
 abbrev pub IsLostBefore : ℕ → ℕ → Input → Type 0
 IsLostBefore link n input = (held : List ℕ) × (rest : List ℕ) × ReadsLink link n input held rest × IsLost input rest

@@ -14,11 +14,11 @@ abbrev pub IsNatural : List ℕ → ℕ → Type 0
 IsNatural word n =
     IsNumeral 10 (without_leading_plus word) × (digits_value 10 (without_leading_plus word) ≡ n) × (n < 2 ^ 64)
 
--- and a frame may have it
+-- the word is a number that a frame may have
 abbrev pub IsNumber : List ℕ → ℕ → Type 0
 IsNumber word n = IsNatural word n × (0 < n)
 
--- and a link may have it
+-- the word is a number that a link may have
 abbrev pub IsLink : List ℕ → ℕ → Type 0
 IsLink word n = IsNatural word n × (n < 16)
 

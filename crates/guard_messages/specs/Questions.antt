@@ -49,7 +49,7 @@ pub data AbstractSpot : Type 0 where
   written : List ℕ → AbstractSpot
   -- all that is at this path
   kept : List ℕ → AbstractSpot
-  -- in the frame of this number, of the link of the second one if that is given
+  -- in the frame of the first number, counted among those of the link of the second number if that is given
   framed : List ℕ → Option (List ℕ) → AbstractSpot
 
 -- the one of the two that is given
@@ -73,7 +73,7 @@ decide_spot q =
     spot_by (is_some q.from && is_some q.to && is_some q.message) (is_some q.from || is_some q.to || is_some q.message)
     q.frame q.link q.hex q.der
 
--- `show` takes that of the message
+-- `show` takes the name of the message
 abbrev pub show_spot : AbstractQuestion → Option AbstractSpot
 show_spot q = spot_by (is_some q.message) (is_some q.message) q.frame q.link q.hex q.der
 

@@ -75,7 +75,7 @@ abbrev pub lines_of_places : AbstractSources → List Site → List ℕ
 lines_of_places s [] = []
 lines_of_places s (site ∷ sites) = place_lines s (At site) ++ lines_of_places s sites
 
--- its type, where that is assigned and constrained, and what follows for the value
+-- the type of a denying rule, where that is assigned and constrained, and what follows for the value
 abbrev pub denied_lines : AbstractGrounds → Option AbstractRule → List ℕ
 denied_lines g None = []
 denied_lines g (Some r) =
@@ -101,7 +101,7 @@ ExplainsVerdict g p route octets (not_allowed rs) note =
 ExplainsVerdict g p route octets no_rule note =
     note ≡ codes "  No rule of the policy allows anything on this route.\n" ++ message_rules route.message p.rules
 
--- so it is where that is asked for, and else there is no note
+-- what explains a verdict where that is asked for; else there is no note
 abbrev pub NotesVerdict : Bool → AbstractGrounds → AbstractPolicy → AbstractRoute → List ℕ → AbstractVerdict → List ℕ
     → Type 0
 NotesVerdict false g p route octets w note = note ≡ []

@@ -70,12 +70,12 @@ ShowsJson p route octets a =
     ⊎ ((w : AbstractVerdict) × HasNoValue p route.message octets w × (a.out ≡ on_a_line (verdict_octets p route w))
     × (a.status ≡ 1))
 
--- of what is held, where a frame that isn't three names and a message is said to be none
+-- as JSON, of what is held; a frame that isn't three names and a message is said to be none
 abbrev pub ShowsHeldJson : AbstractPolicy → Option AbstractBody → AbstractAnswer → Type 0
 ShowsHeldJson p (Some b) a = ShowsJson p (route_of b) b.message_octets a
 ShowsHeldJson p None a = (a.out ≡ on_a_line (codes "bad-header")) × (a.status ≡ 1)
 
--- by whether that is asked for, and whether octets that break the rules are to be explained
+-- by whether JSON is asked for, and whether octets that break the rules are to be explained
 abbrev pub ShowsHeld : Bool → Bool → AbstractPolicy → Option AbstractBody → AbstractAnswer → Type 0
 ShowsHeld true explain p held = ShowsHeldJson p held
 ShowsHeld false explain p held = OfHeld (λ route octets. ShowsMessage explain p route.message octets) held

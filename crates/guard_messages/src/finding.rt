@@ -104,10 +104,8 @@ fn framed_octets<S: Source>(
         (IsUnfound told (framed word.now (option_map (λ link. link.now) link.entry))
         (source_of S.tells S.takes S.has_failed input.old input.new)) }
 {
-    match frame_at(alloc, word, link, input) {
-        Ok(frame) => Ok(copied(alloc, &frame[LENGTH_OCTETS..])?),
-        Err(none) => Err(none),
-    }
+    let frame = frame_at(alloc, word, link, input)?;
+    Ok(copied(alloc, &frame[LENGTH_OCTETS..])?)
 }
 
 /// The frame of this number, of the link if that is given, its length octets included.

@@ -187,7 +187,7 @@ fn name_at(octets: &[u8]) -> &[u8]
     }
 }
 
-/// What follows it.
+/// What follows the name and its length.
 fn behind_name(octets: &[u8]) -> &[u8]
     ensures { result.now ≡ behind_name octets.now }
 {

@@ -97,7 +97,7 @@ fn as_json(alloc: Global, policy: &Policy, held: Option<Body>) -> Result<Answer,
     }
 }
 
-/// As ASN.1 writes it.
+/// The value of the message as ASN.1 writes it.
 fn in_notation(
     alloc: Global,
     policy: &Policy,

@@ -5,9 +5,9 @@
 //! |---|---|---|
 //! | What is answered to `decide`? | `deciding.rt` | `specs/Decided.antt` |
 //! | Which message is `decide` or `show` asked of? | `question.rt` | `specs/Questions.antt` |
-//! | How are its octets found in digits, in a file or in a frame? | `finding.rt`, `numbered.rt`, `linked.rt` | `specs/Finding.antt`, `specs/Numbered.antt`, `specs/Linked.antt` |
-//! | What is reported where they can't be had? | `unfound.rt` | `specs/Finding.antt` |
-//! | What is answered to it? | `looking.rt`, `holding.rt` | `specs/Deciding.antt` |
+//! | How are the octets of a message found in digits, in a file or in a frame? | `finding.rt`, `numbered.rt`, `linked.rt` | `specs/Finding.antt`, `specs/Numbered.antt`, `specs/Linked.antt` |
+//! | What is reported where the octets can't be had? | `unfound.rt` | `specs/Finding.antt` |
+//! | What is answered to `decide` or `show`, wherever the octets are? | `looking.rt`, `holding.rt` | `specs/Deciding.antt` |
 //! | What is shown of a message? | `values.rt` | `specs/Shown.antt` |
 //! | How is a value written as JSON? | `value_json.rt` | `specs/ValueJson.antt` |
 //! | Which parts of a message stand whole before its breach? | `parts_before.rt` | `specs/PartsBefore.antt` |

@@ -51,8 +51,11 @@ pub fn decide_asked<F: Files, S: Source, O: Sink, E: Sink>(
     }
 }
 
-/// Shows the value of the message that is asked of, as JSON where the question says so, or writes its frame, and answers
-/// the status: 0 where there is one, and else as for what becomes of it.
+/// Shows the value of the message that is asked of, as JSON where the question says so, or writes its frame, and
+/// answers the status: 0 where there is one; 1 where the policy declares no such message, the octets encode no value of
+/// its type, or the frame isn't three names and a message; 2 for bad words or digits, a bad policy, a file that can't
+/// be read, too many octets, or a frame that isn't there; 3 where standard input failed or isn't frames, an output
+/// failed, or memory ran out.
 pub fn show_asked<F: Files, S: Source, O: Sink, E: Sink>(
     alloc: Global,
     question: &Question,

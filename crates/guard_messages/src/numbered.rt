@@ -11,10 +11,7 @@ fn natural_in(word: &str) -> Option<u64>
     ensures number { IfSome result (IsNatural word.now) }
     ensures none { result ≡ None → (n : ℕ) → IsNatural word.now n → ⊥ }
 {
-    match word.parse::<u64>() {
-        Ok(number) => Some(number),
-        Err(_) => None,
-    }
+    word.parse::<u64>().ok()
 }
 
 /// The number that the word writes, from 1.

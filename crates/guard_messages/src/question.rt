@@ -16,7 +16,7 @@ pub struct Question<'a> {
     pub der: Option<&'a str>,
     /// The number of the frame that holds it, of those that come in.
     pub frame: Option<&'a str>,
-    /// That of its link, where records come in.
+    /// The number of the link whose frame it is, where records come in.
     pub link: Option<&'a str>,
     /// Whether a fault is to be explained.
     pub explain: bool,
@@ -33,7 +33,7 @@ pub enum Spot<'a> {
     Written(&'a str),
     /// All that is at this path.
     Kept(&'a str),
-    /// In the frame of this number, of the link of the second one if that is given.
+    /// In the frame of the first number, counted among those of the link of the second number if that is given.
     Framed(&'a str, Option<&'a str>),
 }
 
@@ -48,7 +48,8 @@ impl<'a> Question<'a> {
         self.spot(all, some)
     }
 
-    /// Where `show` looks for them. It takes the name of the message, or that of the frame. None as for `decide`.
+    /// Where `show` looks for the octets. It takes the name of the message, or that of the frame. None where the words
+    /// don't say where, or say more than one place.
     pub fn show_spot(&self) -> Option<Spot<'a>>
         ensures { option_map spot_view result ≡ show_spot (question_view self.now) }
     {

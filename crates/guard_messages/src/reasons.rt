@@ -159,7 +159,7 @@ fn denied_note(
     }
 }
 
-/// Its type, where that is assigned and constrained, and what follows for the value.
+/// The type of a denying rule, where that is assigned and constrained, and what follows for the value.
 fn denying_note(alloc: Global, grounds: &Grounds, rule: &SaidRule) -> Result<Vec<u8>, OutOfMemory>
     ensures { IfOk result (λ note. note.items
         ≡ denied_lines (grounds_view grounds.now) (Some (said_view rule.now))) }

@@ -13,11 +13,11 @@ use std::alloc::Global;
 /// Why the octets of a message can't be had.
 #[derive(Debug, Drop)]
 pub enum Unfound {
-    /// The digits write none.
+    /// The digits write no octets.
     BadHex,
     /// The file can't be read, standard input failed or isn't frames, or memory ran out.
     Faulty(Fault),
-    /// There are more than 1,048,576.
+    /// There are more than 1,048,576 octets.
     TooLong,
     /// No link has the number.
     NoSuchLink,

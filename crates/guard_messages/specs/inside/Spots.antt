@@ -52,7 +52,7 @@ StepsTo octets breach s old new next =
     × ((n : ℕ) (rest : List ℕ) → LinesOn (LinesFrom n octets breach) next rest
     → LinesFrom (suc n) octets breach s (line ++ rest))
 
--- the same where this part is at the spot, and ends there
+-- One step from a spot on, as `StepsTo` says it, where this part is at the spot and ends at this place.
 abbrev pub StepsOver : List ℕ → ℕ → AbstractSpotIn → ℕ → AbstractPart → List ℕ → List ℕ → Option AbstractSpotIn → Type 0
 StepsOver octets breach s end p old new next =
     (line : List ℕ) × (new ≡ old ++ line)

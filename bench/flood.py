@@ -11,16 +11,17 @@ SMALL = order([7])
 GOES = frame("order", SMALL)
 NOT_ALLOWED = frame("order", order([7], quantity=11))
 
-# What it is called, the aim in nanoseconds, the word of its report line (none where it goes), the policy, the frames.
+# What it is called, what it may cost at most beside one that goes, the word of its report line (none where it goes), the
+# policy, the frames.
 KINDS = [
     ("goes", None, None, ORDERS, GOES),
-    ("bad header", 150, "bad-header", ORDERS, frame("ord r", SMALL)),
-    ("unknown-message", 150, "unknown-message", ORDERS, frame("ordre", SMALL)),
-    ("undecodable: an octet after the message", 500, "undecodable", ORDERS, frame("order", SMALL + b"\0")),
-    ("no-rule", 150, "no-rule", ORDERS, frame("order", SMALL, "south", "north")),
-    ("not-allowed", 500, "not-allowed", ORDERS, NOT_ALLOWED),
-    ("outside-type", 500, "outside-type", ORDERS, frame("order", order([7], id=100_000))),
-    ("denied-by", 500, "denied-by", STRICT, frame("order", order([7], id=95_000, quantity=2))),
+    ("bad header", 4, "bad-header", ORDERS, frame("ord r", SMALL)),
+    ("unknown-message", 4, "unknown-message", ORDERS, frame("ordre", SMALL)),
+    ("undecodable: an octet after the message", 10, "undecodable", ORDERS, frame("order", SMALL + b"\0")),
+    ("no-rule", 4, "no-rule", ORDERS, frame("order", SMALL, "south", "north")),
+    ("not-allowed", 10, "not-allowed", ORDERS, NOT_ALLOWED),
+    ("outside-type", 10, "outside-type", ORDERS, frame("order", order([7], id=100_000))),
+    ("denied-by", 4, "denied-by", STRICT, frame("order", order([7], id=95_000, quantity=2))),
     ("one that goes and one that is not allowed, for both", None, "not-allowed", ORDERS, GOES + NOT_ALLOWED),
 ]
 
@@ -69,7 +70,7 @@ def telling(work):
 def flood(work):
     say("### A flood of one kind\n")
     say("`run`, nanoseconds a frame, with the reports to `/dev/null` and to a pipe that `cat` reads.\n")
-    say("| frames | octets | ns a frame | ns a frame, reports to a pipe | times one that goes | aim, ns | writes |")
+    say("| frames | octets | ns a frame | ns a frame, reports to a pipe | times one that goes | aim | writes |")
     say("|---|---|---|---|---|---|---|")
     goes = None
     for name, aim, word, path, frames in KINDS + texts(work):

@@ -11,6 +11,7 @@ from messages import CASES, frame, module, policy_of
 
 SKELETONS = os.environ.get("ASN1C_SKELETONS", "/usr/share/asn1c")
 CRATES = os.environ.get("CARGO_REGISTRY", "/usr/share/cargo/registry")
+AIM = 1.2
 LESS = {
     "C": "C by hand (bench/strict.c): DER strictly and one rule of one type; names are stepped over, and there is no "
          "policy and no report.",
@@ -134,10 +135,13 @@ def in_process(work, programs, readers):
 def on_a_pipe(work, programs, readers, path):
     columns = ["cat", "derguard run", *programs]
     heading("a frame on a pipe | octets", columns)
+    shares = []
     for name, (_, _, octets) in CASES.items():
         one = frame(name, octets)
         words = {"cat": ["cat"], "derguard run": [GUARD, "run", path]}
         words |= {peer: [programs[peer], "pipe", of(peer, name)] for peer in programs if name in readers[peer]}
         file = work.put(name + ".frame", one)
-        row(name, len(one), columns, nanoseconds({who: Stream(work, file, said) for who, said in words.items()}))
-    say()
+        times = nanoseconds({who: Stream(work, file, said) for who, said in words.items()})
+        row(name, len(one), columns, times)
+        shares.append(f"{name} {times['derguard run'] / times['C']:.2f}")
+    say(f"\n`derguard run` beside C on a pipe, of which the aim is {AIM} at most: {', '.join(shares)}.\n")

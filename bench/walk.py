@@ -4,7 +4,7 @@ import os
 from measure import WALK, in_turn, loads_soon, peer_ns, say, walk_ns
 from messages import (ALPHABETS, CASES, LENGTHS, alphabets_module, element, lengths_module, module, number, policy_of)
 
-AIMS = {"order": 1.4, "bulk": 0.6, "nest": 1.1, "text": 1.4, "set": 3, "set-of": 1.8}
+AIMS = {"order": 1.3, "bulk": 0.6, "nest": 1.1, "text": 1.4, "set": 3, "set-of": 1.5}
 
 
 def walk(work):

@@ -24,7 +24,7 @@ pub data AbstractRequest : Type 0 where
   -- the frames that come in, under an old policy and a new one
   compare : AbstractComparing → AbstractRequest
   -- what comes in, by the policy at this path; whether notes are to be written, and where counters are to be shown, if
-  -- they are
+  -- anywhere
   run : List ℕ → Bool → Option (List ℕ) → AbstractRequest
   -- frames that come in, of each of which it is said what the policy at this path makes of it
   ask : List ℕ → AbstractRequest

@@ -5,6 +5,7 @@
 //! | What is a request? | `request.rt` (`Request`) | `specs/Requests.antt` |
 //! | Which words are which request? Is it one? | `joining.rt`, `words.rt`, `laws.rt` | `specs/Words.antt` |
 //! | Is a stream of records read in one way? | `laws.rt` | `specs/Records.antt` of `guard_files` |
+//! | What does help say? | `help.rt` | rows |
 //! | What is it to meet a request? | `meeting.rt` (`program`, `meet`) | `specs/Meeting.antt` |
 #![tactic(auto)]
 

@@ -9,7 +9,7 @@
 //! | What comes of a stream? | `guarding.rt`, `counting.rt` | `specs/Stream.antt` |
 //! | What is said of which policy is in force? | `in_force.rt` | `specs/InForce.antt` |
 //! | What is noted? | `verbose.rt`, `seen.rt`, `counts.rt` | `specs/Verbose.antt`, `specs/Counted.antt` |
-//! | What is counted of a stream, and shown while it runs? | `counters.rt` | `specs/Counting.antt` |
+//! | What is counted of a stream, and shown while it runs? | `counters.rt`, `tally.rt`, `faults.rt` | `specs/Counting.antt` |
 //! | What is counted of many links? | `following.rt` | `specs/CountingLinks.antt`, `specs/LinksCounted.antt` |
 //! | By which rules do frames go? | `rule_counts.rt` | `specs/Allowed.antt` |
 //! | Where is it shown, and when? | `board.rt` (`Board`) | `specs/Shown.antt` |

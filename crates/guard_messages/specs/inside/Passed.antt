@@ -44,7 +44,7 @@ pub record Completes (link : ℕ) (r : Record) (held : List ℕ) (before : ℕ) 
   pub passed : AreFrames (joins link held r) before (frame ++ more)
   pub is : IsFrame frame
 
--- It is yet to come.
+-- The frame is yet to come.
 pub record Holds (link : ℕ) (r : Record) (held later : List ℕ) (before left : ℕ) : Type 0 where
   pub going : LeavesOpen link r
   pub count : ℕ
@@ -52,7 +52,7 @@ pub record Holds (link : ℕ) (r : Record) (held later : List ℕ) (before left 
   pub passed : AreFrames (joins link held r) count later
   pub unfinished : IsUnfinished later
 
--- it can't come
+-- the frame can't come
 abbrev pub Refuses : Unfound → ℕ → Record → List ℕ → ℕ → Type 0
 Refuses NoSuchFrame link r held before = (r ≡ end link) × (held ≡ [])
 Refuses (Faulty (Run TornFrame)) link r held before = (r ≡ end link) × (0 < length held)

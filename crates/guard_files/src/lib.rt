@@ -7,12 +7,14 @@
 //! | What is an answer, and how is it given? | `answer.rt`, `giving.rt` | `specs/Answers.antt` |
 //! | How is a frame read? | `frames.rt` | `specs/NextFrame.antt` |
 //! | What is a record, and how is it read? | `records.rt` | `specs/Records.antt`, `specs/Headers.antt` |
+//! | Why aren't records taken to their end? | `stop.rt` | `specs/Headers.antt` (`IsNone`) |
 //! | Which texts does a policy at a path need? | `texts.rt`, `files.rt` | `specs/Reading.antt`, `specs/Files.antt` |
 //! | Which number have the texts of a policy? | `digest.rt` | `specs/Digest.antt` |
 //! | What is a policy with its modules, in which values are written? | `loaded.rt` | `specs/Reading.antt` (`SayLoaded`) |
 //! | What is shown of a fault where it is to be explained? | `explaining.rt`, `guard_notes` | `specs/Explaining.antt` |
 //! | Which rules allow the value of a message? | `allowed.rt` | `specs/Allowed.antt` |
 //! | How is a rule written? | `rule_text.rt` | `specs/RuleText.antt` |
+//! | How are lines added to a text, and octets dropped? | `octets.rt` | none; its contracts say it |
 //! | What is the first word of a text? | `word.rt` | `specs/Word.antt` |
 //! | What is all that a source gives? | `intake.rt` | `specs/Intake.antt` |
 //! | Which line and status has a fault? | `fault.rt`, `outputs.rt` | `specs/Faults.antt`, `specs/Writing.antt` |

@@ -1,6 +1,6 @@
-//! Why links aren't guarded to their ends.
+//! Why records aren't taken to their end.
 
-/// Why links aren't guarded to their ends.
+/// Why records aren't taken to their end, where links are guarded or the octets of one are read.
 #[derive(Clone, Copy, Debug, PartialEq, Eq)]
 pub enum Stop {
     /// What comes in is no record, or is cut short by the end.

@@ -1,7 +1,9 @@
 //! What goes to standard output and to standard error.
 ghost use Rattle.std.specs.Prelude.{◌≡◌, ◌≤◌, ◌++◌, ℕ, List, true, length, IfOk, OnErr, codes, string_bytes};
 ghost use Rattle.std.specs.Io.KnownBytes.{Appends};
+ghost use Rattle.guard_frames.specs.FaultTexts.{run_text};
 ghost use Rattle.guard_frames.specs.Prefix.{IsProperPrefix};
+ghost use Rattle.guard_frames.specs.declared.running.RunFault.TheVariants.{ReadFailed, WriteFailed};
 ghost use Rattle.guard_files.specs.Devices.{device_of};
 ghost use Rattle.guard_files.specs.Explaining.{TellsWith};
 ghost use Rattle.guard_files.specs.Faults.{IsText};
@@ -120,14 +122,14 @@ pub fn tell_bad_record<E: Sink>(err: &mut E) -> u8
 
 /// Tells that standard input failed.
 pub fn tell_failed_read<E: Sink>(err: &mut E) -> u8
-    ensures { TellsLine (codes "F5 ReadFailed") 3 (device_of E.taken E.has_failed err.old err.new) result }
+    ensures { TellsLine (run_text ReadFailed) 3 (device_of E.taken E.has_failed err.old err.new) result }
 {
     tell_short(RunFault::ReadFailed.text(), err)
 }
 
 /// Tells that standard output failed.
 pub fn tell_failed_write<E: Sink>(err: &mut E) -> u8
-    ensures { TellsLine (codes "F2 WriteFailed") 3 (device_of E.taken E.has_failed err.old err.new) result }
+    ensures { TellsLine (run_text WriteFailed) 3 (device_of E.taken E.has_failed err.old err.new) result }
 {
     tell_short(RunFault::WriteFailed.text(), err)
 }

@@ -5,9 +5,8 @@ use Rattle.std.specs.Prelude.{◌≡◌, ◌⊎◌, ℕ, Bool, true, false, List
 use Rattle.std.specs.List.{concat, All}
 use Rattle.std.specs.Io.KnownBytes.{Appends, Consumes, IsAtEnd}
 use Rattle.guard_policy.specs.Policies.{AbstractPolicy}
-use Rattle.guard_frames.specs.declared.link.LinkFault.TheVariants as link_fault
 use Rattle.guard_frames.specs.declared.running.RunFault.TheVariants as run
-use Rattle.guard_frames.specs.FaultTexts.{fault_text}
+use Rattle.guard_frames.specs.FaultTexts.{run_text}
 use Rattle.guard_frames.specs.LinkView.{new_link}
 use Rattle.guard_frames.specs.Prefix.{IsProperPrefix}
 use Rattle.guard_files.specs.declared.fault.Fault.{Fault}
@@ -135,8 +134,8 @@ counted_before ErrorFailed path first input out err h = None
 -- what is reported of that, with status 3; nothing more where standard error failed
 abbrev pub TellsStop : Stop → Device → ℕ → Type 0
 TellsStop BadRecord err status = TellsLine (codes "bad record") 3 err status
-TellsStop ReadFailed err status = TellsLine (codes "F5 ReadFailed") 3 err status
-TellsStop WriteFailed err status = TellsLine (fault_text link_fault.WriteFailed) 3 err status
+TellsStop ReadFailed err status = TellsLine (run_text run.ReadFailed) 3 err status
+TellsStop WriteFailed err status = TellsLine (run_text run.WriteFailed) 3 err status
 TellsStop ErrorFailed err status = (err.after ≡ err.before) × (status ≡ 3)
 
 -- Why the links aren't guarded to their ends, with what was seen; where nothing was, as without notes. Where standard

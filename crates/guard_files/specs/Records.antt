@@ -4,6 +4,7 @@ use Rattle.std.specs.Prelude.{◌≡◌, ◌≤◌, ℕ, nat_eq, List, [], ◌�
 use Rattle.std.specs.Int.{w16, w32, to_be_bytes}
 use Rattle.std.specs.List.{concat, All}
 use Rattle.std.specs.Io.KnownBytes.{IsAtEnd}
+use Rattle.std.specs.Str.Parse.{IsNumeral, digits_value, without_leading_plus}
 use Rattle.guard_frames.specs.Totals.{WentUpBy}
 use Rattle.guard_files.specs.Devices.{Input}
 
@@ -54,6 +55,14 @@ IsLost input rest =
     HasNoRecord rest × ((input.failed ≡ true) ⊎ WentUpBy input.asked_before (2 ^ 40) input.asked_after)
 
 -- ---- what records say of one link
+
+-- the word is this number in decimal digits, maybe behind a plus sign
+abbrev pub IsNatural : List ℕ → ℕ → Type 0
+IsNatural word n = IsNumeral 10 (without_leading_plus word) × (digits_value 10 (without_leading_plus word) ≡ n)
+
+-- the word is a number that a link may have
+abbrev pub IsLink : List ℕ → ℕ → Type 0
+IsLink word link = IsNatural word link × (link ≤ 15)
 
 -- the octets of the link in a record
 abbrev pub of_link : ℕ → Record → List ℕ

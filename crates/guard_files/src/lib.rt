@@ -8,6 +8,7 @@
 //! | How is a frame read? | `frames.rt` | `specs/NextFrame.antt` |
 //! | What is a record, and how is it read? | `records.rt` | `specs/Records.antt`, `specs/Headers.antt` |
 //! | Why aren't records taken to their end? | `stop.rt` | `specs/Headers.antt` (`IsNone`) |
+//! | Which link does a word mean? | `records.rt` (`link_in`) | `specs/Records.antt` (`IsLink`) |
 //! | Which texts does a policy at a path need? | `texts.rt`, `files.rt` | `specs/Reading.antt`, `specs/Files.antt` |
 //! | Which number have the texts of a policy? | `digest.rt` | `specs/Digest.antt` |
 //! | What is a policy with its modules, in which values are written? | `loaded.rt` | `specs/Reading.antt` (`SayLoaded`) |
@@ -56,7 +57,7 @@ pub use outputs::{
     FAILED, report, tell, tell_bad_record, tell_failed_read, tell_failed_write, tell_line,
     tell_no_memory, tell_text, tell_with, write, write_remarked,
 };
-pub use records::{Header, LINKS, LONGEST_PIECE, new_room, next_record, size_of_link};
+pub use records::{Header, LINKS, LONGEST_PIECE, link_in, new_room, next_record, size_of_link};
 pub use rule_text::add_said;
 pub use stop::Stop;
 pub use texts::{Texts, read, read_front};

@@ -3,7 +3,7 @@ ghost use Rattle.std.specs.Prelude.{◌≡◌, ◌<◌, ◌≤◌, ◌⊎◌, �
 ghost use Rattle.std.specs.Prelude.{take, drop, IfOk, IfErr, IfSome, OnErr, None};
 ghost use Rattle.std.specs.Io.KnownBytes.{Consumes, IsAtEnd};
 ghost use Rattle.guard_frames.specs.Totals.{WentUpBy};
-ghost use Rattle.guard_files.specs.Records.{record_octets, of_link, IsBadHeader, LeavesOpen};
+ghost use Rattle.guard_files.specs.Records.{record_octets, of_link, IsBadHeader, IsLink, LeavesOpen};
 ghost use Rattle.guard_files.specs.Records.Record.{end};
 ghost use Rattle.guard_files.specs.Headers.{record_of, header_octets, IsGood, IsNone};
 ghost use Rattle.guard_files.specs.declared.stop.Stop.TheVariants as stop;
@@ -45,9 +45,20 @@ fn header_in(octets: &[u8]) -> Option<Header>
     let link = u16::from_be_bytes([*above, *link]);
     let size = u32::from_be_bytes([*n0, *n1, *n2, *n3]) as usize;
     match (*kind, link, size) {
-        (0, 0..=15, 0..=LONGEST_PIECE) => Some(Header::Piece(link, size)),
-        (1, 0..=15, 0) => Some(Header::End(link)),
+        (0, 0..LINKS, 0..=LONGEST_PIECE) => Some(Header::Piece(link, size)),
+        (1, 0..LINKS, 0) => Some(Header::End(link)),
         (2, 0, 0) => Some(Header::Reload),
+        _ => None,
+    }
+}
+
+/// The number of a link that the word writes, from 0 to 15; none where it writes no such number.
+pub fn link_in(word: &str) -> Option<u64>
+    ensures number { IfSome result (IsLink word.now) }
+    ensures none { result ≡ None → (link : ℕ) → IsLink word.now link → ⊥ }
+{
+    match word.parse::<u64>() {
+        Ok(link) if link < LINKS as u64 => Some(link),
         _ => None,
     }
 }

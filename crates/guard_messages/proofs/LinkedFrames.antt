@@ -16,7 +16,7 @@ use Rattle.guard_files.specs.declared.stop.Stop.{Stop}
 use Rattle.guard_files.specs.declared.stop.Stop.TheVariants.{BadRecord, ReadFailed, WriteFailed, ErrorFailed}
 use Rattle.guard_files.specs.Devices.{Input, input_of}
 use Rattle.guard_files.specs.Files.{Told}
-use Rattle.guard_files.specs.Records.{LeavesOpen, Record, link_octets, of_link, record_octets, IsAllowed}
+use Rattle.guard_files.specs.Records.{LeavesOpen, Record, link_octets, of_link, record_octets, IsAllowed, IsLink}
 use Rattle.guard_files.specs.Records.Record.{end}
 use Rattle.guard_files.specs.Headers.{IsNone}
 use Rattle.guard_files.proofs.RecordLaws.{one_more}
@@ -26,7 +26,7 @@ use Rattle.guard_messages.specs.declared.unfound.Unfound.{Unfound}
 use Rattle.guard_messages.specs.declared.unfound.Unfound.TheVariants as unfound
 use Rattle.guard_messages.specs.Finding.{IsUnfound, of_stop}
 use Rattle.guard_messages.specs.Linked.{ReadsLink, IsNthOfLink}
-use Rattle.guard_messages.specs.Numbered.{IsLink, IsNumber}
+use Rattle.guard_messages.specs.Numbered.{IsNumber}
 use Rattle.guard_messages.specs.Questions.{framed}
 use Rattle.guard_messages.specs.inside.Passed.{AreFrames, Completes, Holds, IsUnlinked, Refuses, joins}
 

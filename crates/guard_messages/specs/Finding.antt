@@ -11,11 +11,12 @@ use Rattle.guard_files.specs.declared.stop.Stop.TheVariants as stop
 use Rattle.guard_files.specs.Devices.{Input, Device, IsUnread, IsUntouched}
 use Rattle.guard_files.specs.Files.{Told, HasFront, HasNone, after_read}
 use Rattle.guard_files.specs.Intake.{IsRead, IsLost}
+use Rattle.guard_files.specs.Records.{IsLink}
 use Rattle.guard_files.specs.Writing.{TellsLine, TellsText, Tells, Writes}
 use Rattle.guard_messages.specs.declared.unfound.Unfound.{Unfound}
 use Rattle.guard_messages.specs.declared.unfound.Unfound.TheVariants.{BadHex, Faulty, TooLong, NoSuchLink, NoSuchFrame, BadRecord}
 use Rattle.guard_messages.specs.Linked.{IsNthOfLink, EndsBefore, IsTornBefore, IsTooLongBefore, IsBadBefore, IsLostBefore}
-use Rattle.guard_messages.specs.Numbered.{IsLink, IsNumber, IsNth, HasFewer, StopsBefore}
+use Rattle.guard_messages.specs.Numbered.{IsNumber, IsNth, HasFewer, StopsBefore}
 use Rattle.guard_messages.specs.Questions.{AbstractSpot, written, kept, framed}
 
 -- ---- all that is at a path

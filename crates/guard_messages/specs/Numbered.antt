@@ -2,25 +2,16 @@
 use Rattle.std.specs.Prelude.{◌≡◌, ◌<◌, ◌+◌, ◌^◌, ℕ, List, ◌++◌, length}
 use Rattle.std.specs.List.{concat, All}
 use Rattle.std.specs.Io.KnownBytes.{Consumes, IsAtEnd}
-use Rattle.std.specs.Str.Parse.{IsNumeral, digits_value, without_leading_plus}
 use Rattle.guard_frames.specs.declared.running.RunFault.{RunFault}
 use Rattle.guard_frames.specs.declared.running.RunFault.TheVariants.{FrameTooLong, TornFrame, ReadFailed}
 use Rattle.guard_frames.specs.Frames.{IsFrame}
 use Rattle.guard_files.specs.NextFrame.{IsTooLongAlone, IsTornAtEnd, IsLostInFrame}
 use Rattle.guard_files.specs.Devices.{Input}
-
--- the word is this number in decimal digits
-abbrev pub IsNatural : List ℕ → ℕ → Type 0
-IsNatural word n =
-    IsNumeral 10 (without_leading_plus word) × (digits_value 10 (without_leading_plus word) ≡ n) × (n < 2 ^ 64)
+use Rattle.guard_files.specs.Records.{IsNatural}
 
 -- the word is a number that a frame may have
 abbrev pub IsNumber : List ℕ → ℕ → Type 0
-IsNumber word n = IsNatural word n × (0 < n)
-
--- the word is a number that a link may have
-abbrev pub IsLink : List ℕ → ℕ → Type 0
-IsLink word n = IsNatural word n × (n < 16)
+IsNumber word n = IsNatural word n × (0 < n) × (n < 2 ^ 64)
 
 -- This frame has the number, and nothing was read behind it.
 pub record IsNth (n : ℕ) (input : Input) (frame : List ℕ) : Type 0 where

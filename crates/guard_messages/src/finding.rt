@@ -8,11 +8,11 @@ ghost use Rattle.guard_messages.specs.Finding.{LeavesInput};
 ghost use Rattle.guard_messages.specs.Questions.{spot_view, written, kept, framed};
 
 use crate::linked::linked_frame;
-use crate::numbered::{link_in, nth_frame, number_in};
+use crate::numbered::{nth_frame, number_in};
 use crate::question::Spot;
 use crate::unfound::Unfound;
 use guard_der::LONGEST_ENCODING;
-use guard_files::{Fault, Files, new_frame_room, new_room, read_all, read_front};
+use guard_files::{Fault, Files, link_in, new_frame_room, new_room, read_all, read_front};
 use guard_frames::{LENGTH_OCTETS, Source};
 use guard_model::OutOfMemory;
 use hex::FromHexError;

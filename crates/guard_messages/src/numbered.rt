@@ -1,37 +1,18 @@
 //! The frame of a number, of those that come in.
 ghost use Rattle.std.specs.Prelude.{◌≡◌, ◌<◌, ◌≤◌, ℕ, None, length, take, IfOk, IfErr, IfSome};
 ghost use Rattle.guard_files.specs.Devices.{source_of};
-ghost use Rattle.guard_messages.specs.Numbered.{IsLink, IsNatural, IsNumber, IsNth, HasFewer, StopsBefore};
+ghost use Rattle.guard_messages.specs.Numbered.{IsNumber, IsNth, HasFewer, StopsBefore};
 
-use guard_files::{LINKS, next_frame};
+use guard_files::next_frame;
 use guard_frames::{MOST_READS, RunFault, Source};
-
-/// The number that the word writes.
-fn natural_in(word: &str) -> Option<u64>
-    ensures number { IfSome result (IsNatural word.now) }
-    ensures none { result ≡ None → (n : ℕ) → IsNatural word.now n → ⊥ }
-{
-    word.parse::<u64>().ok()
-}
 
 /// The number that the word writes, from 1.
 pub fn number_in(word: &str) -> Option<u64>
     ensures number { IfSome result (IsNumber word.now) }
     ensures none { result ≡ None → (n : ℕ) → IsNumber word.now n → ⊥ }
 {
-    match natural_in(word) {
-        Some(number) if number > 0 => Some(number),
-        _ => None,
-    }
-}
-
-/// The number of a link that the word writes, from 0 to 15.
-pub fn link_in(word: &str) -> Option<u64>
-    ensures number { IfSome result (IsLink word.now) }
-    ensures none { result ≡ None → (n : ℕ) → IsLink word.now n → ⊥ }
-{
-    match natural_in(word) {
-        Some(number) if number < LINKS as u64 => Some(number),
+    match word.parse::<u64>() {
+        Ok(number) if number > 0 => Some(number),
         _ => None,
     }
 }

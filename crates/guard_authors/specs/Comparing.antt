@@ -1,9 +1,8 @@
 -- What comes of `compare`: the frames that come in under two policies. With Differing.antt and
 -- Summary.antt this is the page to read of it.
-use Rattle.std.specs.Prelude.{◌≡◌, ◌<◌, ◌≤◌, ◌^◌, ◌⊎◌, ℕ, Bool, true, List, [], ◌++◌, codes, length, map, Option, Some, None, option_map}
+use Rattle.std.specs.Prelude.{◌≡◌, ◌<◌, ◌^◌, ◌⊎◌, ℕ, Bool, true, List, [], ◌++◌, codes, length, map, Option, Some, None, option_map}
 use Rattle.std.specs.List.{concat, All}
 use Rattle.std.specs.Io.KnownBytes.{Consumes, IsAtEnd}
-use Rattle.std.specs.Str.Parse.{IsNumeral, digits_value, without_leading_plus}
 use Rattle.guard_policy.specs.Policies.{AbstractPolicy}
 use Rattle.guard_frames.specs.Frames.{IsFrame, IsTooLong, IsUnfinished}
 use Rattle.guard_frames.specs.Totals.{WentUpBy}
@@ -14,7 +13,7 @@ use Rattle.guard_files.specs.declared.fault.Fault.TheVariants as fault
 use Rattle.guard_files.specs.Devices.{Input, Device, IsUnread, IsUntouched}
 use Rattle.guard_files.specs.Files.{Told, IsLater}
 use Rattle.guard_files.specs.Reading.{IsPolicyAt, IsNoPolicyAt}
-use Rattle.guard_files.specs.Records.{Record, link_octets, record_octets, IsAllowed, IsBadRecord, IsLost, LeavesOpen}
+use Rattle.guard_files.specs.Records.{Record, link_octets, record_octets, IsAllowed, IsBadRecord, IsLink, IsLost, LeavesOpen}
 use Rattle.guard_files.specs.Records.Record.{end}
 use Rattle.guard_files.specs.Writing.{TookAll, TookPart, Writes, Tells, TellsLine, TellsText, TellsNoMemory}
 use Rattle.guard_authors.specs.declared.comparing.Comparing.{Comparing}
@@ -129,11 +128,6 @@ comparing_view a =
       summary = a.summary;
       link = option_map (λ number. number.now) a.link;
     }
-
--- the word is the number of a link in decimal digits
-abbrev pub IsLink : List ℕ → ℕ → Type 0
-IsLink word k =
-    IsNumeral 10 (without_leading_plus word) × (digits_value 10 (without_leading_plus word) ≡ k) × (k ≤ 15)
 
 -- whose frames are meant: where no link is given all that come in
 abbrev pub IsMeant : Option (List ℕ) → Origin → Type 0

@@ -7,7 +7,7 @@ ghost use Rattle.guard_frames.specs.declared.running.RunFault.TheVariants as run
 ghost use Rattle.guard_files.specs.Devices.{source_of, device_of};
 ghost use Rattle.guard_files.specs.Writing.{TellsNoMemory, TookAll, Writes};
 ghost use Rattle.guard_authors.specs.Comparing.{comparing_view, Compares, ComparesFrames, ComparesUnder};
-ghost use Rattle.guard_authors.specs.Comparing.{Ends, IsLink, IsMeant, IsStopped, Progress, Reaches, TellsStopped};
+ghost use Rattle.guard_authors.specs.Comparing.{Ends, IsMeant, IsStopped, Progress, Reaches, TellsStopped};
 ghost use Rattle.guard_authors.specs.Differing.{comparison_view, compared_status};
 ghost use Rattle.guard_authors.specs.declared.comparing.Uncompared.TheVariants.{Run};
 ghost use Rattle.guard_authors.specs.inside.Counting.{total_text, AreCounted};
@@ -17,7 +17,7 @@ ghost use Rattle.guard_authors.specs.inside.Pieces.{StopsTaking};
 use crate::differing::{Comparison, add_frame};
 use crate::summary::{Sums, summary_text};
 use guard_files::{
-    Fault, Files, Stop, add, drop_front, load, new_room, next_record, size_of_link, tell,
+    Fault, Files, Stop, add, drop_front, link_in, load, new_room, next_record, size_of_link, tell,
     tell_bad_record, tell_failed_read, tell_failed_write, tell_no_memory, tell_text, write,
 };
 use guard_frames::{Cut, Failed, MOST_READS, Rest, RunFault, Sink, Source, first_cut, put_all};
@@ -122,17 +122,6 @@ fn origin_of(link: Option<&str>) -> Option<Origin>
     match link {
         Some(word) => Some(Origin::Link(link_in(word)?)),
         None => Some(Origin::Stream),
-    }
-}
-
-/// The number of a link that the word writes.
-fn link_in(word: &str) -> Option<u64>
-    ensures number { IfSome result (IsLink word.now) }
-    ensures none { result ≡ None → (k : ℕ) → IsLink word.now k → ⊥ }
-{
-    match word.parse::<u64>() {
-        Ok(link) if link <= 15 => Some(link),
-        _ => None,
     }
 }
 

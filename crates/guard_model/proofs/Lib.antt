@@ -17,3 +17,4 @@ pub mod SameTypes
 mod Compared
 mod DifferentLengths
 mod NamedOrders
+mod Spelled

@@ -130,7 +130,7 @@ same_items_long [] (y ∷ ys) h = absurd (false≢true h)
 same_items_long (x ∷ xs) [] h = absurd (false≢true h)
 
 -- lists of fields of different lengths are not the same
-pub fields_apart : (xs ys : List (Option Value)) → (length xs ≡ length ys → ⊥) → false ≡ same_fields (fields_view xs) (fields_view ys)
+pub fields_apart : (xs ys : List (Option (Arc Value Global))) → (length xs ≡ length ys → ⊥) → false ≡ same_fields (fields_view xs) (fields_view ys)
 fields_apart xs ys h = sym (false_from_ne_true _ (λ e. h (sym (length-map xs field_view) ∙ same_fields_long _ _ e ∙ length-map ys field_view)))
 
 pub items_apart : (xs ys : List Value) → (length xs ≡ length ys → ⊥) → false ≡ same_items (items_view xs) (items_view ys)

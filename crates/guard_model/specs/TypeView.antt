@@ -73,14 +73,14 @@ abbrev pub rule_step : Rule-F AbstractKind Element OneComponent Constraint OnePa
 rule_step (Rule-F.One v) = abstract.single_value (value_view (arc_value v))
 rule_step (Rule-F.Inside t) = abstract.contained_subtype (arc_value t)
 rule_step (Rule-F.Range low high) = abstract.range low high
-rule_step (Rule-F.Size c) = abstract.size c.value
+rule_step (Rule-F.Size c) = abstract.size (arc_value c)
 rule_step (Rule-F.Alphabet ranges) = abstract.permitted_alphabet (arc_slice_items ranges)
-rule_step (Rule-F.Each c) = abstract.with_component c.value
-rule_step (Rule-F.Parts partial ps) = abstract.with_components partial (parts_of ps.items)
-rule_step (Rule-F.Any cs) = abstract.union (constraints_of cs.items)
-rule_step (Rule-F.Both cs) = abstract.intersection (constraints_of cs.items)
-rule_step (Rule-F.Minus a b) = abstract.except a.value b.value
-rule_step (Rule-F.Other c) = abstract.all_except c.value
+rule_step (Rule-F.Each c) = abstract.with_component (arc_value c)
+rule_step (Rule-F.Parts partial ps) = abstract.with_components partial (parts_of (arc_slice_items ps))
+rule_step (Rule-F.Any cs) = abstract.union (constraints_of (arc_slice_items cs))
+rule_step (Rule-F.Both cs) = abstract.intersection (constraints_of (arc_slice_items cs))
+rule_step (Rule-F.Minus a b) = abstract.except (arc_value a) (arc_value b)
+rule_step (Rule-F.Other c) = abstract.all_except (arc_value c)
 
 abbrev pub comp_step : Comp-F AbstractKind Element OneComponent Constraint OnePart AbstractType → OneComponent
 comp_step c = record { name = arc_str_bytes c.name; ty = c.ty; presence = presence_view c.presence }

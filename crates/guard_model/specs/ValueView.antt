@@ -1,6 +1,8 @@
 -- The abstract value of a value of the code.
-use Rattle.std.specs.Prelude.{List, map, Option, Some, None, chars}
-use Rattle.std.specs.Arc.{arc_slice_items, arc_str_bytes}
+use Rattle.std.specs.Prelude.{List, map, Option, Some, None, chars, option_map}
+use Rattle.std.specs.Arc.{arc_slice_items, arc_str_bytes, arc_value}
+use Rattle.std.specs.Global.{Global}
+use Rattle.std.specs.declared.sync.Arc.{Arc}
 use Rattle.guard_model.specs.AbstractValue as abstract
 use Rattle.guard_model.specs.AbstractValue.{AbstractValue, Fields, Items, fields_of, items_of}
 use Rattle.guard_model.specs.declared.value.Value.{Value, fold-Value}
@@ -16,18 +18,22 @@ value_step (Value-F.Bits b) = abstract.bit_string (arc_slice_items b.octets) b.u
 value_step (Value-F.Octets v) = abstract.octet_string (arc_slice_items v)
 value_step (Value-F.Oid v) = abstract.object_identifier (arc_slice_items v)
 value_step (Value-F.Chars s) = abstract.characters (chars (arc_str_bytes s))
-value_step (Value-F.Fields v) = abstract.fields (fields_of v.items)
-value_step (Value-F.Items v) = abstract.items (items_of v.items)
-value_step (Value-F.Chosen n b) = abstract.chosen n b.value
+value_step (Value-F.Fields v) = abstract.fields (fields_of (map (option_map arc_value) (arc_slice_items v)))
+value_step (Value-F.Items v) = abstract.items (items_of (arc_slice_items v))
+value_step (Value-F.Chosen n b) = abstract.chosen n (arc_value b)
 
 abbrev pub value_view : Value → AbstractValue
 value_view = fold-Value AbstractValue value_step
 
-abbrev pub field_view : Option Value → Option AbstractValue
-field_view None = None
-field_view (Some v) = Some (value_view v)
+-- of a value that is shared
+abbrev pub shared_view : Arc Value Global → AbstractValue
+shared_view v = value_view (arc_value v)
 
-abbrev pub fields_view : List (Option Value) → Fields
+abbrev pub field_view : Option (Arc Value Global) → Option AbstractValue
+field_view None = None
+field_view (Some v) = Some (shared_view v)
+
+abbrev pub fields_view : List (Option (Arc Value Global)) → Fields
 fields_view vs = fields_of (map field_view vs)
 
 abbrev pub items_view : List Value → Items

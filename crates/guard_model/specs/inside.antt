@@ -2,4 +2,5 @@
 pub mod Each
 pub mod Octets
 pub mod Compared
+pub mod Spelled
 pub mod NamedOrders

@@ -2,18 +2,17 @@
 ghost use Rattle.std.specs.Prelude.{◌≡◌, map, IfOk};
 ghost use Rattle.std.specs.Arc.{arc_slice_items};
 ghost use Rattle.guard_model.specs.TypeView.{type_view, kind_view, presence_view, component_view};
-ghost use Rattle.guard_model.specs.TypeView.{constraint_view, element_view, part_view};
-ghost use Rattle.guard_model.specs.ValueView.{value_view, field_view};
+ghost use Rattle.guard_model.specs.TypeView.{constraint_view, element_view};
+ghost use Rattle.guard_model.specs.ValueView.{value_view};
 
 use crate::memory::OutOfMemory;
-use crate::ty::{Comp, Cons, Kind, Part, Presence, Rule, Ty};
+use crate::ty::{Comp, Cons, Kind, Presence, Rule, Ty};
 use crate::value::{Bits, Value};
 use std::alloc::Global;
 
 impl Value {
     /// A value that means the same abstract value. OutOfMemory is its only error.
-    #[cycle(value_copies)]
-    pub fn copy(&self, alloc: Global) -> Result<Value, OutOfMemory>
+    pub fn copy(&self) -> Result<Value, OutOfMemory>
         ensures { IfOk result (λ copy. value_view copy ≡ value_view self.now) }
     {
         match self {
@@ -25,17 +24,10 @@ impl Value {
             Value::Octets(octets) => Ok(Value::Octets(octets.clone()?)),
             Value::Oid(arcs) => Ok(Value::Oid(arcs.clone()?)),
             Value::Chars(text) => Ok(Value::Chars(text.clone()?)),
-            Value::Fields(fields) => Ok(Value::Fields(copy_of_fields(alloc, fields)?)),
-            Value::Items(items) => Ok(Value::Items(copy_of_items(alloc, items)?)),
-            Value::Chosen(at, value) => Ok(Value::Chosen(*at, value.boxed_copy(alloc)?)),
+            Value::Fields(fields) => Ok(Value::Fields(fields.clone()?)),
+            Value::Items(items) => Ok(Value::Items(items.clone()?)),
+            Value::Chosen(at, value) => Ok(Value::Chosen(*at, value.clone()?)),
         }
-    }
-
-    #[cycle(value_copies)]
-    fn boxed_copy(&self, alloc: Global) -> Result<Box<Value>, OutOfMemory>
-        ensures { IfOk result (λ copy. value_view copy.value ≡ value_view self.now) }
-    {
-        Ok(Box::new(alloc, self.copy(alloc)?)?)
     }
 }
 
@@ -49,35 +41,6 @@ impl Bits {
             unused: self.unused,
         })
     }
-}
-
-#[cycle(value_copies)]
-fn copy_of_fields(
-    alloc: Global,
-    fields: &[Option<Value>],
-) -> Result<Vec<Option<Value>>, OutOfMemory>
-    ensures { IfOk result (λ copy. map field_view copy.items ≡ map field_view fields.now) }
-{
-    let mut copy = Vec::with_capacity(alloc, fields.len())?;
-    for field in fields {
-        let one = match field {
-            Some(value) => Some(value.copy(alloc)?),
-            None => None,
-        };
-        copy.push(one)?;
-    }
-    Ok(copy)
-}
-
-#[cycle(value_copies)]
-fn copy_of_items(alloc: Global, items: &[Value]) -> Result<Vec<Value>, OutOfMemory>
-    ensures { IfOk result (λ copy. map value_view copy.items ≡ map value_view items.now) }
-{
-    let mut copy = Vec::with_capacity(alloc, items.len())?;
-    for item in items {
-        copy.push(item.copy(alloc)?)?;
-    }
-    Ok(copy)
 }
 
 impl Ty {
@@ -161,85 +124,43 @@ impl Presence {
     }
 }
 
-#[cycle(constraint_copies)]
 fn copy_of_constraints(alloc: Global, constraints: &[Cons]) -> Result<Vec<Cons>, OutOfMemory>
     ensures { IfOk result (λ copy. map constraint_view copy.items ≡ map constraint_view constraints.now) }
 {
     let mut copy = Vec::with_capacity(alloc, constraints.len())?;
     for constraint in constraints {
-        copy.push(constraint.copy(alloc)?)?;
+        copy.push(constraint.share()?)?;
     }
     Ok(copy)
 }
 
 impl Cons {
-    #[cycle(constraint_copies)]
-    fn copy(&self, alloc: Global) -> Result<Cons, OutOfMemory>
-        ensures { IfOk result (λ copy. constraint_view copy ≡ constraint_view self.now) }
+    fn share(&self) -> Result<Cons, OutOfMemory>
+        ensures { IfOk result (λ share. constraint_view share ≡ constraint_view self.now) }
     {
         Ok(Cons {
             site: self.site,
-            rule: self.rule.copy(alloc)?,
+            rule: self.rule.share()?,
         })
-    }
-
-    #[cycle(constraint_copies)]
-    fn boxed_copy(&self, alloc: Global) -> Result<Box<Cons>, OutOfMemory>
-        ensures { IfOk result (λ copy. constraint_view copy.value ≡ constraint_view self.now) }
-    {
-        Ok(Box::new(alloc, self.copy(alloc)?)?)
     }
 }
 
 impl Rule {
-    #[cycle(constraint_copies)]
-    fn copy(&self, alloc: Global) -> Result<Rule, OutOfMemory>
-        ensures { IfOk result (λ copy. element_view copy ≡ element_view self.now) }
+    fn share(&self) -> Result<Rule, OutOfMemory>
+        ensures { IfOk result (λ share. element_view share ≡ element_view self.now) }
     {
         match self {
             Rule::One(value) => Ok(Rule::One(value.clone()?)),
             Rule::Inside(ty) => Ok(Rule::Inside(ty.clone()?)),
             Rule::Range(low, high) => Ok(Rule::Range(*low, *high)),
-            Rule::Size(size) => Ok(Rule::Size(size.boxed_copy(alloc)?)),
+            Rule::Size(size) => Ok(Rule::Size(size.clone()?)),
             Rule::Alphabet(ranges) => Ok(Rule::Alphabet(ranges.clone()?)),
-            Rule::Each(inner) => Ok(Rule::Each(inner.boxed_copy(alloc)?)),
-            Rule::Parts(partial, parts) => Ok(Rule::Parts(*partial, copy_of_parts(alloc, parts)?)),
-            Rule::Any(constraints) => Ok(Rule::Any(copy_of_constraints(alloc, constraints)?)),
-            Rule::Both(constraints) => Ok(Rule::Both(copy_of_constraints(alloc, constraints)?)),
-            Rule::Minus(first, second) => Ok(Rule::Minus(
-                first.boxed_copy(alloc)?,
-                second.boxed_copy(alloc)?,
-            )),
-            Rule::Other(inner) => Ok(Rule::Other(inner.boxed_copy(alloc)?)),
+            Rule::Each(inner) => Ok(Rule::Each(inner.clone()?)),
+            Rule::Parts(partial, parts) => Ok(Rule::Parts(*partial, parts.clone()?)),
+            Rule::Any(constraints) => Ok(Rule::Any(constraints.clone()?)),
+            Rule::Both(constraints) => Ok(Rule::Both(constraints.clone()?)),
+            Rule::Minus(first, second) => Ok(Rule::Minus(first.clone()?, second.clone()?)),
+            Rule::Other(inner) => Ok(Rule::Other(inner.clone()?)),
         }
-    }
-}
-
-#[cycle(constraint_copies)]
-fn copy_of_parts(alloc: Global, parts: &[Part]) -> Result<Vec<Part>, OutOfMemory>
-    ensures { IfOk result (λ copy. map part_view copy.items ≡ map part_view parts.now) }
-{
-    let mut copy = Vec::with_capacity(alloc, parts.len())?;
-    for part in parts {
-        copy.push(part.copy(alloc)?)?;
-    }
-    Ok(copy)
-}
-
-impl Part {
-    #[cycle(constraint_copies)]
-    fn copy(&self, alloc: Global) -> Result<Part, OutOfMemory>
-        ensures { IfOk result (λ copy. part_view copy ≡ part_view self.now) }
-    {
-        let within = match &self.cons {
-            Some(constraint) => Some(constraint.copy(alloc)?),
-            None => None,
-        };
-        Ok(Part {
-            site: self.site,
-            at: self.at,
-            cons: within,
-            word: self.word,
-        })
     }
 }

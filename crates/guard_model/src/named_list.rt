@@ -1,11 +1,14 @@
 //! Names with their numbers, which are found by name and by number without looking at each of them.
-ghost use Rattle.std.specs.Prelude.{◌≡◌, ℕ, ℤ, List, [], ◌∷◌, ◌==◌, length, map, IfOk, OnOk};
+ghost use Rattle.std.specs.Prelude.{◌≡◌, ℕ, ℤ, List, [], ◌∷◌, ◌++◌, ◌==◌, length, map, IfOk, OnOk};
 ghost use Rattle.std.specs.Arc.{arc_value};
 ghost use Rattle.std.specs.BTreeSet.{contains};
+ghost use Rattle.std.specs.Cmp.Lexicographic.{pointwise};
 ghost use Rattle.std.specs.Option.{option_or};
 ghost use Rattle.std.specs.Ordering.{int_cmp};
 ghost use Rattle.guard_model.specs.NamedLists.{is_item, named_view, number_named};
+ghost use Rattle.guard_model.specs.SameType.{same_named};
 ghost use Rattle.guard_model.specs.inside.NamedOrders.{number_at};
+ghost use Rattle.guard_model.specs.inside.Spelled.{spelled, spelled_name, numbers_of};
 
 use crate::memory::OutOfMemory;
 use crate::ty::Named;
@@ -22,6 +25,11 @@ pub struct NamedList {
     numbers: BTreeMap<Vec<u8>, i128>,
     /// The numbers that entries have.
     known: BTreeSet<i128>,
+    /// The names as octets, one after the other: two lists are compared in one run over them, and not name by name,
+    /// each of which lies elsewhere in memory.
+    spelling: Vec<u8>,
+    /// The number of each entry, in written order.
+    in_order: Vec<i128>,
 }
 
 impl Model for NamedList {
@@ -35,7 +43,8 @@ impl Model for NamedList {
 
     ghost view = { λ list. map named_view list.entries.items };
 
-    ghost invariant = { λ list. AreFound list.numbers list.known (map named_view list.entries.items) };
+    ghost invariant = { λ list. AreFound list.numbers list.known list.spelling list.in_order
+        (map named_view list.entries.items) };
 }
 
 impl NamedList {
@@ -51,10 +60,14 @@ impl NamedList {
     {
         let numbers = first_numbers(alloc, &entries)?;
         let known = all_numbers(alloc, &entries)?;
+        let spelling = spelling(alloc, &entries)?;
+        let in_order = numbers_in_order(alloc, &entries)?;
         Ok(NamedList {
             entries,
             numbers,
             known,
+            spelling,
+            in_order,
         })
     }
 
@@ -69,6 +82,14 @@ impl NamedList {
         ensures { result ≡ (length self.now == 0) }
     {
         self.entries.is_empty()
+    }
+
+    /// Whether both have the same names with the same numbers, in the same order.
+    pub(crate) fn is_same(&self, other: &NamedList) -> bool
+        ensures { result ≡ pointwise same_named self.now other.now }
+    {
+        self.spelling.as_slice() == other.spelling.as_slice()
+            && self.in_order.as_slice() == other.in_order.as_slice()
     }
 
     /// The number of the first entry with this name, by a search in the order of names.
@@ -123,4 +144,37 @@ fn all_numbers(alloc: Global, entries: &[Named]) -> Result<BTreeSet<i128>, OutOf
         known.insert(entry.number)?;
     }
     Ok(known)
+}
+
+/// The names one after the other, each spelled.
+fn spelling(alloc: Global, entries: &[Named]) -> Result<Vec<u8>, OutOfMemory>
+    ensures { IfOk result (λ octets. octets.items ≡ spelled (map named_view entries.now)) }
+{
+    let mut octets = Vec::new(alloc);
+    for entry in entries {
+        spell(&mut octets, entry.name.as_bytes())?;
+    }
+    Ok(octets)
+}
+
+/// Appends each octet of the name behind a 1, and 0 at its end: where one name ends is seen without its length.
+fn spell(octets: &mut Vec<u8>, name: &[u8]) -> Result<(), OutOfMemory>
+    ensures { OnOk result (octets.new.items ≡ octets.old.items ++ spelled_name name.now) }
+{
+    for octet in name {
+        octets.push(1)?;
+        octets.push(*octet)?;
+    }
+    octets.push(0)?;
+    Ok(())
+}
+
+fn numbers_in_order(alloc: Global, entries: &[Named]) -> Result<Vec<i128>, OutOfMemory>
+    ensures { IfOk result (λ numbers. numbers.items ≡ numbers_of (map named_view entries.now)) }
+{
+    let mut numbers = Vec::with_capacity(alloc, entries.len())?;
+    for entry in entries {
+        numbers.push(entry.number)?;
+    }
+    Ok(numbers)
 }

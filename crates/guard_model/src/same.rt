@@ -6,6 +6,7 @@ ghost use Rattle.guard_model.specs.Same.{same, same_fields, same_items, same_num
 ghost use Rattle.guard_model.specs.ValueView.{value_view, fields_view, items_view};
 
 use crate::value::{Bits, Value};
+use std::sync::Arc;
 
 impl Value {
     /// Whether both mean the same abstract value: they have the same form, and their parts are the same one by one.
@@ -48,7 +49,7 @@ impl Bits {
 }
 
 #[cycle(same)]
-fn are_same_fields(fields: &[Option<Value>], others: &[Option<Value>]) -> bool
+fn are_same_fields(fields: &[Option<Arc<Value>>], others: &[Option<Arc<Value>>]) -> bool
     ensures { result ≡ same_fields (fields_view fields.now) (fields_view others.now) }
 {
     if fields.len() != others.len() {

@@ -9,14 +9,15 @@ ghost use Rattle.guard_model.specs.SameType.{same_base, same_components, same_co
 ghost use Rattle.guard_model.specs.SameType.{same_element, same_kind, same_limit, same_named, same_parts};
 ghost use Rattle.guard_model.specs.SameType.{same_presence, same_range, same_site, same_type};
 ghost use Rattle.guard_model.specs.TypeView.{component_view, constraint_view, element_view, kind_view};
-ghost use Rattle.guard_model.specs.TypeView.{named_view, part_view, presence_view, type_view};
+ghost use Rattle.guard_model.specs.TypeView.{part_view, presence_view, type_view};
 ghost use Rattle.std.specs.Bool.{Decides};
 ghost use Rattle.std.specs.Cmp.Lexicographic.{pointwise};
-ghost use Rattle.std.specs.Prelude.{◌≡◌, map};
+ghost use Rattle.std.specs.Prelude.{◌≡◌};
 
+use crate::named_list::NamedList;
 use crate::site::Site;
 use crate::tag::are_same_tags;
-use crate::ty::{Comp, Cons, Kind, Limit, Named, Part, Presence, Rule, Ty};
+use crate::ty::{Comp, Cons, Kind, Limit, Part, Presence, Rule, Ty};
 
 impl Ty {
     /// Whether both have the same base: equal kinds without the outermost tags and constraints. Parts inside are
@@ -57,22 +58,12 @@ impl Kind {
     {
         match (self, other) {
             (Kind::Bool, Kind::Bool) => true,
-            (Kind::Int(one), Kind::Int(two)) => are_same_names(
-                one.as_slice(),
-                two.as_slice(),
-                whole,
-            ),
-            (Kind::Bits(one), Kind::Bits(two)) => are_same_bits(
-                one.as_slice(),
-                two.as_slice(),
-                whole,
-            ),
+            (Kind::Int(one), Kind::Int(two)) => are_same_names(one, two, whole),
+            (Kind::Bits(one), Kind::Bits(two)) => are_same_bits(one, two, whole),
             (Kind::Octets, Kind::Octets) => true,
             (Kind::Null, Kind::Null) => true,
             (Kind::Oid, Kind::Oid) => true,
-            (Kind::Enumerated(one), Kind::Enumerated(two)) => {
-                are_same_items(one.as_slice(), two.as_slice())
-            }
+            (Kind::Enumerated(one), Kind::Enumerated(two)) => one.is_same(two),
             (Kind::Chars(one), Kind::Chars(two)) => one == two,
             (Kind::Sequence(one), Kind::Sequence(two)) => are_same_components(one, two, whole),
             (Kind::Set(one), Kind::Set(two)) => are_same_components(one, two, whole),
@@ -85,57 +76,28 @@ impl Kind {
 }
 
 /// Whether two lists of named numbers of an INTEGER are the same. They differ only where the whole counts.
-fn are_same_names(names: &[Named], others: &[Named], whole: bool) -> bool
-    ensures { result ≡ pointwise same_named (names_compared whole (map named_view names.now))
-        (names_compared whole (map named_view others.now)) }
+fn are_same_names(names: &NamedList, others: &NamedList, whole: bool) -> bool
+    ensures { result ≡ pointwise same_named (names_compared whole names.now) (names_compared whole others.now) }
 {
-    if whole {
-        are_same_items(names, others)
-    } else {
-        true
-    }
+    if whole { names.is_same(others) } else { true }
 }
 
 /// Whether two lists of named bits are the same; where the whole doesn't count, whether both are empty or neither is.
-fn are_same_bits(names: &[Named], others: &[Named], whole: bool) -> bool
-    ensures { result ≡ pointwise same_named (bits_compared whole (map named_view names.now))
-        (bits_compared whole (map named_view others.now)) }
+fn are_same_bits(names: &NamedList, others: &NamedList, whole: bool) -> bool
+    ensures { result ≡ pointwise same_named (bits_compared whole names.now) (bits_compared whole others.now) }
 {
     if whole {
-        are_same_items(names, others)
+        names.is_same(others)
     } else {
         are_both_named(names, others)
     }
 }
 
 /// Whether both lists of named bits are empty, or neither is.
-fn are_both_named(names: &[Named], others: &[Named]) -> bool
-    ensures { result
-        ≡ pointwise same_named (bare_names (map named_view names.now)) (bare_names (map named_view others.now)) }
+fn are_both_named(names: &NamedList, others: &NamedList) -> bool
+    ensures { result ≡ pointwise same_named (bare_names names.now) (bare_names others.now) }
 {
     names.is_empty() == others.is_empty()
-}
-
-fn are_same_items(items: &[Named], others: &[Named]) -> bool
-    ensures { result ≡ pointwise same_named (map named_view items.now) (map named_view others.now) }
-{
-    if items.len() != others.len() {
-        return false;
-    }
-    for (item, other) in items.iter().zip(others) {
-        if !item.is_same(other) {
-            return false;
-        }
-    }
-    true
-}
-
-impl Named {
-    fn is_same(&self, other: &Named) -> bool
-        ensures { result ≡ same_named (named_view self.now) (named_view other.now) }
-    {
-        self.name == other.name && self.number == other.number
-    }
 }
 
 #[cycle(same_types)]

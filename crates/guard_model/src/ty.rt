@@ -1,5 +1,5 @@
-//! Types with their tags and constraints, references followed. Names, lists of named numbers, alphabets, values and
-//! contained types are shared between a type and its copies.
+//! Types with their tags and constraints, references followed. Names, lists of named numbers, values and what a
+//! constraint is made of are shared between a type and its copies.
 use crate::named_list::NamedList;
 use crate::site::Site;
 use crate::tag::Tag;
@@ -107,21 +107,21 @@ pub enum Rule {
     /// The integers between two ends (51.4). A low end above the high one leaves none.
     Range(Limit, Limit),
     /// The values whose size this constraint on INTEGER (0..MAX) allows (51.5).
-    Size(Box<Cons>),
+    Size(Arc<Cons>),
     /// The strings whose characters' codes all lie in one of these ranges, both ends in (51.7).
     Alphabet(ArcSlice<(u32, u32)>),
     /// WITH COMPONENT: the lists each of whose elements this constraint allows (51.8.4).
-    Each(Box<Cons>),
+    Each(Arc<Cons>),
     /// WITH COMPONENTS (51.8.5); true where it is partial, that is where it begins with `...`.
-    Parts(bool, Vec<Part>),
+    Parts(bool, ArcSlice<Part>),
     /// A union: what at least one of them allows (50).
-    Any(Vec<Cons>),
+    Any(ArcSlice<Cons>),
     /// An intersection: what all of them allow (50).
-    Both(Vec<Cons>),
+    Both(ArcSlice<Cons>),
     /// EXCEPT: what the first allows and the second doesn't (50).
-    Minus(Box<Cons>, Box<Cons>),
+    Minus(Arc<Cons>, Arc<Cons>),
     /// ALL EXCEPT: what this constraint doesn't allow (50).
-    Other(Box<Cons>),
+    Other(Arc<Cons>),
 }
 
 /// An end of a range.

@@ -1,6 +1,6 @@
-//! Values. What a string of any kind and an object identifier hold is shared, so that no copy of a value copies it.
+//! Values. What a value holds is shared, so that a copy of it takes no more room than one value without parts.
 
-use std::sync::{ArcSlice, ArcStr};
+use std::sync::{Arc, ArcSlice, ArcStr};
 
 /// A value of a type. It has no names of named numbers, items and alternatives: the type says what a number means.
 #[derive(Debug, Drop)]
@@ -17,11 +17,11 @@ pub enum Value {
     /// The characters of a string of any kind.
     Chars(ArcStr),
     /// One place for each component of a SEQUENCE or SET in written order; None for an OPTIONAL one that is left out.
-    Fields(Vec<Option<Value>>),
+    Fields(ArcSlice<Option<Arc<Value>>>),
     /// The elements of a SEQUENCE OF or SET OF; of a SET OF in ascending order of their encodings.
-    Items(Vec<Value>),
+    Items(ArcSlice<Value>),
     /// The alternative at this place of the written list, from 0, and its value.
-    Chosen(u8, Box<Value>),
+    Chosen(u8, Arc<Value>),
 }
 
 /// A string of bits. In a value that fits its type the unused bits are zero, and there are none where there are no

@@ -11,6 +11,8 @@ use Rattle.guard_model.specs.AbstractValue.{AbstractValue, Fields, Items, boolea
 use Rattle.guard_model.specs.Same.{same, same_fields, same_items, same_numbers, same_truth}
 use Rattle.guard_model.specs.ValueView.{value_view, field_view, fields_view, items_view}
 use Rattle.guard_model.specs.declared.value.Value.{Value}
+use Rattle.std.specs.Global.{Global}
+use Rattle.std.specs.declared.sync.Arc.{Arc}
 
 pub equal_numbers : (xs ys : List ℕ) → same_numbers xs ys ≡ true → xs ≡ ys
 equal_numbers [] [] h = refl

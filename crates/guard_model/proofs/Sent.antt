@@ -11,10 +11,10 @@ use Rattle.guard_model.proofs.value.Bits.TheSendSync as bits
 use Rattle.guard_model.proofs.value.Value.TheLaws.TheKnot as values
 
 pub value_send : IsSend (value.the_field).row
-value_send = search (values.crosses, bits.the_field_send, crosses, sendable) depth 30 fits 20000
+value_send = search (values.crosses_both, bits.the_field_send, bits.the_field_sync, crosses, sendable) depth 30 fits 20000
 
 pub value_sync : IsSync (value.the_field).row
-value_sync = search (values.crosses, bits.the_field_sync, crosses, sendable) depth 30 fits 20000
+value_sync = search (values.crosses_both, bits.the_field_send, bits.the_field_sync, crosses, sendable) depth 30 fits 20000
 
 pub ty_send : IsSend ty.the_row
 ty_send = as_row_send ty.the_field (search (types.crosses_both, names.the_send, names.the_sync, value_send, value_sync, crosses, sendable) depth 30 fits 20000)

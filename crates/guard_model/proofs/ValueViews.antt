@@ -1,5 +1,5 @@
 -- One level of the abstract value of a value.
-use Rattle.std.proofs.Common.{◌≡◌, List, [], ◌∷◌, Option, Some, None, ℕ, Global, refl, ap, sym, ◌∙◌, map}
+use Rattle.std.proofs.Common.{◌≡◌, List, [], ◌∷◌, Option, Some, None, option_map, ℕ, Global, refl, ap, sym, ◌∙◌, map}
 use Rattle.std.specs.Arc.{arc_str_bytes, arc_slice_items, arc_value}
 use Rattle.std.specs.declared.sync.Arc.{Arc}
 use Rattle.std.specs.declared.sync.ArcSlice.{ArcSlice}
@@ -13,7 +13,7 @@ use Rattle.guard_model.specs.declared.value.Value.TheVariants as variant
 use Rattle.guard_model.specs.declared.value.Value.TheVariants.{rolls-Oid, rolls-Fields, rolls-Items, rolls-Chosen, rolls-Chars}
 use Rattle.guard_model.specs.declared.value.Value.TheOpen.{Value-F}
 
-fields_folded : (inside : Option (Arc Value Global) → Option AbstractValue) → inside None ≡ None → ((v : Arc Value Global) → inside (Some v) ≡ Some (shared_view v)) → (vs : List (Option (Arc Value Global))) → fields_of (map inside vs) ≡ fields_view vs
+fields_folded : (inside : Option (Arc Value Global) → Option (Arc AbstractValue Global)) → inside None ≡ None → ((v : Arc Value Global) → option_map arc_value (inside (Some v)) ≡ Some (shared_view v)) → (vs : List (Option (Arc Value Global))) → fields_of (map (option_map arc_value) (map inside vs)) ≡ fields_view vs
 fields_folded inside none some [] = refl
 fields_folded inside none some (None ∷ vs) = rw none (ap absent (fields_folded inside none some vs))
 fields_folded inside none some (Some v ∷ vs) = rw (some v) (ap (present (shared_view v)) (fields_folded inside none some vs))

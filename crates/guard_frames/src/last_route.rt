@@ -21,7 +21,7 @@ pub struct LastRoute<'a> {
 }
 
 impl<'a> LastRoute<'a> {
-    /// That of no frame.
+    /// Nothing was found yet: what is kept before the first frame.
     pub fn none() -> LastRoute<'a>
         ensures { recalled result ≡ None }
     {

@@ -9,6 +9,7 @@
 //! | Which bodies go, and what is reported of the others? | `decision.rt` (`Decide`) | `specs/Outcomes.antt` |
 //! | What is reported of a frame? | `report.rt` (`report_on`) | `specs/Guarding.antt` (`Adds`), `inside/Judged.antt` |
 //! | Why does a frame stay, and who is told? | `why.rt` (`Why`, `Watch`) | `specs/Reasons.antt` |
+//! | What is kept of the last route? | `last_route.rt` (`LastRoute`) | `specs/Recalling.antt`, `specs/Deciding.antt` |
 //! | By which rule does a frame go? | `decision.rt` (`Decide`) | `specs/Outcomes.antt` (`GoesBy`) |
 //! | Which frames wait to be put, and how are they counted? | `unsent.rt` (`Unsent`) | `specs/inside/Unsent.antt` |
 //! | Of which frames is a watch told at once? | `untold.rt` (`Untold`) | `specs/inside/Untold.antt` |

@@ -12,6 +12,7 @@ use guard_tables::Table;
 
 /// Which of a table's types have the value whose DER encoding (X.690) the octets are; None where they encode no value
 /// of the declared type. No memory is taken.
+#[inline(always)]
 pub fn walk(table: &Table, octets: &[u8]) -> Option<Marks>
     // A value of the declared type has the octets as its encoding, and the marks are those of the types that have it.
     ensures marks { IfSome result (λ m. (v : AbstractValue) × IsTrue (fits (declared_of table.now) v)

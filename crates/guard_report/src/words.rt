@@ -6,6 +6,7 @@ use guard_model::OutOfMemory;
 use itoa::Buffer;
 
 /// Appends the octets. OutOfMemory is the only error.
+#[inline(always)]
 pub fn add(text: &mut Vec<u8>, octets: &[u8]) -> Result<(), OutOfMemory>
     ensures { OnOk result (text.new.items ≡ text.old.items ++ octets.now) }
 {

@@ -48,5 +48,14 @@ is_size_in c count = some_passes (holds c (type.integer [])) (Some count)
 
 -- whether the value is a list of so many elements
 abbrev pub is_list_of : ℕ → AbstractValue → Bool
+is_list_of count (value.boolean b) = false
+is_list_of count (value.integer z) = false
+is_list_of count (value.enumerated z) = false
+is_list_of count value.null = false
+is_list_of count (value.bit_string octets unused) = false
+is_list_of count (value.octet_string octets) = false
+is_list_of count (value.object_identifier arcs) = false
+is_list_of count (value.characters codes) = false
+is_list_of count (value.fields fs) = false
 is_list_of count (value.items vs) = nat_eq (item_count vs) count
-is_list_of count _ = false
+is_list_of count (value.chosen place v) = false

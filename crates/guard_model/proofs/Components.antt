@@ -6,7 +6,7 @@ use Rattle.std.specs.Prelude.{replicate}
 use Rattle.std.proofs.lemmas.List.{at_drop_more, at_drop_all, length-map}
 use Rattle.std.proofs.lemmas.Option.{slice_get_past, slice_get_read}
 use Rattle.guard_model.specs.AbstractType.{Components, no_components, component}
-use Rattle.guard_model.specs.AbstractValue.{AbstractValue, absent, items_of}
+use Rattle.guard_model.specs.AbstractValue.{AbstractValue, absent, fields_of, items_of}
 use Rattle.guard_model.specs.Components.{component_at}
 use Rattle.guard_model.specs.Counts.{component_count, item_count}
 use Rattle.guard_model.specs.Slots.{all_absent}
@@ -81,6 +81,6 @@ item_count_view vs = item_count_is (map value_view vs) ∙ length-map vs value_v
 
 -- ---- their slots, before any has a value
 
-pub fields_absent : (comps : List Comp) → all_absent (in_view comps) ≡ fields_view (replicate (length comps) None)
+pub fields_absent : (comps : List Comp) → all_absent (in_view comps) ≡ fields_of (replicate (length comps) None)
 fields_absent [] = refl
 fields_absent (c ∷ comps) = ap absent (fields_absent comps)

@@ -9,7 +9,7 @@ use Rattle.std.proofs.lemmas.Str.{encodes-chars}
 use Rattle.std.proofs.lemmas.List.{length-map}
 use Rattle.guard_model.specs.AbstractValue.{AbstractValue, Fields, Items, boolean, integer, enumerated, null, bit_string, octet_string, object_identifier, characters, fields, items, chosen, no_fields, present, absent, no_items, item, fields_of, items_of}
 use Rattle.guard_model.specs.Same.{same, same_fields, same_items, same_numbers, same_truth}
-use Rattle.guard_model.specs.ValueView.{value_view, field_view, fields_view, items_view}
+use Rattle.guard_model.specs.ValueView.{value_view, slot_view, fields_view, items_view}
 use Rattle.guard_model.specs.declared.value.Value.{Value}
 use Rattle.std.specs.Global.{Global}
 use Rattle.std.specs.declared.sync.Arc.{Arc}
@@ -132,8 +132,8 @@ same_items_long [] (y ∷ ys) h = absurd (false≢true h)
 same_items_long (x ∷ xs) [] h = absurd (false≢true h)
 
 -- lists of fields of different lengths are not the same
-pub fields_apart : (xs ys : List (Option (Arc Value Global))) → (length xs ≡ length ys → ⊥) → false ≡ same_fields (fields_view xs) (fields_view ys)
-fields_apart xs ys h = sym (false_from_ne_true _ (λ e. h (sym (length-map xs field_view) ∙ same_fields_long _ _ e ∙ length-map ys field_view)))
+pub fields_apart : (xs ys : List (Arc (Option Value) Global)) → (length xs ≡ length ys → ⊥) → false ≡ same_fields (fields_view xs) (fields_view ys)
+fields_apart xs ys h = sym (false_from_ne_true _ (λ e. h (sym (length-map xs slot_view) ∙ same_fields_long _ _ e ∙ length-map ys slot_view)))
 
 pub items_apart : (xs ys : List Value) → (length xs ≡ length ys → ⊥) → false ≡ same_items (items_view xs) (items_view ys)
 items_apart xs ys h = sym (false_from_ne_true _ (λ e. h (sym (length-map xs value_view) ∙ same_items_long _ _ e ∙ length-map ys value_view)))

@@ -1,5 +1,5 @@
 -- The abstract value of a value of the code.
-use Rattle.std.specs.Prelude.{List, map, Option, Some, None, chars, option_map}
+use Rattle.std.specs.Prelude.{List, map, Option, Some, None, chars}
 use Rattle.std.specs.Arc.{arc_slice_items, arc_str_bytes, arc_value}
 use Rattle.std.specs.Global.{Global}
 use Rattle.std.specs.declared.sync.Arc.{Arc}
@@ -18,7 +18,7 @@ value_step (Value-F.Bits b) = abstract.bit_string (arc_slice_items b.octets) b.u
 value_step (Value-F.Octets v) = abstract.octet_string (arc_slice_items v)
 value_step (Value-F.Oid v) = abstract.object_identifier (arc_slice_items v)
 value_step (Value-F.Chars s) = abstract.characters (chars (arc_str_bytes s))
-value_step (Value-F.Fields v) = abstract.fields (fields_of (map (option_map arc_value) (arc_slice_items v)))
+value_step (Value-F.Fields v) = abstract.fields (fields_of (map arc_value (arc_slice_items v)))
 value_step (Value-F.Items v) = abstract.items (items_of (arc_slice_items v))
 value_step (Value-F.Chosen n b) = abstract.chosen n (arc_value b)
 
@@ -29,12 +29,16 @@ value_view = fold-Value AbstractValue value_step
 abbrev pub shared_view : Arc Value Global → AbstractValue
 shared_view v = value_view (arc_value v)
 
-abbrev pub field_view : Option (Arc Value Global) → Option AbstractValue
+abbrev pub field_view : Option Value → Option AbstractValue
 field_view None = None
-field_view (Some v) = Some (shared_view v)
+field_view (Some v) = Some (value_view v)
 
-abbrev pub fields_view : List (Option (Arc Value Global)) → Fields
-fields_view vs = fields_of (map field_view vs)
+-- what a slot holds
+abbrev pub slot_view : Arc (Option Value) Global → Option AbstractValue
+slot_view s = field_view (arc_value s)
+
+abbrev pub fields_view : List (Arc (Option Value) Global) → Fields
+fields_view slots = fields_of (map slot_view slots)
 
 abbrev pub items_view : List Value → Items
 items_view vs = items_of (map value_view vs)

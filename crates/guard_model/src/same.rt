@@ -49,14 +49,14 @@ impl Bits {
 }
 
 #[cycle(same)]
-fn are_same_fields(fields: &[Option<Arc<Value>>], others: &[Option<Arc<Value>>]) -> bool
+fn are_same_fields(fields: &[Arc<Option<Value>>], others: &[Arc<Option<Value>>]) -> bool
     ensures { result ≡ same_fields (fields_view fields.now) (fields_view others.now) }
 {
     if fields.len() != others.len() {
         return false;
     }
     for (field, other) in fields.iter().zip(others) {
-        let agree = match (field, other) {
+        let agree = match (field.as_ref(), other.as_ref()) {
             (Some(one), Some(two)) => one.equals(two),
             (None, None) => true,
             _ => false,

@@ -10,22 +10,24 @@ use crate::value::Value;
 use std::alloc::Global;
 use std::sync::Arc;
 
-/// A slot for each component, in the order of the list, each of which holds None. OutOfMemory is its only error.
-pub fn absent_fields(alloc: Global, comps: &[Comp]) -> Result<Vec<Option<Arc<Value>>>, OutOfMemory>
+/// A slot for each component, in the order of the list, each of which holds None: it is one that all of them share.
+/// OutOfMemory is its only error.
+pub fn absent_fields(alloc: Global, comps: &[Comp]) -> Result<Vec<Arc<Option<Value>>>, OutOfMemory>
     ensures count { IfOk result (λ v. length v.items ≡ length comps.now) }
     ensures absent { IfOk result (λ v. fields_view v.items
         ≡ all_absent (components_of (map component_view comps.now))) }
 {
+    let nothing = Arc::new(alloc, None)?;
     let mut fields = Vec::with_capacity(alloc, comps.len())?;
     for _comp in comps {
-        fields.push(None)?;
+        fields.push(nothing.clone()?)?;
     }
     Ok(fields)
 }
 
 /// Puts this in the slot at this place, from 0: the component's value, or None where the component is absent. The other
 /// slots stay. Condition: the place is less than the number of slots.
-pub fn set_field(fields: &mut Vec<Option<Arc<Value>>>, place: usize, field: Option<Arc<Value>>)
+pub fn set_field(fields: &mut Vec<Arc<Option<Value>>>, place: usize, field: Arc<Option<Value>>)
     requires { place < length fields.old.items }
     ensures { fields.new.items ≡ set fields.old.items place field }
 {

@@ -16,8 +16,9 @@ pub enum Value {
     Oid(ArcSlice<u128>),
     /// The characters of a string of any kind.
     Chars(ArcStr),
-    /// One place for each component of a SEQUENCE or SET in written order; None for an OPTIONAL one that is left out.
-    Fields(ArcSlice<Option<Arc<Value>>>),
+    /// One slot for each component of a SEQUENCE or SET in written order; it holds None for an OPTIONAL one that is left
+    /// out. All slots that hold nothing may be one.
+    Fields(ArcSlice<Arc<Option<Value>>>),
     /// The elements of a SEQUENCE OF or SET OF; of a SET OF in ascending order of their encodings.
     Items(ArcSlice<Value>),
     /// The alternative at this place of the written list, from 0, and its value.

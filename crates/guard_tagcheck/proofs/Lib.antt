@@ -19,5 +19,6 @@ pub mod FirstOfTags
 pub mod NotedTags
 pub mod NotedPairs
 pub mod Finding
+pub mod SharedNotes
 -- no clash is found exactly where all that must differ do
 pub mod NoClash

@@ -38,7 +38,11 @@ pub(crate) fn least_pair(
 /// Notes the position at each first tag of the component's type that has none yet. The result is the earliest position
 /// before it that one of them has.
 #[cycle(noting)]
-fn note(notes: &mut BTreeMap<Tag, u8>, ty: &Ty, position: u8) -> Result<Option<u8>, OutOfMemory>
+pub(crate) fn note(
+    notes: &mut BTreeMap<Tag, u8>,
+    ty: &Ty,
+    position: u8,
+) -> Result<Option<u8>, OutOfMemory>
     ensures noted { OnOk result
         (Notes (noted notes.old.entries) (begins_with (type_view ty.now)) position (noted notes.new.entries)) }
     ensures first { IfOk result

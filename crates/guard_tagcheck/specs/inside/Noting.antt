@@ -1,10 +1,12 @@
 -- How tags are noted with the first component that may begin with them, and how the least pair of components that share
 -- one is kept.
-use Rattle.std.specs.Prelude.{◌≡◌, ℕ, ◌<◌, ◌≤◌, min, Bool, List, Option, Some, None, IsTrue, if◌then◌else◌, nat_le}
+use Rattle.std.specs.Prelude.{◌≡◌, ℕ, ◌<◌, ◌≤◌, min, Bool, List, Option, Some, None, IsTrue, if◌then◌else◌, is_some, nat_le}
 use Rattle.std.specs.Map.{lookup}
 use Rattle.std.specs.Option.{option_or}
 use Rattle.guard_model.specs.declared.tag.Tag.{Tag}
 use Rattle.guard_model.specs.Tags.{same_tag}
+use Rattle.guard_model.specs.AbstractType.{AbstractType}
+use Rattle.guard_tagcheck.specs.FirstTags.{begins_with}
 
 -- the position that is noted at a tag
 abbrev pub noted : List (Tag × ℕ) → Tag → Option ℕ
@@ -18,6 +20,10 @@ IsEarliest IsSo (Some first) = IsSo first × ((i : ℕ) → IsSo i → first ≤
 -- what is noted, and this position at each of these tags that has none yet
 abbrev pub Notes : (Tag → Option ℕ) → (Tag → Bool) → ℕ → (Tag → Option ℕ) → Type 0
 Notes old begins position new = (tag : Tag) → new tag ≡ option_or (old tag) (if begins tag then Some position else None)
+
+-- a position is noted at each tag with which an encoding of the type may begin, and at no other
+abbrev pub AreNoted : (Tag → Option ℕ) → AbstractType → Type 0
+AreNoted notes t = (tag : Tag) → is_some (notes tag) ≡ begins_with t tag
 
 -- position i, which is before this one, is noted at one of these tags
 abbrev pub IsNoted : (Tag → Option ℕ) → (Tag → Bool) → ℕ → ℕ → Type 0

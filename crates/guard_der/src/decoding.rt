@@ -1,6 +1,7 @@
 //! The value that octets encode, or their breach.
 ghost use Rattle.std.specs.Prelude.{◌≡◌, ◌+◌, ◌<◌, ◌≤◌, ◌^◌, [], length, map};
 ghost use Rattle.std.specs.Prelude.{Some, None, Ok, Err, IfOk, IfErr, IfSome, IsTrue};
+ghost use Rattle.std.specs.Arc.{arc_slice_items};
 ghost use Rattle.guard_model.specs.Answer.{Gives};
 ghost use Rattle.guard_model.specs.AbstractType.{type_of, no_constraints};
 ghost use Rattle.guard_model.specs.AbstractValue.{AbstractValue};
@@ -34,6 +35,7 @@ use crate::tags::one_with;
 use guard_model::{Comp, Kind, Path, Presence, Step, Tag, Ty, Value, absent_fields, set_field};
 use guard_tagcheck::begins_with;
 use std::alloc::Global;
+use std::sync::{Arc, ArcSlice};
 
 /// The value of the type whose encoding (X.690 clauses 8, 10 and 11) the octets are, all of them. Constraints aren't
 /// looked at. Condition: the type is sound, which `sound` tests.
@@ -179,7 +181,7 @@ fn chosen(
     };
     let ty = &alternatives[place].ty;
     match element(alloc, path, &ty.tags, &ty.kind, at, head, octets) {
-        Ok(value) => Ok(Value::Chosen(place as u8, Box::new(alloc, value)?)),
+        Ok(value) => Ok(Value::Chosen(place as u8, Arc::new(alloc, value)?)),
         Err(fault) => Err(fault.below(path, Step::Component(place as u8))),
     }
 }
@@ -221,12 +223,12 @@ fn components(
     comps: &[Comp],
     start: usize,
     octets: &[u8],
-) -> Result<Vec<Option<Value>>, Fault>
+) -> Result<ArcSlice<Arc<Option<Value>>>, Fault>
     requires proper { IsTrue (are_proper (components_of (map component_view comps.now))) }
     requires few { length comps.now ≤ 64 }
     requires depth { deepest (components_of (map component_view comps.now)) ≤ 31 }
     requires room { start + length octets.now < 2 ^ 64 }
-    ensures { Gives (λ v. fields_view v.items) (fault_of path.new.items) result
+    ensures { Gives (λ v. fields_view (arc_slice_items v)) (fault_of path.new.items) result
         (fields_at 0 (components_of (map component_view comps.now)) start octets.now) }
 {
     let mut fields = Vec::with_capacity(alloc, comps.len())?;
@@ -242,13 +244,13 @@ fn components(
             at,
             rest,
         )?;
-        fields.push(field)?;
+        fields.push(Arc::new(alloc, field)?)?;
         let (_, behind) = rest.split_at(size);
         at += size;
         rest = behind;
     }
     end(path, at, rest)?;
-    Ok(fields)
+    Ok(ArcSlice::from_vec(fields)?)
 }
 
 /// The component of this type and presence at this place of the list, and how many octets it takes.
@@ -274,12 +276,12 @@ fn component(
             path,
             Step::Component(index),
         );
-        return Ok((not_sent(alloc, presence, missing)?, 0));
+        return Ok((not_sent(presence, missing)?, 0));
     }
     let head = header_at_front(path, at, octets)?;
     if !begins_with(ty, head.tag) {
         let stray = fault_at(path, Code::UnexpectedTag, at);
-        return Ok((not_sent(alloc, presence, stray)?, 0));
+        return Ok((not_sent(presence, stray)?, 0));
     }
     let value = sent(alloc, path, ty, presence, index, at, head, octets)?;
     Ok((Some(value), head.size + head.contents))
@@ -327,13 +329,14 @@ fn items(
     ordered: bool,
     start: usize,
     octets: &[u8],
-) -> Result<Vec<Value>, Fault>
+) -> Result<ArcSlice<Value>, Fault>
     requires proper { IsTrue (is_proper (type_view ty.now)) }
     requires depth { nesting (type_view ty.now) ≤ 31 }
     requires room { start + length octets.now < 2 ^ 64 }
     requires short { length octets.now < 2 ^ 32 }
-    ensures { Gives (λ v. items_view v.items) (fault_of path.new.items) result (items_at (length octets.now) ordered
-        (begins_with (type_view ty.now)) (element_at (type_view ty.now)) 0 [] start octets.now) }
+    ensures { Gives (λ v. items_view (arc_slice_items v)) (fault_of path.new.items) result
+        (items_at (length octets.now) ordered (begins_with (type_view ty.now)) (element_at (type_view ty.now)) 0 []
+        start octets.now) }
 {
     let mut items = Vec::new(alloc);
     let mut at = start;
@@ -356,7 +359,7 @@ fn items(
         before = front;
         rest = behind;
     }
-    Ok(items)
+    Ok(ArcSlice::from_vec(items)?)
 }
 
 /// The element at this place of the list, where the octets of the one before it are these; and how many octets it has.
@@ -423,12 +426,12 @@ fn set_components(
     comps: &[Comp],
     start: usize,
     octets: &[u8],
-) -> Result<Vec<Option<Value>>, Fault>
+) -> Result<ArcSlice<Arc<Option<Value>>>, Fault>
     requires proper { IsTrue (are_proper (components_of (map component_view comps.now))) }
     requires few { length comps.now ≤ 64 }
     requires depth { deepest (components_of (map component_view comps.now)) ≤ 31 }
     requires room { start + length octets.now < 2 ^ 64 }
-    ensures { Gives (λ v. fields_view v.items) (fault_of path.new.items) result (set_at (length octets.now)
+    ensures { Gives (λ v. fields_view (arc_slice_items v)) (fault_of path.new.items) result (set_at (length octets.now)
         (components_of (map component_view comps.now)) (part_at (components_of (map component_view comps.now)))
         (all_absent (components_of (map component_view comps.now))) None start octets.now) }
 {
@@ -439,7 +442,7 @@ fn set_components(
     while !rest.is_empty() {
         let (place, value, head) = set_component(alloc, path, comps, &fields, before, at, rest)?;
         let size = head.size + head.contents;
-        set_field(&mut fields, place, Some(value));
+        set_field(&mut fields, place, Arc::new(alloc, Some(value))?);
         before = Some(head.tag);
         let (_, behind) = rest.split_at(size);
         at += size;
@@ -454,7 +457,7 @@ fn set_component(
     alloc: Global,
     path: &mut Path,
     comps: &[Comp],
-    fields: &[Option<Value>],
+    fields: &[Arc<Option<Value>>],
     before: Option<Tag>,
     at: usize,
     octets: &[u8],

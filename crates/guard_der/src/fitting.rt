@@ -13,6 +13,7 @@ use crate::fitting::ascending::are_ascending;
 use crate::fitting::simple::{arcs_fit, are_octets, bits_fit, is_in_range};
 use guard_model::{Comp, Kind, MOST_ITEMS, OutOfMemory, Presence, Ty, Value};
 use std::alloc::Global;
+use std::sync::Arc;
 
 /// Whether the value is one of the type's, constraints aside: it is of the kind and within its limits, has a value at
 /// each component that isn't OPTIONAL, and all that is inside it fits. The elements of a SET OF have encodings, none of
@@ -53,7 +54,11 @@ fn kind_fits(alloc: Global, kind: &Kind, value: &Value) -> Result<bool, OutOfMem
 
 /// Whether there is a fitting value at each component, or none at an OPTIONAL one.
 #[cycle(fitting)]
-fn fields_fit(alloc: Global, comps: &[Comp], fields: &[Option<Value>]) -> Result<bool, OutOfMemory>
+fn fields_fit(
+    alloc: Global,
+    comps: &[Comp],
+    fields: &[Arc<Option<Value>>],
+) -> Result<bool, OutOfMemory>
     ensures { IfOk result
         (λ b. b ≡ fits_fields (components_of (map component_view comps.now)) (fields_view fields.now)) }
 {

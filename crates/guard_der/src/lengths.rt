@@ -18,6 +18,7 @@ use crate::fitting::fits;
 use crate::presence::is_left_out;
 use guard_model::{CharKind, Comp, Kind, OutOfMemory, Presence, Tag, Ty, Value};
 use std::alloc::Global;
+use std::sync::Arc;
 
 /// How many octets the encoding of the value has (X.690 clauses 8, 10 and 11), where it has at most 1,048,576; else
 /// None. It takes no memory. Condition: the value is one of the type's, constraints aside, which `fits` tests.
@@ -77,9 +78,10 @@ fn characters_length(kind: CharKind, text: &str) -> Option<usize>
     within(text.len())
 }
 
-/// How many contents octets the value has, at most so many. Condition: the value fits the kind, constraints aside.
+/// How many contents octets the value has (X.690 clauses 8, 10 and 11), where it has at most 1,048,576; else None. It
+/// takes no memory. Condition: the value is one of a type of the kind, constraints aside, which `fits` tests.
 #[cycle(lengths)]
-fn contents_length(kind: &Kind, value: &Value) -> Option<usize>
+pub fn contents_length(kind: &Kind, value: &Value) -> Option<usize>
     requires { IsTrue (fits_kind (kind_view kind.now) (value_view value.now)) }
     ensures { result ≡ short_length (contents_octets (kind_view kind.now) (value_view value.now)) }
 {
@@ -105,7 +107,7 @@ fn contents_length(kind: &Kind, value: &Value) -> Option<usize>
 
 /// What is sent of components has so many octets, in written order and in any other.
 #[cycle(lengths)]
-fn parts_length(comps: &[Comp], fields: &[Option<Value>]) -> Option<usize>
+fn parts_length(comps: &[Comp], fields: &[Arc<Option<Value>>]) -> Option<usize>
     requires { IsTrue (fits_fields (components_of (map component_view comps.now)) (fields_view fields.now)) }
     ensures { result ≡ short_length
         (sequence_octets (parts_of (components_of (map component_view comps.now)) (fields_view fields.now))) }

@@ -50,7 +50,7 @@ pub use encoding::{
 pub use fitting::fits;
 pub use forms::is_constructed;
 pub use head::{class_of, header};
-pub use lengths::{encoded_length, is_too_long, length_in};
+pub use lengths::{contents_length, encoded_length, is_too_long, length_in};
 pub use presence::is_left_out;
 pub use sound_types::sound;
 pub use tags::follows;

@@ -11,7 +11,6 @@ ghost use Rattle.guard_der.specs.inside.Faults.{fault_of};
 
 use crate::faults::Fault;
 use guard_model::{Presence, Value};
-use std::alloc::Global;
 
 /// Whether a component of this presence and value is left out of the encoding: it has a default, and the value is that
 /// default (X.690 11.5).
@@ -28,7 +27,7 @@ pub fn is_left_out(presence: &Presence, value: &Value) -> bool
 
 /// What a component has that isn't sent: its default, or no value; or this fault, if it is mandatory. Condition: the
 /// fault isn't that memory ran out.
-pub fn not_sent(alloc: Global, presence: &Presence, fault: Fault) -> Result<Option<Value>, Fault>
+pub fn not_sent(presence: &Presence, fault: Fault) -> Result<Option<Value>, Fault>
     requires named { fault_of [] fault ≢ None }
     ensures { (steps : List Step) (b : AbstractBreach) → fault_of steps fault ≡ Some b →
         Gives field_view (fault_of steps) result (unsent (presence_view presence.now) b) }
@@ -37,6 +36,6 @@ pub fn not_sent(alloc: Global, presence: &Presence, fault: Fault) -> Result<Opti
         Presence::Mandatory => Err(fault),
         Presence::Optional => Ok(None),
         Presence::Pending => Ok(None),
-        Presence::Default(value) => Ok(Some(value.copy(alloc)?)),
+        Presence::Default(value) => Ok(Some(value.copy()?)),
     }
 }

@@ -1,5 +1,7 @@
 -- What the steps of decoding give.
 use Rattle.std.proofs.Common.{◌≡◌, ℕ, zero, suc, ◌+◌, ◌-◌, ◌<◌, ◌≤◌, Bool, true, false, cond, eqb, List, [], ◌∷◌, length, take, drop, get_or, map, Option, Some, None, Result, Ok, Err, refl, sym, ap, subst, ◌∙◌, arith}
+use Rattle.std.specs.Arc.{arc_slice_items}
+use Rattle.std.specs.declared.sync.ArcSlice.{ArcSlice}
 use Rattle.std.specs.Prelude.{◌&&◌, nat_le, max, option_map}
 use Rattle.std.proofs.lemmas.Bool.{and_parts, and_from, cond-true, cond-false, eqb-true, leb-true}
 use Rattle.std.proofs.lemmas.List.{length-take, length-drop, length-map, take_all}
@@ -19,17 +21,21 @@ use Rattle.guard_model.specs.declared.ty.Kind.TheViews.{out-Ty, out-Comp}
 use Rattle.guard_tagcheck.specs.FirstTags.{begins_with}
 use Rattle.guard_tagcheck.specs.Limits.{nesting, nesting_inside, deepest, is_tagged, are_low}
 use Rattle.guard_model.specs.declared.ty.Kind.{Kind, Sequence, Choice}
-use Rattle.std.specs.Global.{Vec}
+use Rattle.std.specs.Global.{Global, Vec}
+use Rattle.guard_model.specs.ValueView.{value_view, fields_view}
+use Rattle.guard_model.specs.declared.value.Value.TheVariants as values
+use Rattle.guard_model.proofs.ValueViews.{value_view_fields}
 use Rattle.guard_der.specs.declared.breach.Code.TheVariants as code
 use Rattle.guard_der.specs.Head.{Head, head_of}
 use Rattle.guard_der.specs.Der.{is_constructed, is_left_out}
 use Rattle.guard_der.specs.Sound.{is_proper, is_proper_kind, are_proper, is_proper_presence, are_proper_constraints}
 use Rattle.guard_der.specs.Breach.{AbstractBreach, one_with, below}
-use Rattle.guard_der.specs.Reading.{Reader, due_at, element_at, untagged_at, contents_at, part_at, chosen_at, alone_at, tags_at, framed, message_of, component_at, sent_at, not_sent, missing_at, inside, fault, located, same_form}
+use Rattle.guard_der.specs.Reading.{Reader, due_at, element_at, untagged_at, contents_at, fields_at, fields_read, part_at, chosen_at, alone_at, tags_at, framed, message_of, component_at, sent_at, not_sent, missing_at, inside, fault, located, same_form}
 use Rattle.guard_der.proofs.Elements.Steps.{due_ok}
 use Rattle.guard_der.proofs.Numbers.Digits.{AreDigits}
 use Rattle.guard_der.proofs.Headers.Offsets.{head_room}
 use Rattle.guard_der.proofs.Components.OneComponent.{sent_fails}
+use Rattle.guard_der.proofs.Functions.Encoding.{Slot}
 use Rattle.guard_der.proofs.Types.Choice.{chosen_is, chosen_reads, chosen_fails}
 use Rattle.guard_model.specs.Counts.{component_count}
 use Rattle.guard_model.proofs.TypeViews.{type_view_is, component_view_is, kind_view_sequence, kind_view_choice}
@@ -283,6 +289,11 @@ sequence_parts kind comps is proper =
     let e : kind_view kind ≡ type.sequence (in_view comps.items) = rw is (kind_view_sequence comps) in
     let l = sequence_list (in_view comps.items) (rw e at proper) in
     (l.0, omega (arith, l.1, list_count comps.items), ap nesting_inside e)
+
+pub sequence_given : (kind : Kind) (comps : Vec Comp) (fields : ArcSlice Slot Global) (at start : ℕ) (os : List ℕ) → kind ≡ Sequence comps → fields_at 0 (in_view comps.items) start os ≡ Ok (fields_view (arc_slice_items fields)) → contents_at (kind_view kind) at start os ≡ Ok (value_view (values.Fields fields))
+unfolding contents_at
+sequence_given kind comps fields at start os is e =
+    ap (λ (k : AbstractKind). contents_at k at start os) (ap kind_view is ∙ kind_view_sequence comps) ∙ ap fields_read e ∙ ap (λ (v : AbstractValue). Ok v) (sym (value_view_fields fields))
 
 pub choice_parts : (kind : Kind) (comps : Vec Comp) → kind ≡ Choice comps → is_proper_kind (kind_view kind) ≡ true
     → (are_proper (in_view comps.items) ≡ true) × (length comps.items ≤ 64) × (nesting_inside (kind_view kind) ≡ suc (deepest (in_view comps.items)))

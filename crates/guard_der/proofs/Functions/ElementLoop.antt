@@ -1,7 +1,9 @@
 -- Reading the elements of an OF type as the code does: one, and a loop of them.
 use Rattle.std.proofs.Common.{◌≡◌, ℕ, suc, ◌+◌, ◌-◌, ◌≤◌, Bool, true, false, cond, eqb, List, [], ◌∷◌, ◌++◌, length, take, drop, map, Option, Some, None, Result, Ok, Err, refl, sym, ap, ◌∙◌, arith}
 use Rattle.std.specs.Prelude.{◌&&◌, option_map}
-use Rattle.std.specs.Global.{Vec, Box}
+use Rattle.std.specs.Arc.{arc_slice_items}
+use Rattle.std.specs.declared.sync.ArcSlice.{ArcSlice}
+use Rattle.std.specs.Global.{Global, Box}
 use Rattle.std.proofs.lemmas.Bool.{eqb-true}
 use Rattle.std.proofs.lemmas.List.{length-append, map_push}
 use Rattle.guard_model.specs.Answer.{◌>>=◌, Refuses}
@@ -175,7 +177,7 @@ pub contents_refused : (f : Option AbstractBreach) (whole : Result AbstractValue
 contents_refused None whole r is e = tt
 contents_refused (Some b) whole r is e = is ∙ ap items_read e
 
-pub contents_read : (vs : Vec Value) (whole : Result AbstractValue AbstractBreach) (r : Result Items AbstractBreach) → whole ≡ items_read r → r ≡ Ok (items_view vs.items) → whole ≡ Ok (value_view (values.Items vs))
+pub contents_read : (vs : ArcSlice Value Global) (whole : Result AbstractValue AbstractBreach) (r : Result Items AbstractBreach) → whole ≡ items_read r → r ≡ Ok (items_view (arc_slice_items vs)) → whole ≡ Ok (value_view (values.Items vs))
 contents_read vs whole r is e = is ∙ ap items_read e ∙ ap (λ (v : AbstractValue). Ok v) (sym (value_view_items vs))
 
 abbrev below_if : ℕ → Option AbstractBreach → Option AbstractBreach

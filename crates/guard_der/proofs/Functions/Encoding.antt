@@ -1,13 +1,15 @@
 -- What an encoding is made of, seen from the code's types and values.
 use Rattle.std.proofs.Common.{◌≡◌, ℕ, suc, ◌+◌, ◌<◌, ◌≤◌, Bool, true, false, List, [], ◌∷◌, ◌++◌, length, drop, get_or, map, Option, Some, None, Ok, refl, sym, ap, ◌∙◌, append_assoc, add-one}
-use Rattle.std.specs.Arc.{arc_str_bytes}
+use Rattle.std.specs.Arc.{arc_slice_items, arc_str_bytes}
+use Rattle.std.specs.declared.sync.Arc.{Arc}
+use Rattle.std.specs.declared.sync.ArcSlice.{ArcSlice}
 use Rattle.std.specs.Prelude.{IsTrue}
-use Rattle.std.specs.Global.{Vec, Box}
+use Rattle.std.specs.Global.{Global, Vec, Box}
 use Rattle.guard_model.specs.Answer.{Refuses}
 use Rattle.guard_model.specs.AbstractType.{AbstractType, AbstractPresence, Components, component}
 use Rattle.guard_model.specs.AbstractValue.{AbstractValue, fields_of}
 use Rattle.guard_model.specs.TypeView.{OneComponent, type_view, kind_view, component_view, components_of, presence_view}
-use Rattle.guard_model.specs.ValueView.{value_view, field_view, fields_view, items_view}
+use Rattle.guard_model.specs.ValueView.{value_view, slot_view, fields_view, items_view}
 use Rattle.guard_model.specs.declared.tag.Tag.{Tag}
 use Rattle.guard_model.specs.declared.ty.Ty.{Ty}
 use Rattle.guard_model.specs.declared.ty.Comp.{Comp}
@@ -30,6 +32,10 @@ use Rattle.guard_model.proofs.TypeViews.{kind_view_sequence, kind_view_set, kind
 use Rattle.guard_der.specs.Encoding.{or_too_long}
 use Rattle.guard_der.specs.inside.EncodingSteps.{part_of, with_parts, all_joined, sequence_octets, set_octets}
 
+-- a slot of the code, which holds a component's value or nothing
+abbrev pub Slot : Type 0
+Slot = Arc (Option Value) Global
+
 -- what is refused inside is refused whole
 pub refused_whole : {A B : Type 0} (e : EncodeFault) (x : Option A) (f : A → Option B) → Refuses (refusal e) (or_too_long x) → Refuses (refusal e) (or_too_long (x >>= f))
 refused_whole TooLong None f h = refl
@@ -44,24 +50,24 @@ there_whole (Some x) y f h =
 
 -- ---- a SEQUENCE and a SET
 
-pub sequence_fits : (kind : Kind) (v : Value) (comps : Vec Comp) (fs : Vec (Option Value)) → kind ≡ Sequence comps → v ≡ variant.Fields fs → IsTrue (fits_kind (kind_view kind) (value_view v)) → IsTrue (fits_fields (components_of (map component_view comps.items)) (fields_view fs.items))
+pub sequence_fits : (kind : Kind) (v : Value) (comps : Vec Comp) (fs : ArcSlice Slot Global) → kind ≡ Sequence comps → v ≡ variant.Fields fs → IsTrue (fits_kind (kind_view kind) (value_view v)) → IsTrue (fits_fields (components_of (map component_view comps.items)) (fields_view (arc_slice_items fs)))
 sequence_fits kind v comps fs k w h = rw (k, kind_view_sequence comps, w, value_view_fields fs) at h
 
-pub set_fits : (kind : Kind) (v : Value) (comps : Vec Comp) (fs : Vec (Option Value)) → kind ≡ Set comps → v ≡ variant.Fields fs → IsTrue (fits_kind (kind_view kind) (value_view v)) → IsTrue (fits_fields (components_of (map component_view comps.items)) (fields_view fs.items))
+pub set_fits : (kind : Kind) (v : Value) (comps : Vec Comp) (fs : ArcSlice Slot Global) → kind ≡ Set comps → v ≡ variant.Fields fs → IsTrue (fits_kind (kind_view kind) (value_view v)) → IsTrue (fits_fields (components_of (map component_view comps.items)) (fields_view (arc_slice_items fs)))
 set_fits kind v comps fs k w h = rw (k, kind_view_set comps, w, value_view_fields fs) at h
 
-pub sequence_contents : (kind : Kind) (v : Value) (comps : Vec Comp) (fs : Vec (Option Value)) → kind ≡ Sequence comps → v ≡ variant.Fields fs → contents_octets (kind_view kind) (value_view v) ≡ sequence_octets (parts_of (components_of (map component_view comps.items)) (fields_view fs.items))
+pub sequence_contents : (kind : Kind) (v : Value) (comps : Vec Comp) (fs : ArcSlice Slot Global) → kind ≡ Sequence comps → v ≡ variant.Fields fs → contents_octets (kind_view kind) (value_view v) ≡ sequence_octets (parts_of (components_of (map component_view comps.items)) (fields_view (arc_slice_items fs)))
 sequence_contents kind v comps fs k w = rw (k, kind_view_sequence comps, w, value_view_fields fs) refl
 
-pub set_contents : (kind : Kind) (v : Value) (comps : Vec Comp) (fs : Vec (Option Value)) → kind ≡ Set comps → v ≡ variant.Fields fs → contents_octets (kind_view kind) (value_view v) ≡ set_octets (parts_of (components_of (map component_view comps.items)) (fields_view fs.items))
+pub set_contents : (kind : Kind) (v : Value) (comps : Vec Comp) (fs : ArcSlice Slot Global) → kind ≡ Set comps → v ≡ variant.Fields fs → contents_octets (kind_view kind) (value_view v) ≡ set_octets (parts_of (components_of (map component_view comps.items)) (fields_view (arc_slice_items fs)))
 set_contents kind v comps fs k w = rw (k, kind_view_set comps, w, value_view_fields fs) refl
 
 -- ---- OF types
 
-pub sequence_of_contents : (kind : Kind) (v : Value) (t : Box Ty) (vs : Vec Value) → kind ≡ SequenceOf t → v ≡ variant.Items vs → contents_octets (kind_view kind) (value_view v) ≡ all_joined (item_encodings (der (type_view t.value)) (items_view vs.items))
+pub sequence_of_contents : (kind : Kind) (v : Value) (t : Box Ty) (vs : ArcSlice Value Global) → kind ≡ SequenceOf t → v ≡ variant.Items vs → contents_octets (kind_view kind) (value_view v) ≡ all_joined (item_encodings (der (type_view t.value)) (items_view (arc_slice_items vs)))
 sequence_of_contents kind v t vs k w = rw (k, kind_view_sequence_of t, w, value_view_items vs) refl
 
-pub set_of_contents : (kind : Kind) (v : Value) (t : Box Ty) (vs : Vec Value) → kind ≡ SetOf t → v ≡ variant.Items vs → contents_octets (kind_view kind) (value_view v) ≡ all_joined (item_encodings (der (type_view t.value)) (items_view vs.items))
+pub set_of_contents : (kind : Kind) (v : Value) (t : Box Ty) (vs : ArcSlice Value Global) → kind ≡ SetOf t → v ≡ variant.Items vs → contents_octets (kind_view kind) (value_view v) ≡ all_joined (item_encodings (der (type_view t.value)) (items_view (arc_slice_items vs)))
 set_of_contents kind v t vs k w = rw (k, kind_view_set_of t, w, value_view_items vs) refl
 
 -- ---- components one after the other
@@ -84,26 +90,26 @@ one_fits : (name : List ℕ) (t : AbstractType) (p : AbstractPresence) (rest : C
 one_fits name t p rest None fs h = and_parts _ _ h
 one_fits name t p rest (Some v) fs h = and_parts _ _ h
 
-pub fields_is : (fs : List (Option Value)) (i : ℕ) (f : Option Value) → i < length fs → f ≡ get_or fs i f → fields_view (drop i fs) ≡ fields_of (field_view f ∷ map field_view (drop (i + 1) fs))
+pub fields_is : (fs : List Slot) (i : ℕ) (f : Slot) → i < length fs → f ≡ get_or fs i f → fields_view (drop i fs) ≡ fields_of (slot_view f ∷ map slot_view (drop (i + 1) fs))
 fields_is fs i f lt is =
-    ap (λ (xs : List (Option Value)). fields_view xs) (drop-cons fs i f lt ∙ ap (λ (x : Option Value). x ∷ drop (suc i) fs) (sym is) ∙ ap (λ (k : ℕ). f ∷ drop k fs) (sym (add-one i)))
+    ap (λ (xs : List Slot). fields_view xs) (drop-cons fs i f lt ∙ ap (λ (x : Slot). x ∷ drop (suc i) fs) (sym is) ∙ ap (λ (k : ℕ). f ∷ drop k fs) (sym (add-one i)))
 
 -- what this component sends
-abbrev pub sent_of : Comp → Option Value → Option (List Part)
-sent_of comp f = part_of (presence_view (out-Comp comp).presence) (type_view (out-Comp comp).ty) (field_view f)
+abbrev pub sent_of : Comp → Slot → Option (List Part)
+sent_of comp f = part_of (presence_view (out-Comp comp).presence) (type_view (out-Comp comp).ty) (slot_view f)
 
 -- what the components from a place on send
-abbrev pub others : List Comp → List (Option Value) → ℕ → Option (List Part)
+abbrev pub others : List Comp → List Slot → ℕ → Option (List Part)
 others comps fs i = parts_of (left comps i) (fields_view (drop i fs))
 
-pub next_sent : (comps : List Comp) (fs : List (Option Value)) (i : ℕ) (comp : Comp) (f : Option Value) → i < length comps → i < length fs → comp ≡ get_or comps i comp → f ≡ get_or fs i f → others comps fs i ≡ (sent_of comp f >>= λ one. with_parts one (others comps fs (i + 1)))
+pub next_sent : (comps : List Comp) (fs : List Slot) (i : ℕ) (comp : Comp) (f : Slot) → i < length comps → i < length fs → comp ≡ get_or comps i comp → f ≡ get_or fs i f → others comps fs i ≡ (sent_of comp f >>= λ one. with_parts one (others comps fs (i + 1)))
 next_sent comps fs i comp f lt lf is is_f =
-    rw (left_is comps i comp lt is, fields_is fs i f lf is_f) (one_first (arc_str_bytes (out-Comp comp).name) (type_view (out-Comp comp).ty) (presence_view (out-Comp comp).presence) (left comps (i + 1)) (field_view f) (map field_view (drop (i + 1) fs)))
+    rw (left_is comps i comp lt is, fields_is fs i f lf is_f) (one_first (arc_str_bytes (out-Comp comp).name) (type_view (out-Comp comp).ty) (presence_view (out-Comp comp).presence) (left comps (i + 1)) (slot_view f) (map slot_view (drop (i + 1) fs)))
 
-pub next_fits : (comps : List Comp) (fs : List (Option Value)) (i : ℕ) (comp : Comp) (f : Option Value) → i < length comps → i < length fs → comp ≡ get_or comps i comp → f ≡ get_or fs i f → IsTrue (fits_fields (left comps i) (fields_view (drop i fs)))
-    → IsTrue (fits_field (presence_view (out-Comp comp).presence) (type_view (out-Comp comp).ty) (field_view f)) × IsTrue (fits_fields (left comps (i + 1)) (fields_view (drop (i + 1) fs)))
+pub next_fits : (comps : List Comp) (fs : List Slot) (i : ℕ) (comp : Comp) (f : Slot) → i < length comps → i < length fs → comp ≡ get_or comps i comp → f ≡ get_or fs i f → IsTrue (fits_fields (left comps i) (fields_view (drop i fs)))
+    → IsTrue (fits_field (presence_view (out-Comp comp).presence) (type_view (out-Comp comp).ty) (slot_view f)) × IsTrue (fits_fields (left comps (i + 1)) (fields_view (drop (i + 1) fs)))
 next_fits comps fs i comp f lt lf is is_f h =
-    one_fits (arc_str_bytes (out-Comp comp).name) (type_view (out-Comp comp).ty) (presence_view (out-Comp comp).presence) (left comps (i + 1)) (field_view f) (map field_view (drop (i + 1) fs)) (rw (left_is comps i comp lt is, fields_is fs i f lf is_f) at h)
+    one_fits (arc_str_bytes (out-Comp comp).name) (type_view (out-Comp comp).ty) (presence_view (out-Comp comp).presence) (left comps (i + 1)) (slot_view f) (map slot_view (drop (i + 1) fs)) (rw (left_is comps i comp lt is, fields_is fs i f lf is_f) at h)
 
 put_behind : (old new : List Part) (one rest : Option (List Part)) → or_too_long (with_parts old one) ≡ Ok new → with_parts new rest ≡ with_parts old (one >>= λ o. with_parts o rest)
 put_behind old new None rest h = absurd cc
@@ -117,12 +123,12 @@ stop_behind TooLong old None rest h = refl
 stop_behind TooLong old (Some o) rest h = absurd cc
 stop_behind OutOfMemory old one rest h = tt
 
-pub parts_on : (comps : List Comp) (fs : List (Option Value)) (i : ℕ) (comp : Comp) (f : Option Value) (old new : List Part) (whole : Option (List Part)) → i < length comps → i < length fs → comp ≡ get_or comps i comp → f ≡ get_or fs i f
+pub parts_on : (comps : List Comp) (fs : List Slot) (i : ℕ) (comp : Comp) (f : Slot) (old new : List Part) (whole : Option (List Part)) → i < length comps → i < length fs → comp ≡ get_or comps i comp → f ≡ get_or fs i f
     → or_too_long (with_parts old (sent_of comp f)) ≡ Ok new → with_parts old (others comps fs i) ≡ whole → with_parts new (others comps fs (i + 1)) ≡ whole
 parts_on comps fs i comp f old new whole lt lf is is_f sent so_far =
     put_behind old new (sent_of comp f) (others comps fs (i + 1)) sent ∙ ap (with_parts old) (sym (next_sent comps fs i comp f lt lf is is_f)) ∙ so_far
 
-pub parts_stop : (comps : List Comp) (fs : List (Option Value)) (i : ℕ) (comp : Comp) (f : Option Value) (old : List Part) (whole : Option (List Part)) (fault : EncodeFault) → i < length comps → i < length fs → comp ≡ get_or comps i comp → f ≡ get_or fs i f
+pub parts_stop : (comps : List Comp) (fs : List Slot) (i : ℕ) (comp : Comp) (f : Slot) (old : List Part) (whole : Option (List Part)) (fault : EncodeFault) → i < length comps → i < length fs → comp ≡ get_or comps i comp → f ≡ get_or fs i f
     → Refuses (refusal fault) (or_too_long (with_parts old (sent_of comp f))) → with_parts old (others comps fs i) ≡ whole → Refuses (refusal fault) (or_too_long whole)
 parts_stop comps fs i comp f old whole fault lt lf is is_f refused so_far =
     let stopped = stop_behind fault old (sent_of comp f) (others comps fs (i + 1)) refused in
@@ -131,7 +137,7 @@ parts_stop comps fs i comp f old whole fault lt lf is is_f refused so_far =
 pub parts_begin : (ps : Option (List Part)) → with_parts [] ps ≡ ps
 parts_begin ps = with_none ps
 
-pub parts_end : (comps : List Comp) (fs : List (Option Value)) (i : ℕ) (old : List Part) (whole : Option (List Part)) → length comps ≤ i → length fs ≤ i → with_parts old (others comps fs i) ≡ whole → or_too_long whole ≡ Ok old
+pub parts_end : (comps : List Comp) (fs : List Slot) (i : ℕ) (old : List Part) (whole : Option (List Part)) → length comps ≤ i → length fs ≤ i → with_parts old (others comps fs i) ≡ whole → or_too_long whole ≡ Ok old
 parts_end comps fs i old whole le lf so_far =
     ap or_too_long (sym so_far) ∙ rw (none_left comps i le, drop_all i fs lf) (ap (λ (ps : List Part). Ok ps) (append-nil old))
 
@@ -150,5 +156,5 @@ uneven (c ∷ cs) [] h = refl
 uneven (c ∷ cs) (None ∷ fs) h = uneven cs fs (λ e. h (ap suc e))
 uneven (c ∷ cs) (Some v ∷ fs) h = nothing_behind (is_left_out c.presence v) (outermost c.ty v) (der c.ty v) _ (uneven cs fs (λ e. h (ap suc e)))
 
-pub uneven_parts : (comps : List Comp) (fs : List (Option Value)) → (length comps ≡ length fs → ⊥) → parts_of (components_of (map component_view comps)) (fields_view fs) ≡ None
-uneven_parts comps fs h = uneven (map component_view comps) (map field_view fs) (λ e. h (sym (length-map comps component_view) ∙ e ∙ length-map fs field_view))
+pub uneven_parts : (comps : List Comp) (fs : List Slot) → (length comps ≡ length fs → ⊥) → parts_of (components_of (map component_view comps)) (fields_view fs) ≡ None
+uneven_parts comps fs h = uneven (map component_view comps) (map slot_view fs) (λ e. h (sym (length-map comps component_view) ∙ e ∙ length-map fs slot_view))

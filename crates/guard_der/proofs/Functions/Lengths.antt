@@ -7,7 +7,6 @@ use Rattle.guard_model.specs.declared.tag.Tag.{Tag}
 use Rattle.guard_model.specs.declared.ty.Comp.{Comp}
 use Rattle.guard_model.specs.declared.ty.Kind.TheViews.{out-Ty}
 use Rattle.guard_model.specs.declared.ty.Ty.{Ty}
-use Rattle.guard_model.specs.declared.value.Value.{Value}
 use Rattle.guard_model.specs.AbstractType.{AbstractType}
 use Rattle.guard_model.specs.AbstractValue.{AbstractValue}
 use Rattle.guard_model.specs.TypeView.{type_view, kind_view}
@@ -18,7 +17,7 @@ use Rattle.guard_der.specs.Encoding.{longest_encoding, short, short_length, head
 use Rattle.guard_der.specs.Octets.{base_128}
 use Rattle.guard_der.specs.inside.EncodingSteps.{with_parts, sequence_octets, set_octets}
 use Rattle.guard_der.specs.inside.Lengths.{short_after}
-use Rattle.guard_der.proofs.Functions.Encoding.{others, sent_of, next_sent}
+use Rattle.guard_der.proofs.Functions.Encoding.{Slot, others, sent_of, next_sent}
 
 -- ---- the limit
 
@@ -147,7 +146,7 @@ parts_behind (Some ps) None = refl
 parts_behind (Some ps) (Some qs) = ap (λ (os : List ℕ). Some os) (parts_append ps qs)
 
 -- the octets of one component and of those after it
-next_part : (comps : List Comp) (fs : List (Option Value)) (i : ℕ) (comp : Comp) (f : Option Value) (n : ℕ) → i < length comps → i < length fs → comp ≡ get_or comps i comp → f ≡ get_or fs i f
+next_part : (comps : List Comp) (fs : List Slot) (i : ℕ) (comp : Comp) (f : Slot) (n : ℕ) → i < length comps → i < length fs → comp ≡ get_or comps i comp → f ≡ get_or fs i f
     → short_after n (sequence_octets (others comps fs i)) ≡ (short_length (sequence_octets (sent_of comp f)) >>= λ k. short (n + k) >>= λ m. short_after m (sequence_octets (others comps fs (i + 1))))
 next_part comps fs i comp f n lt lf is is_f =
     ap (λ (ps : Option (List Part)). short_after n (sequence_octets ps)) (next_sent comps fs i comp f lt lf is is_f)
@@ -156,19 +155,19 @@ next_part comps fs i comp f n lt lf is is_f =
 
 -- ---- the loop over components
 
-pub parts_on : (comps : List Comp) (fs : List (Option Value)) (i : ℕ) (comp : Comp) (f : Option Value) (n more next : ℕ) (whole : Option ℕ) → i < length comps → i < length fs → comp ≡ get_or comps i comp → f ≡ get_or fs i f
+pub parts_on : (comps : List Comp) (fs : List Slot) (i : ℕ) (comp : Comp) (f : Slot) (n more next : ℕ) (whole : Option ℕ) → i < length comps → i < length fs → comp ≡ get_or comps i comp → f ≡ get_or fs i f
     → short_length (sequence_octets (sent_of comp f)) ≡ Some more → short (n + more) ≡ Some next → short_after n (sequence_octets (others comps fs i)) ≡ whole → short_after next (sequence_octets (others comps fs (i + 1))) ≡ whole
 parts_on comps fs i comp f n more next whole lt lf is is_f one sum so_far =
     sym (next_part comps fs i comp f n lt lf is is_f ∙ ap (λ (x : Option ℕ). x >>= λ k. short (n + k) >>= λ m. short_after m (sequence_octets (others comps fs (i + 1)))) one ∙ ap (λ (x : Option ℕ). x >>= λ m. short_after m (sequence_octets (others comps fs (i + 1)))) sum) ∙ so_far
 
 -- one component has too many octets by itself
-pub part_long : (comps : List Comp) (fs : List (Option Value)) (i : ℕ) (comp : Comp) (f : Option Value) (n : ℕ) (whole : Option ℕ) → i < length comps → i < length fs → comp ≡ get_or comps i comp → f ≡ get_or fs i f
+pub part_long : (comps : List Comp) (fs : List Slot) (i : ℕ) (comp : Comp) (f : Slot) (n : ℕ) (whole : Option ℕ) → i < length comps → i < length fs → comp ≡ get_or comps i comp → f ≡ get_or fs i f
     → short_length (sequence_octets (sent_of comp f)) ≡ None → short_after n (sequence_octets (others comps fs i)) ≡ whole → None ≡ whole
 part_long comps fs i comp f n whole lt lf is is_f none so_far =
     sym (next_part comps fs i comp f n lt lf is is_f ∙ ap (λ (x : Option ℕ). x >>= λ k. short (n + k) >>= λ m. short_after m (sequence_octets (others comps fs (i + 1)))) none) ∙ so_far
 
 -- it has too many with those before it
-pub sum_long : (comps : List Comp) (fs : List (Option Value)) (i : ℕ) (comp : Comp) (f : Option Value) (n more : ℕ) (whole : Option ℕ) → i < length comps → i < length fs → comp ≡ get_or comps i comp → f ≡ get_or fs i f
+pub sum_long : (comps : List Comp) (fs : List Slot) (i : ℕ) (comp : Comp) (f : Slot) (n more : ℕ) (whole : Option ℕ) → i < length comps → i < length fs → comp ≡ get_or comps i comp → f ≡ get_or fs i f
     → short_length (sequence_octets (sent_of comp f)) ≡ Some more → short (n + more) ≡ None → short_after n (sequence_octets (others comps fs i)) ≡ whole → None ≡ whole
 sum_long comps fs i comp f n more whole lt lf is is_f one sum so_far =
     sym (next_part comps fs i comp f n lt lf is is_f ∙ ap (λ (x : Option ℕ). x >>= λ k. short (n + k) >>= λ m. short_after m (sequence_octets (others comps fs (i + 1)))) one ∙ ap (λ (x : Option ℕ). x >>= λ m. short_after m (sequence_octets (others comps fs (i + 1)))) sum) ∙ so_far

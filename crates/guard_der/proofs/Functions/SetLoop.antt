@@ -1,7 +1,9 @@
 -- Reading the elements of a SET one after the other, as a loop does.
 use Rattle.std.proofs.Common.{◌≡◌, ℕ, zero, suc, ◌+◌, ◌*◌, ◌<◌, ◌≤◌, Bool, true, false, ltb, eqb, List, [], ◌∷◌, length, drop, get_or, map, Option, Some, None, Result, Ok, sym, ap, ◌∙◌, arith, refl}
 use Rattle.std.specs.Prelude.{nat_le}
-use Rattle.std.specs.Global.{Vec}
+use Rattle.std.specs.Arc.{arc_slice_items}
+use Rattle.std.specs.declared.sync.ArcSlice.{ArcSlice}
+use Rattle.std.specs.Global.{Global, Vec}
 use Rattle.std.proofs.lemmas.Bool.{and_parts, leb-true, eqb-true, cond_both}
 use Rattle.std.proofs.lemmas.List.{length-map, length-drop}
 use Rattle.guard_model.specs.Answer.{◌>>=◌, Refuses}
@@ -28,6 +30,7 @@ use Rattle.guard_model.specs.Slots.{all_absent}
 use Rattle.guard_der.specs.Reading.{Reader, located, fill, presence_at, placed_at, set_element_at, completed, set_at, part_at, sent_at, element_at, contents_at, fields_read}
 use Rattle.guard_der.proofs.Numbers.Digits.{AreDigits}
 use Rattle.guard_der.proofs.Headers.Heads.{head_takes}
+use Rattle.guard_der.proofs.Functions.Encoding.{Slot}
 use Rattle.guard_der.proofs.Components.OneComponent.{located_is}
 use Rattle.guard_der.proofs.Functions.Decoding.{refuses_as, sent_alike, part_is}
 use Rattle.guard_der.proofs.Sets.OneElement.{PlacedElement, set_element_strays}
@@ -138,7 +141,7 @@ contents_set : (kind : Kind) (comps : Vec Comp) (at start : ℕ) (os : List ℕ)
 unfolding contents_at
 contents_set kind comps at start os is = ap (λ (k : AbstractKind). contents_at k at start os) (ap kind_view is ∙ kind_view_set comps)
 
-pub set_given : (kind : Kind) (comps : Vec Comp) (fields : Vec (Option Value)) (at start : ℕ) (os : List ℕ) → kind ≡ Set comps → set_read comps.items start os ≡ Ok (fields_view fields.items) → contents_at (kind_view kind) at start os ≡ Ok (value_view (values.Fields fields))
+pub set_given : (kind : Kind) (comps : Vec Comp) (fields : ArcSlice Slot Global) (at start : ℕ) (os : List ℕ) → kind ≡ Set comps → set_read comps.items start os ≡ Ok (fields_view (arc_slice_items fields)) → contents_at (kind_view kind) at start os ≡ Ok (value_view (values.Fields fields))
 set_given kind comps fields at start os is e = contents_set kind comps at start os is ∙ ap fields_read e ∙ ap (λ (v : AbstractValue). Ok v) (sym (value_view_fields fields))
 
 pub set_refused : (b : Option AbstractBreach) (kind : Kind) (comps : Vec Comp) (at start : ℕ) (os : List ℕ) → kind ≡ Set comps → Refuses b (set_read comps.items start os) → Refuses b (contents_at (kind_view kind) at start os)

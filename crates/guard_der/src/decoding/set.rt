@@ -1,5 +1,6 @@
 //! The components of a SET that were read so far: one slot for each.
 ghost use Rattle.std.specs.Prelude.{◌≡◌, ◌<◌, ◌≤◌, length, map, IfOk};
+ghost use Rattle.std.specs.Arc.{arc_slice_items};
 ghost use Rattle.guard_model.specs.Answer.{Gives};
 ghost use Rattle.guard_model.specs.TypeView.{component_view, components_of};
 ghost use Rattle.guard_model.specs.ValueView.{fields_view};
@@ -12,6 +13,7 @@ use crate::presence::not_sent;
 use crate::tags::{follows, one_with};
 use guard_model::{Comp, Path, Step, Tag, Value, set_field};
 use std::alloc::Global;
+use std::sync::{Arc, ArcSlice};
 
 /// The place, from 0, of the component of a SET to which an element with this tag belongs. UnexpectedTag where it is of
 /// none, or of one that was read already; SetOrder where its tag isn't above `before`, the tag of the element before
@@ -19,7 +21,7 @@ use std::alloc::Global;
 pub fn place_of(
     path: &mut Path,
     comps: &[Comp],
-    fields: &[Option<Value>],
+    fields: &[Arc<Option<Value>>],
     before: Option<Tag>,
     at: usize,
     tag: Tag,
@@ -49,12 +51,12 @@ pub fn completed(
     alloc: Global,
     path: &mut Path,
     comps: &[Comp],
-    mut fields: Vec<Option<Value>>,
+    mut fields: Vec<Arc<Option<Value>>>,
     at: usize,
-) -> Result<Vec<Option<Value>>, Fault>
+) -> Result<ArcSlice<Arc<Option<Value>>>, Fault>
     requires few { length comps.now ≤ 64 }
     requires fields { length fields.items ≡ length comps.now }
-    ensures { Gives (λ v. fields_view v.items) (fault_of path.new.items) result
+    ensures { Gives (λ v. fields_view (arc_slice_items v)) (fault_of path.new.items) result
         (completed 0 (components_of (map component_view comps.now)) (fields_view fields.items) at) }
 {
     for (index, comp) in comps.iter().enumerate() {
@@ -63,12 +65,9 @@ pub fn completed(
                 path,
                 Step::Component(index as u8),
             );
-            set_field(
-                &mut fields,
-                index,
-                not_sent(alloc, &comp.presence, missing)?,
-            );
+            let field = not_sent(&comp.presence, missing)?;
+            set_field(&mut fields, index, Arc::new(alloc, field)?);
         }
     }
-    Ok(fields)
+    Ok(ArcSlice::from_vec(fields)?)
 }

@@ -18,6 +18,7 @@ use crate::forms::is_constructed;
 use crate::presence::is_left_out;
 use guard_model::{Comp, Kind, Presence, Ty, Value};
 use std::alloc::Global;
+use std::sync::Arc;
 
 /// The encoding of a value, however long. TooLong where a length in it would need more than four octets. Condition: the
 /// value fits the type, constraints aside.
@@ -60,7 +61,11 @@ pub fn contents(alloc: Global, kind: &Kind, value: &Value) -> Result<Vec<u8>, En
 
 /// The contents octets of a SEQUENCE: what is sent of the components, in written order (X.690 8.9.2).
 #[cycle(encoding)]
-fn sequence(alloc: Global, comps: &[Comp], fields: &[Option<Value>]) -> Result<Vec<u8>, EncodeFault>
+fn sequence(
+    alloc: Global,
+    comps: &[Comp],
+    fields: &[Arc<Option<Value>>],
+) -> Result<Vec<u8>, EncodeFault>
     requires { IsTrue (fits_fields (components_of (map component_view comps.now)) (fields_view fields.now)) }
     ensures { Gives (λ v. v.items) refusal result (or_too_long
         (sequence_octets (parts_of (components_of (map component_view comps.now)) (fields_view fields.now)))) }
@@ -71,7 +76,7 @@ fn sequence(alloc: Global, comps: &[Comp], fields: &[Option<Value>]) -> Result<V
 
 /// The contents octets of a SET: what is sent of the components, in ascending order of tags (X.690 10.3).
 #[cycle(encoding)]
-fn set(alloc: Global, comps: &[Comp], fields: &[Option<Value>]) -> Result<Vec<u8>, EncodeFault>
+fn set(alloc: Global, comps: &[Comp], fields: &[Arc<Option<Value>>]) -> Result<Vec<u8>, EncodeFault>
     requires { IsTrue (fits_fields (components_of (map component_view comps.now)) (fields_view fields.now)) }
     ensures { Gives (λ v. v.items) refusal result
         (or_too_long (set_octets (parts_of (components_of (map component_view comps.now)) (fields_view fields.now)))) }
@@ -105,7 +110,7 @@ fn alternative(
 fn parts(
     alloc: Global,
     comps: &[Comp],
-    fields: &[Option<Value>],
+    fields: &[Arc<Option<Value>>],
 ) -> Result<Vec<EncodedPart>, EncodeFault>
     requires { IsTrue (fits_fields (components_of (map component_view comps.now)) (fields_view fields.now)) }
     ensures { Gives (λ v. parts_view v.items) refusal result

@@ -1,10 +1,11 @@
 use Rattle.std.proofs.Common.{◌≡◌, ◌+◌, ◌-◌, ◌++◌, ◌∷◌, [], ◌∙◌, sym, ap, length, map, get_or, subst, arith, ◌<◌}
+use Rattle.std.specs.Arc.{arc_slice_items}
 use Rattle.std.specs.Prelude.{option_map}
 use Rattle.std.proofs.lemmas.Result.{err_from_is_err_and}
 use Rattle.std.proofs.lemmas.List.{map_push, length-append, length-drop, length-set}
 use Rattle.guard_model.specs.Answer.{Gives}
 use Rattle.guard_model.specs.TypeView.{type_view, kind_view, presence_view}
-use Rattle.guard_model.specs.ValueView.{value_view, field_view, fields_view}
+use Rattle.guard_model.specs.ValueView.{value_view, field_view, slot_view, fields_view}
 use Rattle.guard_model.specs.declared.site.Step.TheVariants.{Component}
 use Rattle.guard_model.specs.declared.ty.Kind.TheViews.{out-Ty, out-Comp}
 use Rattle.guard_tagcheck.specs.FirstTags.{begins_with}
@@ -24,7 +25,7 @@ use Rattle.guard_der.proofs.Types.Paths.{room_below, room_below_item}
 use Rattle.guard_der.proofs.Lists.Elements.{item_reads}
 use Rattle.guard_der.proofs.Functions.ElementLoop.{due_some, item_tags, item_not_due, item_not_read, item_descends, item_is_read, item_refused, items_go_on, items_refused, items_done, sequence_of_contents, set_of_contents, contents_refused, contents_read}
 use Rattle.guard_der.proofs.Functions.Decoding as decodings
-use Rattle.guard_der.proofs.Functions.Decoding.{several, whole, due_room, inner_proper, proper_inside, element_none, element_one, element_one_wrong, element_more, element_more_wrong, part_is, chosen_none, chosen_some, chosen_refused, end_ok, no_header, stray_ok, stray_refused, component_ok, component_refused, sent_refused, sequence_parts, choice_parts, choice_proper, choice_contents, choice_element, tags_element, tags_proper, tags_nesting, refuses_as, inside_room}
+use Rattle.guard_der.proofs.Functions.Decoding.{several, whole, due_room, inner_proper, proper_inside, element_none, element_one, element_one_wrong, element_more, element_more_wrong, part_is, chosen_none, chosen_some, chosen_refused, end_ok, no_header, stray_ok, stray_refused, component_ok, component_refused, sent_refused, sequence_parts, sequence_given, choice_parts, choice_proper, choice_contents, choice_element, tags_element, tags_proper, tags_nesting, refuses_as, inside_room}
 use Rattle.guard_der.proofs.Functions.SetFields.{field_filled}
 use Rattle.guard_der.proofs.Functions.SetLoop as set_components
 use Rattle.guard_der.proofs.Functions.SetLoop.{set_parts, set_read, set_given, set_refused, sent_part, element_is_read, element_refused, head_size}
@@ -242,6 +243,10 @@ contents-components-requires t c =
     let d = ap (λ x. deepest (in_view x)) c.deref.ensures.value in
     (omega (arith, p.2, d), (rw c.deref.ensures.value p.0, (rw c.deref.ensures.value p.1, (omega (arith, p.2, d, c.requires.depth), c.requires.room))))
 
+pub contents-returns-in_ok-components-in-Sequence : goal.contents-returns-in_ok-components-in-Sequence
+contents-returns-in_ok-components-in-Sequence t c =
+    sequence_given c.args.kind.now c.in-Sequence.comps c.in_ok-components-in-Sequence.field-0 c.args.at c.args.start c.args.octets.now c.in-Sequence.is (rw c.deref.ensures.value at c.in_ok-components-in-Sequence.ensures)
+
 pub components-component-requires : goal.components-component-requires
 components-component-requires t c =
     let l = left_proper c.args.comps.now c.loop-index.index c.index-comps-index.result c.loop-index-test.true c.index-comps-index.is c.loop-index.invariant.proper c.loop-index.invariant.depth in
@@ -251,14 +256,14 @@ components-component-requires t c =
 pub components-returns-in_err-field : goal.components-returns-in_err-field
 components-returns-in_err-field t c =
     let p = err_from_is_err_and c.from_residual-in_err-field.result c.from_residual-in_err-field.ensures.1 in
-    rw (p.1, p.2) (refused _ c.args.comps.now c.loop-index.index c.index-comps-index.result (map field_view c.loop-index.fields.items) c.loop-index.at c.loop-index.rest.now
+    rw (p.1, p.2) (refused _ c.args.comps.now c.loop-index.index c.index-comps-index.result (map slot_view c.loop-index.fields.items) c.loop-index.at c.loop-index.rest.now
     (fields_at 0 (in_view c.args.comps.now) c.args.start c.args.octets.now) c.loop-index-test.true c.index-comps-index.is c.in_err-field.ensures.given c.loop-index.invariant.so_far)
 
 pub components-loop-index-preserved : goal.components-loop-index-preserved
 components-loop-index-preserved t c =
     let l = left_proper c.args.comps.now c.loop-index.index c.index-comps-index.result c.loop-index-test.true c.index-comps-index.is c.loop-index.invariant.proper c.loop-index.invariant.depth in
-    let pushed : map field_view c.push.new.self.items ≡ map field_view c.loop-index.fields.items ++ field_view c.in_ok-field.field ∷ [] = rw c.in_ok-push.ensures.items (map_push field_view c.loop-index.fields.items c.in_ok-field.field) in
-    let on = goes_on c.args.comps.now c.loop-index.index c.index-comps-index.result (map field_view c.loop-index.fields.items) c.loop-index.at c.in_ok-field.size c.loop-index.rest.now (field_view c.in_ok-field.field)
+    let pushed : map slot_view c.push.new.self.items ≡ map slot_view c.loop-index.fields.items ++ field_view c.in_ok-field.field ∷ [] = rw (c.in_ok-push.ensures.items, sym c.in_ok-new.ensures.ok) (map_push slot_view c.loop-index.fields.items c.in_ok-new.field-0) in
+    let on = goes_on c.args.comps.now c.loop-index.index c.index-comps-index.result (map slot_view c.loop-index.fields.items) c.loop-index.at c.in_ok-field.size c.loop-index.rest.now (field_view c.in_ok-field.field)
     (fields_at 0 (in_view c.args.comps.now) c.args.start c.args.octets.now) c.loop-index-test.true c.index-comps-index.is c.in_ok-field.ensures.given c.loop-index.invariant.so_far in
     record {
       so_far = rw (pushed, c.split_at.ensures.back) on;
@@ -270,13 +275,13 @@ components-loop-index-preserved t c =
 pub components-returns-in_err-end : goal.components-returns-in_err-end
 components-returns-in_err-end t c =
     let p = err_from_is_err_and c.from_residual-in_err-end.result c.from_residual-in_err-end.ensures.1 in
-    rw (p.1, p.2) (end_refused _ c.args.comps.now c.loop-index.index (map field_view c.loop-index.fields.items) c.loop-index.at c.loop-index.rest.now
+    rw (p.1, p.2) (end_refused _ c.args.comps.now c.loop-index.index (map slot_view c.loop-index.fields.items) c.loop-index.at c.loop-index.rest.now
     (fields_at 0 (in_view c.args.comps.now) c.args.start c.args.octets.now) c.loop-index-test.false c.in_err-end.ensures c.loop-index.invariant.so_far)
 
 pub components-returns : goal.components-returns
 components-returns t c =
-    is_done c.args.comps.now c.loop-index.index (map field_view c.loop-index.fields.items) c.loop-index.at c.loop-index.rest.now
-    (fields_at 0 (in_view c.args.comps.now) c.args.start c.args.octets.now) c.loop-index-test.false c.in_ok-end.ensures c.loop-index.invariant.so_far
+    rw c.in_ok-from_vec.ensures (is_done c.args.comps.now c.loop-index.index (map slot_view c.loop-index.fields.items) c.loop-index.at c.loop-index.rest.now
+    (fields_at 0 (in_view c.args.comps.now) c.args.start c.args.octets.now) c.loop-index-test.false c.in_ok-end.ensures c.loop-index.invariant.so_far)
 
 -- ---- elements of an OF type
 
@@ -324,8 +329,8 @@ items-loop-before-preserved t c =
 
 pub items-returns : goal.items-returns
 items-returns t c =
-    items_done (type_view c.args.ty.now) c.args.ordered (length c.args.octets.now) c.loop-before.items.items c.loop-before.before.now c.loop-before.at c.loop-before.rest.now _
-    (sym c.is_empty.ensures ∙ c.loop-before-test.false) c.loop-before.invariant.so_far
+    rw c.in_ok-from_vec.ensures (items_done (type_view c.args.ty.now) c.args.ordered (length c.args.octets.now) c.loop-before.items.items c.loop-before.before.now c.loop-before.at c.loop-before.rest.now _
+    (sym c.is_empty.ensures ∙ c.loop-before-test.false) c.loop-before.invariant.so_far)
 
 pub item-below-requires : goal.item-below-requires
 item-below-requires t c =
@@ -464,7 +469,7 @@ set_components-loop-rest-preserved t c =
     let place = c.in_ok-place.place in
     let head = c.in_ok-place.head in
     let within : place < length c.loop-rest.fields.items = omega (arith, c.in_ok-place.ensures.place, c.loop-rest.invariant.count) in
-    let filled = ap fields_view c.set_field.ensures ∙ field_filled c.loop-rest.fields.items place c.in_ok-place.value within in
+    let filled = ap fields_view c.set_field.ensures ∙ field_filled c.loop-rest.fields.items place c.in_ok-new.field-0 c.in_ok-place.value c.in_ok-new.ensures.ok within in
     let on = set_components.goes_on (in_view c.args.comps.now) (fields_view c.loop-rest.fields.items) c.loop-rest.before c.loop-rest.at c.loop-rest.rest.now place (value_view c.in_ok-place.value) (head_view head)
     (set_read c.args.comps.now c.args.start c.args.octets.now) (sym c.is_empty.ensures ∙ c.loop-rest-test.true) c.in_ok-place.ensures.some (rw c.deref.ensures.value at c.in_ok-place.ensures.given) c.loop-rest.invariant.so_far in
     record {
@@ -475,6 +480,6 @@ set_components-loop-rest-preserved t c =
 
 pub set_components-returns : goal.set_components-returns
 set_components-returns t c =
-    subst (λ r. Gives (λ v. fields_view v.items) (fault_of c.completed.new.path.items) c.completed.result r)
+    subst (λ r. Gives (λ v. fields_view (arc_slice_items v)) (fault_of c.completed.new.path.items) c.completed.result r)
     (set_components.ends (in_view c.args.comps.now) (fields_view c.loop-rest.fields.items) c.loop-rest.before c.loop-rest.at c.loop-rest.rest.now (set_read c.args.comps.now c.args.start c.args.octets.now) (sym c.is_empty.ensures ∙ c.loop-rest-test.false) c.loop-rest.invariant.so_far)
     c.completed.ensures

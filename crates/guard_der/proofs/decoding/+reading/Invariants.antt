@@ -1,6 +1,6 @@
 use Rattle.std.proofs.Common.{◌≡◌, ◌+◌, ◌*◌, ◌<◌, ◌≤◌, ◌^◌, [], length, map, None}
 use Rattle.std.specs.Prelude.{IsTrue}
-use Rattle.guard_model.specs.ValueView.{value_view, field_view, fields_view}
+use Rattle.guard_model.specs.ValueView.{value_view, slot_view, fields_view}
 use Rattle.guard_model.specs.AbstractType.{type_of, no_constraints}
 use Rattle.guard_model.specs.TypeView.{type_view, kind_view, component_view, components_of}
 use Rattle.guard_tagcheck.specs.FirstTags.{begins_with}
@@ -16,7 +16,7 @@ use Rattle.guard_model.proofs.Components.{left, in_view}
 
 abbrev pub invariant-components-loop-index : goal.invariant-components-loop-index
 invariant-components-loop-index l = record {
-  so_far : with_front (map field_view l.fields.items) (fields_at l.index (left l.comps l.index) l.at l.rest) ≡ fields_at 0 (left l.comps 0) l.start l.octets;
+  so_far : with_front (map slot_view l.fields.items) (fields_at l.index (left l.comps l.index) l.at l.rest) ≡ fields_at 0 (left l.comps 0) l.start l.octets;
   proper : IsTrue (are_proper (left l.comps l.index));
   depth : deepest (left l.comps l.index) ≤ 31;
   room : l.at + length l.rest < 2 ^ 64;

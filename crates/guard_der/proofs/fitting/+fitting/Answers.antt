@@ -21,11 +21,11 @@ fields_fit-returns-then-comps-fields t c = uneven_fields c.args.comps.now c.args
 
 pub fields_fit-returns-then-not-branch : goal.fields_fit-returns-then-not-branch
 fields_fit-returns-then-not-branch t c =
-    fit_stop c.args.comps.now c.args.fields.now c.loop-index.index c.index-comps-index.result c.index-fields-index.result c.in_ok-field_fits.field-0 _ c.loop-index-test.true (omega (arith, c.if-comps-fields.false)) c.index-comps-index.is c.index-fields-index.is c.in_ok-field_fits.ensures c.if-not-branch.true c.loop-index.invariant
+    fit_stop c.args.comps.now c.args.fields.now c.loop-index.index c.index-comps-index.result c.index-fields-index.result c.in_ok-field_fits.field-0 _ c.loop-index-test.true (omega (arith, c.if-comps-fields.false)) c.index-comps-index.is c.index-fields-index.is (rw c.deref.ensures at c.in_ok-field_fits.ensures) c.if-not-branch.true c.loop-index.invariant
 
 pub fields_fit-loop-index-preserved : goal.fields_fit-loop-index-preserved
 fields_fit-loop-index-preserved t c =
-    fit_on c.args.comps.now c.args.fields.now c.loop-index.index c.index-comps-index.result c.index-fields-index.result c.in_ok-field_fits.field-0 _ c.loop-index-test.true (omega (arith, c.if-comps-fields.false)) c.index-comps-index.is c.index-fields-index.is c.in_ok-field_fits.ensures c.if-not-branch.false c.loop-index.invariant
+    fit_on c.args.comps.now c.args.fields.now c.loop-index.index c.index-comps-index.result c.index-fields-index.result c.in_ok-field_fits.field-0 _ c.loop-index-test.true (omega (arith, c.if-comps-fields.false)) c.index-comps-index.is c.index-fields-index.is (rw c.deref.ensures at c.in_ok-field_fits.ensures) c.if-not-branch.false c.loop-index.invariant
 
 -- ---- elements
 

@@ -1,4 +1,5 @@
 use Rattle.std.proofs.Common.{rules, List, map, Option, Some, None, refl, sym, ap, ◌∙◌, arith}
+use Rattle.std.specs.Arc.{arc_slice_items}
 use Rattle.guard_model.specs.declared.tag.Tag.{Tag}
 use Rattle.guard_model.specs.declared.ty.Kind.{the_lemmas}
 use Rattle.guard_model.specs.declared.ty.Kind.TheViews.{out-Ty}
@@ -58,7 +59,7 @@ contents_length-returns-in-Sequence-Fields t c =
 pub contents_length-returns-in-Set-Fields : goal.contents_length-returns-in-Set-Fields
 contents_length-returns-in-Set-Fields t c =
     let counted = rw (c.deref-in-Set-Fields.ensures.value, c.deref-in-Set-Fields-2.ensures.value) at c.parts_length-in-Set-Fields.ensures in
-    let parts = parts_of (components_of (map component_view c.in-Set-Fields.comps.items)) (fields_view c.in-Set-Fields.fields.items) in
+    let parts = parts_of (components_of (map component_view c.in-Set-Fields.comps.items)) (fields_view (arc_slice_items c.in-Set-Fields.fields)) in
     counted ∙ sym (ap short_length (set_contents c.args.kind.now c.args.value.now c.in-Set-Fields.comps c.in-Set-Fields.fields c.in-Set-Fields.is-0 c.in-Set-Fields.is-1) ∙ set_short parts)
 
 pub contents_length-returns-in-SequenceOf-Items : goal.contents_length-returns-in-SequenceOf-Items
@@ -80,7 +81,7 @@ parts_length-loop-index-init t c = record {
 
 pub parts_length-loop-index-preserved : goal.parts_length-loop-index-preserved
 parts_length-loop-index-preserved t c = record {
-  so_far = parts_on c.args.comps.now c.args.fields.now c.loop-index.index c.index-comps-index.result c.index-fields-index.result c.loop-index.so_far c.in_ok-more.more c.in_ok-so_far.so_far _ c.loop-index-test.true (omega (arith, c.if-comps-fields.false)) c.index-comps-index.is c.index-fields-index.is (sym c.part_length.ensures ∙ c.in_ok-more.was) (sym c.sum_within.ensures.value ∙ c.in_ok-so_far.was) c.loop-index.invariant.so_far;
+  so_far = parts_on c.args.comps.now c.args.fields.now c.loop-index.index c.index-comps-index.result c.index-fields-index.result c.loop-index.so_far c.in_ok-more.more c.in_ok-so_far.so_far _ c.loop-index-test.true (omega (arith, c.if-comps-fields.false)) c.index-comps-index.is c.index-fields-index.is (sym (rw c.deref.ensures at c.part_length.ensures) ∙ c.in_ok-more.was) (sym c.sum_within.ensures.value ∙ c.in_ok-so_far.was) c.loop-index.invariant.so_far;
   fit = (next_fits c.args.comps.now c.args.fields.now c.loop-index.index c.index-comps-index.result c.index-fields-index.result c.loop-index-test.true (omega (arith, c.if-comps-fields.false)) c.index-comps-index.is c.index-fields-index.is c.loop-index.invariant.fit).1;
   low = c.in_ok-so_far.ensures.bound;
 }
@@ -88,9 +89,9 @@ parts_length-loop-index-preserved t c = record {
 pub parts_length-returns-in_err-more : goal.parts_length-returns-in_err-more
 parts_length-returns-in_err-more t c =
     c.from_residual.ensures
-    ∙ part_long c.args.comps.now c.args.fields.now c.loop-index.index c.index-comps-index.result c.index-fields-index.result c.loop-index.so_far _ c.loop-index-test.true (omega (arith, c.if-comps-fields.false)) c.index-comps-index.is c.index-fields-index.is (sym c.part_length.ensures ∙ c.in_err-more.was) c.loop-index.invariant.so_far
+    ∙ part_long c.args.comps.now c.args.fields.now c.loop-index.index c.index-comps-index.result c.index-fields-index.result c.loop-index.so_far _ c.loop-index-test.true (omega (arith, c.if-comps-fields.false)) c.index-comps-index.is c.index-fields-index.is (sym (rw c.deref.ensures at c.part_length.ensures) ∙ c.in_err-more.was) c.loop-index.invariant.so_far
 
 pub parts_length-returns-in_err-so_far : goal.parts_length-returns-in_err-so_far
 parts_length-returns-in_err-so_far t c =
     c.from_residual-in_err-so_far.ensures
-    ∙ sum_long c.args.comps.now c.args.fields.now c.loop-index.index c.index-comps-index.result c.index-fields-index.result c.loop-index.so_far c.in_ok-more.more _ c.loop-index-test.true (omega (arith, c.if-comps-fields.false)) c.index-comps-index.is c.index-fields-index.is (sym c.part_length.ensures ∙ c.in_ok-more.was) (sym c.sum_within.ensures.value ∙ c.in_err-so_far.was) c.loop-index.invariant.so_far
+    ∙ sum_long c.args.comps.now c.args.fields.now c.loop-index.index c.index-comps-index.result c.index-fields-index.result c.loop-index.so_far c.in_ok-more.more _ c.loop-index-test.true (omega (arith, c.if-comps-fields.false)) c.index-comps-index.is c.index-fields-index.is (sym (rw c.deref.ensures at c.part_length.ensures) ∙ c.in_ok-more.was) (sym c.sum_within.ensures.value ∙ c.in_err-so_far.was) c.loop-index.invariant.so_far

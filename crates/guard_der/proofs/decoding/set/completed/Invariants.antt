@@ -1,5 +1,5 @@
 use Rattle.std.proofs.Common.{◌≡◌, length, map, take, drop}
-use Rattle.guard_model.specs.ValueView.{field_view, fields_view}
+use Rattle.guard_model.specs.ValueView.{slot_view, fields_view}
 use Rattle.guard_der.specs.Reading.{completed}
 use Rattle.guard_der.proofs.Functions.ComponentLoop.{with_front}
 use Rattle.guard_der.proofs.decoding.set.completed.Given as goal
@@ -7,6 +7,6 @@ use Rattle.guard_model.proofs.Components.{left}
 
 abbrev pub invariant-loop-index : goal.invariant-loop-index
 invariant-loop-index l = record {
-  so_far : with_front (map field_view (take l.index l.fields.items)) (completed l.index (left l.comps l.index) (fields_view (drop l.index l.fields.items)) l.at) ≡ completed 0 (left l.comps 0) (fields_view l.fn.fields.items) l.at;
+  so_far : with_front (map slot_view (take l.index l.fields.items)) (completed l.index (left l.comps l.index) (fields_view (drop l.index l.fields.items)) l.at) ≡ completed 0 (left l.comps 0) (fields_view l.fn.fields.items) l.at;
   count : length l.fields.items ≡ length l.comps;
 }

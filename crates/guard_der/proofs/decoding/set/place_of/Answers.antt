@@ -21,9 +21,9 @@ pub returns-then-is_some-clause-given : goal.returns-then-is_some-clause-given
 returns-then-is_some-clause-given c =
     rw c.fault_at-then-is_some.ensures
     (place_full (in_view c.args.comps.now) (fields_view c.args.fields.now) c.args.before c.args.at c.args.tag c.in-Some.place (sym c.in-Some.ensures.place) (sym c.follows.ensures ∙ c.if-not-follows.false)
-    (field_is_filled c.args.fields.now c.in-Some.place c.index-fields-place.result (omega (arith, c.requires.fields, c.in-Some.ensures.within)) c.index-fields-place.is ∙ sym c.is_some.ensures ∙ c.if-is_some.true))
+    (field_is_filled c.args.fields.now c.in-Some.place c.index-fields-place.result (omega (arith, c.requires.fields, c.in-Some.ensures.within)) c.index-fields-place.is ∙ sym (rw c.deref.ensures at c.is_some.ensures) ∙ c.if-is_some.true))
 
 pub returns-clause-given : goal.returns-clause-given
 returns-clause-given c =
     place_free (in_view c.args.comps.now) (fields_view c.args.fields.now) c.args.before c.args.at c.args.tag c.in-Some.place (sym c.in-Some.ensures.place) (sym c.follows.ensures ∙ c.if-not-follows.false)
-    (field_is_filled c.args.fields.now c.in-Some.place c.index-fields-place.result (omega (arith, c.requires.fields, c.in-Some.ensures.within)) c.index-fields-place.is ∙ sym c.is_some.ensures ∙ c.if-is_some.false)
+    (field_is_filled c.args.fields.now c.in-Some.place c.index-fields-place.result (omega (arith, c.requires.fields, c.in-Some.ensures.within)) c.index-fields-place.is ∙ sym (rw c.deref.ensures at c.is_some.ensures) ∙ c.if-is_some.false)

@@ -59,7 +59,7 @@ parts-returns-then-comps-fields t c = ap or_too_long (uneven_parts c.args.comps.
 
 pub parts-push_part-requires : goal.parts-push_part-requires
 parts-push_part-requires t c =
-    (search (rules, the_lemmas), (next_fits c.args.comps.now c.args.fields.now c.loop-index.index c.index-comps-index.result c.index-fields-index.result c.loop-index-test.true (omega (arith, c.if-comps-fields.false)) c.index-comps-index.is c.index-fields-index.is c.loop-index.invariant.fit).0)
+    (search (rules, the_lemmas), rw c.deref.ensures (next_fits c.args.comps.now c.args.fields.now c.loop-index.index c.index-comps-index.result c.index-fields-index.result c.loop-index-test.true (omega (arith, c.if-comps-fields.false)) c.index-comps-index.is c.index-fields-index.is c.loop-index.invariant.fit).0)
 
 pub parts-loop-index-init : goal.parts-loop-index-init
 parts-loop-index-init t c = record {
@@ -69,14 +69,14 @@ parts-loop-index-init t c = record {
 
 pub parts-loop-index-preserved : goal.parts-loop-index-preserved
 parts-loop-index-preserved t c = record {
-  so_far = parts_on c.args.comps.now c.args.fields.now c.loop-index.index c.index-comps-index.result c.index-fields-index.result (parts_view c.loop-index.parts.items) (parts_view c.push_part.new.parts.items) _ c.loop-index-test.true (omega (arith, c.if-comps-fields.false)) c.index-comps-index.is c.index-fields-index.is c.in_ok-push_part.ensures c.loop-index.invariant.so_far;
+  so_far = parts_on c.args.comps.now c.args.fields.now c.loop-index.index c.index-comps-index.result c.index-fields-index.result (parts_view c.loop-index.parts.items) (parts_view c.push_part.new.parts.items) _ c.loop-index-test.true (omega (arith, c.if-comps-fields.false)) c.index-comps-index.is c.index-fields-index.is (rw c.deref.ensures at c.in_ok-push_part.ensures) c.loop-index.invariant.so_far;
   fit = (next_fits c.args.comps.now c.args.fields.now c.loop-index.index c.index-comps-index.result c.index-fields-index.result c.loop-index-test.true (omega (arith, c.if-comps-fields.false)) c.index-comps-index.is c.index-fields-index.is c.loop-index.invariant.fit).1;
 }
 
 pub parts-returns-in_err-push_part : goal.parts-returns-in_err-push_part
 parts-returns-in_err-push_part t c =
     let p = err_from_is_err_and c.from_residual-in_err-push_part.result c.from_residual-in_err-push_part.ensures.1 in
-    rw (p.1, p.2) (parts_stop c.args.comps.now c.args.fields.now c.loop-index.index c.index-comps-index.result c.index-fields-index.result (parts_view c.loop-index.parts.items) _ c.in_err-push_part.field-0.0 c.loop-index-test.true (omega (arith, c.if-comps-fields.false)) c.index-comps-index.is c.index-fields-index.is c.in_err-push_part.ensures c.loop-index.invariant.so_far)
+    rw (p.1, p.2) (parts_stop c.args.comps.now c.args.fields.now c.loop-index.index c.index-comps-index.result c.index-fields-index.result (parts_view c.loop-index.parts.items) _ c.in_err-push_part.field-0.0 c.loop-index-test.true (omega (arith, c.if-comps-fields.false)) c.index-comps-index.is c.index-fields-index.is (rw c.deref.ensures at c.in_err-push_part.ensures) c.loop-index.invariant.so_far)
 
 pub parts-returns : goal.parts-returns
 parts-returns t c = parts_end c.args.comps.now c.args.fields.now c.loop-index.index (parts_view c.loop-index.parts.items) _ c.loop-index-test.false (omega (arith, c.if-comps-fields.false, c.loop-index-test.false)) c.loop-index.invariant.so_far

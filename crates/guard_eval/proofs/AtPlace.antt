@@ -7,7 +7,9 @@ use Rattle.guard_model.specs.AbstractValue.{AbstractValue}
 use Rattle.guard_model.specs.TypeView.{OneComponent, OnePart, type_view, kind_view, component_view, components_of, constraint_view, parts_of, part_before, part_view, element_view, rule_step, kind_step, comp_step, cons_step, part_step as step_of_part, ty_step}
 use Rattle.guard_model.specs.declared.ty.Part.{Part}
 use Rattle.guard_model.specs.declared.ty.Cons.{Cons}
-use Rattle.std.specs.Global.{Box}
+use Rattle.std.specs.Arc.{arc_value}
+use Rattle.std.specs.Global.{Global}
+use Rattle.std.specs.declared.sync.Arc.{Arc}
 use Rattle.guard_model.specs.AbstractType as type
 use Rattle.guard_model.specs.declared.ty.Rule.{Each}
 use Rattle.guard_model.specs.declared.ty.Rule.TheVariants.{rolls-Each}
@@ -38,26 +40,26 @@ kind_of_component comp = ap (λ (c : OneComponent). kind_of c.ty) (component_vie
 
 -- ---- fields
 
-pub field_is : (fs : List (Option Value)) (i : ℕ) (f : Option Value) → i < length fs → f ≡ get_or fs i f → field_at i (fields_view fs) ≡ field_view f
+pub field_is : (fs : List (Option (Arc Value Global))) (i : ℕ) (f : Option (Arc Value Global)) → i < length fs → f ≡ get_or fs i f → field_at i (fields_view fs) ≡ field_view f
 field_is [] i f lt e = absurd (omega arith)
 field_is (None ∷ fs) zero f lt e = sym (ap field_view e)
 field_is (Some v ∷ fs) zero f lt e = sym (ap field_view e)
 field_is (None ∷ fs) (suc i) f lt e = field_is fs i f (omega arith) e
 field_is (Some v ∷ fs) (suc i) f lt e = field_is fs i f (omega arith) e
 
-pub field_past : (fs : List (Option Value)) (i : ℕ) → length fs ≤ i → field_at i (fields_view fs) ≡ None
+pub field_past : (fs : List (Option (Arc Value Global))) (i : ℕ) → length fs ≤ i → field_at i (fields_view fs) ≡ None
 field_past [] i le = refl
 field_past (f ∷ fs) zero le = absurd (omega arith)
 field_past (None ∷ fs) (suc i) le = field_past fs i (omega arith)
 field_past (Some v ∷ fs) (suc i) le = field_past fs i (omega arith)
 
 -- as `get` finds them
-pub field_found : (found : Option (Bor (Option Value))) (fs : List (Option Value)) (i : ℕ) (f : Bor (Option Value))
+pub field_found : (found : Option (Bor (Option (Arc Value Global)))) (fs : List (Option (Arc Value Global))) (i : ℕ) (f : Bor (Option (Arc Value Global)))
     → MatchOption found (length fs ≤ i) (λ c. (i < length fs) × HoldsAt (λ d. c.now ≡ d) fs i) → found ≡ Some f → field_at i (fields_view fs) ≡ field_view f.now
 field_found None fs i f h is = absurd cc
-field_found (Some g) fs i f h is = field_is fs i g.now h.0 (h.1 g.now) ∙ ap (λ (x : Bor (Option Value)). field_view x.now) (same_Some _ _ is)
+field_found (Some g) fs i f h is = field_is fs i g.now h.0 (h.1 g.now) ∙ ap (λ (x : Bor (Option (Arc Value Global))). field_view x.now) (same_Some _ _ is)
 
-pub field_missing : (found : Option (Bor (Option Value))) (fs : List (Option Value)) (i : ℕ)
+pub field_missing : (found : Option (Bor (Option (Arc Value Global)))) (fs : List (Option (Arc Value Global))) (i : ℕ)
     → MatchOption found (length fs ≤ i) (λ c. (i < length fs) × HoldsAt (λ d. c.now ≡ d) fs i) → found ≡ None → field_at i (fields_view fs) ≡ None
 field_missing None fs i h is = field_past fs i h
 field_missing (Some g) fs i h is = absurd cc
@@ -76,7 +78,7 @@ no_failure (component name t presence cs) (suc i) v e = no_failure cs i v e
 
 -- ---- no component left, or no field
 
-pub failure_at_end : (i : ℕ) (cs : List Comp) (fs : List (Option Value)) → (length cs ≡ 0) ⊎ (length fs ≡ 0) → failure_from i (components_of (map component_view cs)) (fields_view fs) ≡ None
+pub failure_at_end : (i : ℕ) (cs : List Comp) (fs : List (Option (Arc Value Global))) → (length cs ≡ 0) ⊎ (length fs ≡ 0) → failure_from i (components_of (map component_view cs)) (fields_view fs) ≡ None
 failure_at_end i [] fs e = refl
 failure_at_end i (c ∷ cs) [] e = refl
 failure_at_end i (c ∷ cs) (f ∷ fs) e = absurd (elim e [ inl h ↦ omega (arith, h) | inr h ↦ omega (arith, h) ])
@@ -125,5 +127,5 @@ listed_next ps i p lt is at =
 pub constraint_view_is : (c : Cons) → constraint_view c ≡ type.at (out-Cons c).site (element_view (out-Cons c).rule)
 constraint_view_is c = fold_out-Cons AbstractKind Element OneComponent Constraint OnePart AbstractType kind_step rule_step comp_step cons_step step_of_part ty_step c
 
-pub element_view_each : (b : Box Cons) → element_view (Each b) ≡ type.with_component (constraint_view b.value)
+pub element_view_each : (b : Arc Cons Global) → element_view (Each b) ≡ type.with_component (constraint_view (arc_value b))
 element_view_each b = ap element_view (sym (rolls-Each b)) ∙ fold-roll-Rule AbstractKind Element OneComponent Constraint OnePart AbstractType kind_step rule_step comp_step cons_step step_of_part ty_step (Rule-F.Each b)

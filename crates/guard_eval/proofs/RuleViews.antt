@@ -1,7 +1,7 @@
 -- One level of what an element of a constraint stands for.
 use Rattle.std.proofs.Common.{◌≡◌, sym, ap, ◌∙◌}
 use Rattle.std.specs.Arc.{arc_value}
-use Rattle.std.specs.Global.{Box, Global}
+use Rattle.std.specs.Global.{Global}
 use Rattle.std.specs.declared.sync.Arc.{Arc}
 use Rattle.guard_model.specs.AbstractType as type
 use Rattle.guard_model.specs.AbstractType.{AbstractType, AbstractKind, Constraint, Element}
@@ -25,8 +25,8 @@ view_inside rule t is = ap element_view is ∙ ap element_view (sym (rolls-Insid
 pub view_range : (rule : Rule) (low high : Limit) → rule ≡ Range low high → element_view rule ≡ type.range low high
 view_range rule low high is = ap element_view is ∙ ap element_view (sym (rolls-Range low high)) ∙ fold-roll-Rule AbstractKind Element OneComponent Constraint OnePart AbstractType kind_step rule_step comp_step cons_step part_step ty_step (Rule-F.Range low high)
 
-pub view_minus : (rule : Rule) (a b : Box Cons) → rule ≡ Minus a b → element_view rule ≡ type.except (constraint_view a.value) (constraint_view b.value)
+pub view_minus : (rule : Rule) (a b : Arc Cons Global) → rule ≡ Minus a b → element_view rule ≡ type.except (constraint_view (arc_value a)) (constraint_view (arc_value b))
 view_minus rule a b is = ap element_view is ∙ ap element_view (sym (rolls-Minus a b)) ∙ fold-roll-Rule AbstractKind Element OneComponent Constraint OnePart AbstractType kind_step rule_step comp_step cons_step part_step ty_step (Rule-F.Minus a b)
 
-pub view_other : (rule : Rule) (a : Box Cons) → rule ≡ Other a → element_view rule ≡ type.all_except (constraint_view a.value)
+pub view_other : (rule : Rule) (a : Arc Cons Global) → rule ≡ Other a → element_view rule ≡ type.all_except (constraint_view (arc_value a))
 view_other rule a is = ap element_view is ∙ ap element_view (sym (rolls-Other a)) ∙ fold-roll-Rule AbstractKind Element OneComponent Constraint OnePart AbstractType kind_step rule_step comp_step cons_step part_step ty_step (Rule-F.Other a)

@@ -7,6 +7,7 @@ ghost use Rattle.guard_eval.specs.Presence.{element_kind, kind_at, has_parts, fi
 ghost use Rattle.guard_eval.specs.Presence.{is_listed, is_ruled_out, first_ruled_out, first_intruder};
 
 use guard_model::{Comp, Kind, Part, Presence, Value, Word};
+use std::sync::Arc;
 
 /// The kind of the elements of an OF type; of a kind without elements that kind itself.
 pub fn element_kind(kind: &Kind) -> &Kind
@@ -59,7 +60,7 @@ pub fn is_there(value: &Value, at: usize) -> bool
     part_at(value, at).is_some()
 }
 
-fn field_at(fields: &[Option<Value>], at: usize) -> Option<&Value>
+fn field_at(fields: &[Option<Arc<Value>>], at: usize) -> Option<&Value>
     ensures { option_map (λ v. value_view v.now) result ≡ field_at at (fields_view fields.now) }
 {
     let field = fields.get(at)?;

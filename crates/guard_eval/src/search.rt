@@ -21,6 +21,7 @@ use super::presence::{
     element_kind, first_intruder, has_parts, is_as_said, is_there, kind_at, part_at,
 };
 use guard_model::{Comp, Cons, Kind, Part, Path, Rule, Site, Ty, Value};
+use std::sync::Arc;
 
 // ---- types
 
@@ -52,7 +53,7 @@ fn failure_inside(path: &mut Path, kind: &Kind, value: &Value) -> Option<Site>
 }
 
 #[cycle(search)]
-fn failure_from(path: &mut Path, comps: &[Comp], fields: &[Option<Value>]) -> Option<Site>
+fn failure_from(path: &mut Path, comps: &[Comp], fields: &[Option<Arc<Value>>]) -> Option<Site>
     ensures { found_by path.new.items result
         ≡ failure_from 0 (components_of (map component_view comps.now)) (fields_view fields.now) }
 {

@@ -1,4 +1,5 @@
 use Rattle.std.proofs.Common.{◌≡◌, true, List, Some, option_map, sym, ap, ◌∙◌}
+use Rattle.std.specs.Arc.{arc_slice_items}
 use Rattle.std.specs.Option.{is_none}
 use Rattle.guard_model.specs.AbstractValue as value
 use Rattle.guard_model.specs.AbstractValue.{AbstractValue}
@@ -20,7 +21,7 @@ pub returns : goal.returns
 returns c =
     let t = type_view c.args.ty.now in
     let u = type_view c.in-Some-Items.element.now in
-    let vs = items_view c.in-Some-Items.items.items in
+    let vs = items_view (arc_slice_items c.in-Some-Items.items) in
     let is : value_view c.args.value.now ≡ value.items vs = ap value_view c.in-Some-Items.is-1 ∙ value_view_items c.in-Some-Items.items in
     let listed : element_of (kind_of t) ≡ Some u = ap element_of (kind_of_view c.args.ty.now) ∙ sym c.element.ensures ∙ ap (option_map (λ r. type_view r.now)) c.in-Some-Items.is-0 in
     let whole : is_integer (kind_of u) ≡ true = ap is_integer (kind_of_view c.in-Some-Items.element.now) ∙ sym c.is_integer.ensures ∙ c.if-not-is_integer.false in

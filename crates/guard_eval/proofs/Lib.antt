@@ -1,6 +1,7 @@
 -- ---- parts of types and values, characters of texts
 pub mod AtPlace
 pub mod Characters
+pub mod Codes
 pub mod PartFits
 pub mod SameFits
 -- ---- contained types and SIZE where they apply

@@ -1,5 +1,6 @@
 //! Sets of values by a number, a size or characters.
-ghost use Rattle.std.specs.Prelude.{◌≡◌, length, pos, chars, option_map};
+ghost use Rattle.std.specs.Prelude.{◌≡◌, ◌<◌, ◌||◌, ℕ, false, length, get_or, pos, chars, option_map};
+ghost use Rattle.std.specs.Int.{is_in_range};
 ghost use Rattle.std.specs.List.{list_all};
 ghost use Rattle.guard_model.specs.ValueView.{value_view};
 ghost use Rattle.guard_eval.specs.Elements.{is_above, is_under, is_between, size_of, is_in_some, is_spelled_in};
@@ -88,10 +89,22 @@ fn low_codes(ranges: &[(u32, u32)]) -> [bool; LOW_CODES]
     ensures { AreKnown ranges.now result }
 {
     let mut known = [false; LOW_CODES];
-    for code in 0..LOW_CODES {
-        known[code] = is_in_some(ranges, code as u32);
+    for (first, last) in ranges {
+        mark(&mut known, *first, *last);
     }
     known
+}
+
+/// Marks the codes of a range, as far as the table has them: each code is the number of its place.
+fn mark(known: &mut [bool], first: u32, last: u32)
+    ensures whole { length known.new ≡ length known.old }
+    ensures marked { (code : ℕ) → code < length known.old →
+        get_or known.new code false ≡ (get_or known.old code false || is_in_range first last code) }
+{
+    let end = known.len().min(last as usize + 1);
+    for code in first as usize..end {
+        known[code] = true;
+    }
 }
 
 /// Whether the code of each character is in one of the ranges, where this is known of the first codes, or of none.

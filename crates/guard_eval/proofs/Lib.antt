@@ -2,6 +2,7 @@
 pub mod AtPlace
 pub mod Characters
 pub mod Codes
+pub mod CodeWindows
 pub mod PartFits
 pub mod SameFits
 -- ---- contained types and SIZE where they apply

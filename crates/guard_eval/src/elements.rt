@@ -1,16 +1,22 @@
 //! Sets of values by a number, a size or characters.
-ghost use Rattle.std.specs.Prelude.{◌≡◌, ◌<◌, ◌||◌, ℕ, false, length, get_or, pos, chars, option_map};
-ghost use Rattle.std.specs.Int.{is_in_range};
+ghost use Rattle.std.specs.Prelude.{◌≡◌, length, pos, chars, option_map};
 ghost use Rattle.std.specs.List.{list_all};
 ghost use Rattle.guard_model.specs.ValueView.{value_view};
 ghost use Rattle.guard_eval.specs.Elements.{is_above, is_under, is_between, size_of, is_in_some, is_spelled_in};
 ghost use Rattle.guard_eval.specs.inside.KnownCodes.{AreKnown};
 
+use crate::windows::{are_permitted_by_windows, mark};
 use guard_der::bits::count_bits;
 use guard_model::{Limit, Value};
 
 /// From so many octets on, looking a text's characters up in a table costs less than going through the ranges for each.
 const LONG_TEXT: usize = 256;
+
+/// Texts of so many octets under alphabets of so many ranges are looked through once for each window of codes: less
+/// than once for each range.
+const VERY_LONG_TEXT: usize = 16_384;
+
+const MANY_RANGES: usize = 256;
 
 /// How many codes have a place in the table: those of ASCII.
 const LOW_CODES: usize = 128;
@@ -81,7 +87,10 @@ pub fn are_permitted(ranges: &[(u32, u32)], text: &str) -> bool
     if text.len() < LONG_TEXT {
         return are_all_permitted(&[], ranges, text);
     }
-    are_all_permitted(low_codes(ranges).as_slice(), ranges, text)
+    if text.len() < VERY_LONG_TEXT || ranges.len() < MANY_RANGES {
+        return are_all_permitted(low_codes(ranges).as_slice(), ranges, text);
+    }
+    are_permitted_by_windows(ranges, text)
 }
 
 /// Of each code below 128, whether it is in one of the ranges.
@@ -90,21 +99,9 @@ fn low_codes(ranges: &[(u32, u32)]) -> [bool; LOW_CODES]
 {
     let mut known = [false; LOW_CODES];
     for (first, last) in ranges {
-        mark(&mut known, *first, *last);
+        mark(&mut known, 0, *first, *last);
     }
     known
-}
-
-/// Marks the codes of a range, as far as the table has them: each code is the number of its place.
-fn mark(known: &mut [bool], first: u32, last: u32)
-    ensures whole { length known.new ≡ length known.old }
-    ensures marked { (code : ℕ) → code < length known.old →
-        get_or known.new code false ≡ (get_or known.old code false || is_in_range first last code) }
-{
-    let end = known.len().min(last as usize + 1);
-    for code in first as usize..end {
-        known[code] = true;
-    }
 }
 
 /// Whether the code of each character is in one of the ranges, where this is known of the first codes, or of none.

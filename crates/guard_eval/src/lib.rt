@@ -3,6 +3,7 @@
 //! | question | code | definition |
 //! |---|---|---|
 //! | Which values does a number, a size or an alphabet allow? | `elements.rt` | `specs/Elements.antt` |
+//! | How is a long text looked through under an alphabet of many ranges? | `windows.rt` | `specs/inside/Windows.antt` |
 //! | What does WITH COMPONENTS say of a part's presence? | `presence.rt` | `specs/Presence.antt` |
 //! | What does a constraint allow? | `members.rt` (`holds`, inside types `holds_on_kind`) | `specs/Member.antt` |
 //! | Which are members of a type? | `members.rt` (`member`, inside types `proper_member`) | `specs/Member.antt` |
@@ -22,6 +23,7 @@ mod number_sets;
 mod presence;
 mod search;
 mod violation;
+mod windows;
 
 pub use elements::{are_permitted, is_in_some};
 pub use long_lists::member_of;

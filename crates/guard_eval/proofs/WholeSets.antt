@@ -7,13 +7,13 @@ use Rattle.guard_integers.specs.Integers.{Integers, some_holds}
 use Rattle.guard_model.specs.declared.tag.Tag.{Tag}
 use Rattle.guard_model.specs.declared.ty.Cons.{Cons}
 use Rattle.guard_model.specs.AbstractType as type
-use Rattle.guard_model.specs.AbstractType.{AbstractKind, Constraints, type_of}
+use Rattle.guard_model.specs.AbstractType.{AbstractKind, Constraint, Constraints, type_of, no_constraints, constraint}
 use Rattle.guard_model.specs.AbstractValue as value
 use Rattle.guard_model.specs.Kinds.{is_integer}
 use Rattle.guard_model.specs.Limits.{fits_128_bits}
 use Rattle.guard_model.specs.SameBase.{bare_kind}
 use Rattle.guard_model.specs.TypeView.{constraint_view, constraints_of}
-use Rattle.guard_eval.specs.Member.{holds, all_hold, some_hold, is_member}
+use Rattle.guard_eval.specs.Member.{all_hold, is_member}
 
 abbrev pub rest_of : List Cons → Constraints
 rest_of cs = constraints_of (map constraint_view cs)
@@ -35,19 +35,21 @@ none_of true true h rest = refl
 none_of false true true rest = refl
 none_of false true false rest = refl
 
-pub all_more : (kind : AbstractKind) (z : ℤ) (cs : List Cons) (i : ℕ) (c : Cons) (a a2 g r f total : Bool) → i < length cs → c ≡ get_or cs i c
-    → a2 ≡ (a || g) → g ≡ (f && not r) → r ≡ (f && holds (constraint_view c) kind (value.integer z))
-    → (f && (not a && all_hold (rest_of (drop i cs)) kind (value.integer z))) ≡ total → (f && (not a2 && all_hold (rest_of (drop (i + 1) cs)) kind (value.integer z))) ≡ total
-all_more kind z cs i c a a2 g r f total lt is added left_out allowed so_far =
-    let rest = all_hold (rest_of (drop (i + 1) cs)) kind (value.integer z) in
-    let first = at_drop_more (λ (ds : List Cons). all_hold (rest_of ds) kind (value.integer z)) cs i c lt ∙ ap (λ (d : Cons). all_hold (rest_of (d ∷ drop (i + 1) cs)) kind (value.integer z)) (sym is) in
+-- of a test of constraints that goes through them one by one
+pub all_more : (all : Constraints → Bool) (one : Constraint → Bool) → ((c : Constraint) (cs : Constraints) → all (constraint c cs) ≡ (one c && all cs))
+    → (cs : List Cons) (i : ℕ) (c : Cons) (a a2 g r f total : Bool) → i < length cs → c ≡ get_or cs i c
+    → a2 ≡ (a || g) → g ≡ (f && not r) → r ≡ (f && one (constraint_view c))
+    → (f && (not a && all (rest_of (drop i cs)))) ≡ total → (f && (not a2 && all (rest_of (drop (i + 1) cs)))) ≡ total
+all_more all one next cs i c a a2 g r f total lt is added left_out allowed so_far =
+    let rest = all (rest_of (drop (i + 1) cs)) in
+    let first = at_drop_more (λ (ds : List Cons). all (rest_of ds)) cs i c lt ∙ ap (λ (d : Cons). all (rest_of (d ∷ drop (i + 1) cs))) (sym is) ∙ next (constraint_view c) (rest_of (drop (i + 1) cs)) in
     ap (λ (b : Bool). f && (not b && rest)) added ∙ ap (λ (b : Bool). f && (not (a || b) && rest)) left_out ∙ ap (λ (b : Bool). f && (not (a || (f && not b)) && rest)) allowed
-    ∙ none_of a f (holds (constraint_view c) kind (value.integer z)) rest ∙ ap (λ (b : Bool). f && (not a && b)) (sym first) ∙ so_far
+    ∙ none_of a f (one (constraint_view c)) rest ∙ ap (λ (b : Bool). f && (not a && b)) (sym first) ∙ so_far
 
-pub all_done : (kind : AbstractKind) (z : ℤ) (cs : List Cons) (i : ℕ) (a f total : Bool) → length cs ≤ i → (f && (not a && all_hold (rest_of (drop i cs)) kind (value.integer z))) ≡ total → (f && not a) ≡ total
-all_done kind z cs i a f total ends so_far =
+pub all_done : (all : Constraints → Bool) → all no_constraints ≡ true → (cs : List Cons) (i : ℕ) (a f total : Bool) → length cs ≤ i → (f && (not a && all (rest_of (drop i cs)))) ≡ total → (f && not a) ≡ total
+all_done all none cs i a f total ends so_far =
     sym (ap (λ (b : Bool). f && b) (and_true (not a)))
-    ∙ ap (λ (b : Bool). f && (not a && b)) (sym (at_drop_all (λ (ds : List Cons). all_hold (rest_of ds) kind (value.integer z)) cs i ends)) ∙ so_far
+    ∙ ap (λ (b : Bool). f && (not a && b)) (sym (at_drop_all (λ (ds : List Cons). all (rest_of ds)) cs i ends ∙ none)) ∙ so_far
 
 -- ---- one of them
 
@@ -63,19 +65,20 @@ one_of true f h rest = refl
 one_of false true h rest = refl
 one_of false false h rest = refl
 
-pub some_more : (kind : AbstractKind) (z : ℤ) (cs : List Cons) (i : ℕ) (c : Cons) (a a2 r f total : Bool) → i < length cs → c ≡ get_or cs i c
-    → a2 ≡ (a || r) → r ≡ (f && holds (constraint_view c) kind (value.integer z))
-    → (a || (f && some_hold (rest_of (drop i cs)) kind (value.integer z))) ≡ total → (a2 || (f && some_hold (rest_of (drop (i + 1) cs)) kind (value.integer z))) ≡ total
-some_more kind z cs i c a a2 r f total lt is added allowed so_far =
-    let rest = some_hold (rest_of (drop (i + 1) cs)) kind (value.integer z) in
-    let first = at_drop_more (λ (ds : List Cons). some_hold (rest_of ds) kind (value.integer z)) cs i c lt ∙ ap (λ (d : Cons). some_hold (rest_of (d ∷ drop (i + 1) cs)) kind (value.integer z)) (sym is) in
+pub some_more : (some : Constraints → Bool) (one : Constraint → Bool) → ((c : Constraint) (cs : Constraints) → some (constraint c cs) ≡ (one c || some cs))
+    → (cs : List Cons) (i : ℕ) (c : Cons) (a a2 r f total : Bool) → i < length cs → c ≡ get_or cs i c
+    → a2 ≡ (a || r) → r ≡ (f && one (constraint_view c))
+    → (a || (f && some (rest_of (drop i cs)))) ≡ total → (a2 || (f && some (rest_of (drop (i + 1) cs)))) ≡ total
+some_more some one next cs i c a a2 r f total lt is added allowed so_far =
+    let rest = some (rest_of (drop (i + 1) cs)) in
+    let first = at_drop_more (λ (ds : List Cons). some (rest_of ds)) cs i c lt ∙ ap (λ (d : Cons). some (rest_of (d ∷ drop (i + 1) cs))) (sym is) ∙ next (constraint_view c) (rest_of (drop (i + 1) cs)) in
     ap (λ (b : Bool). b || (f && rest)) added ∙ ap (λ (b : Bool). (a || b) || (f && rest)) allowed
-    ∙ one_of a f (holds (constraint_view c) kind (value.integer z)) rest ∙ ap (λ (b : Bool). a || (f && b)) (sym first) ∙ so_far
+    ∙ one_of a f (one (constraint_view c)) rest ∙ ap (λ (b : Bool). a || (f && b)) (sym first) ∙ so_far
 
-pub some_done : (kind : AbstractKind) (z : ℤ) (cs : List Cons) (i : ℕ) (a f total : Bool) → length cs ≤ i → (a || (f && some_hold (rest_of (drop i cs)) kind (value.integer z))) ≡ total → a ≡ total
-some_done kind z cs i a f total ends so_far =
+pub some_done : (some : Constraints → Bool) → some no_constraints ≡ false → (cs : List Cons) (i : ℕ) (a f total : Bool) → length cs ≤ i → (a || (f && some (rest_of (drop i cs)))) ≡ total → a ≡ total
+some_done some none cs i a f total ends so_far =
     sym (or_false a) ∙ ap (λ (b : Bool). a || b) (sym (and_false f))
-    ∙ ap (λ (b : Bool). a || (f && b)) (sym (at_drop_all (λ (ds : List Cons). some_hold (rest_of ds) kind (value.integer z)) cs i ends)) ∙ so_far
+    ∙ ap (λ (b : Bool). a || (f && b)) (sym (at_drop_all (λ (ds : List Cons). some (rest_of ds)) cs i ends ∙ none)) ∙ so_far
 
 -- ---- kinds of INTEGER
 

@@ -1,5 +1,7 @@
 //! The integers that a constraint allows, of any form and at any depth, as one set (X.680 51.4 and 51.5).
-ghost use Rattle.std.specs.Prelude.{◌≡◌, ◌&&◌, not, ℤ, map, IfOk};
+ghost use Rattle.std.specs.Prelude.{◌≡◌, ◌&&◌, ◌||◌, not, ℤ, map, IfOk, OnOk};
+ghost use Rattle.guard_integers.specs.Integers as integers;
+ghost use Rattle.guard_integers.specs.Integers.{some_holds};
 ghost use Rattle.guard_model.specs.AbstractValue as abstract;
 ghost use Rattle.guard_model.specs.TypeView.{type_view, constraint_view, element_view, constraints_of};
 ghost use Rattle.guard_model.specs.Limits.{fits_128_bits};
@@ -52,9 +54,9 @@ fn numbers_of_all(alloc: Global, constraints: &[Cons]) -> Result<IntSet, OutOfMe
         all_hold (constraints_of (map constraint_view constraints.now)) kind (abstract.integer z))) }
 {
     let mut left_out = Vec::new(alloc);
-    for constraint in constraints {
+    for (count, constraint) in constraints.iter().enumerate() {
         let numbers = numbers_of(alloc, constraint)?;
-        left_out.push(numbers.complement(alloc)?)?;
+        keep(alloc, &mut left_out, numbers.complement(alloc)?, count)?;
     }
     IntSet::union_of(alloc, &left_out)?.complement(alloc)
 }
@@ -66,10 +68,28 @@ fn numbers_of_some(alloc: Global, constraints: &[Cons]) -> Result<IntSet, OutOfM
         some_hold (constraints_of (map constraint_view constraints.now)) kind (abstract.integer z))) }
 {
     let mut sets = Vec::new(alloc);
-    for constraint in constraints {
-        sets.push(numbers_of(alloc, constraint)?)?;
+    for (count, constraint) in constraints.iter().enumerate() {
+        keep(alloc, &mut sets, numbers_of(alloc, constraint)?, count)?;
     }
     IntSet::union_of(alloc, &sets)
+}
+
+/// Puts a set behind the others, where so many came before it. It is joined with as many of the last ones as this count
+/// has ones at its end, as a counter in binary carries: so the two that are joined were made of as many each, and of M
+/// sets no more than log M are kept.
+fn keep(alloc: Global, sets: &mut Vec<IntSet>, set: IntSet, count: usize) -> Result<(), OutOfMemory>
+    ensures { OnOk result ((z : ℤ) →
+        some_holds sets.new.items z ≡ (some_holds sets.old.items z || integers.holds set z)) }
+{
+    let mut joined = set;
+    for _ in 0..count.trailing_ones() {
+        joined = match sets.pop() {
+            Some(last) => last.union(alloc, &joined)?,
+            None => joined,
+        };
+    }
+    sets.push(joined)?;
+    Ok(())
 }
 
 /// The integers from -2^127 to 2^127-1 that are members of the type: none where it is no INTEGER. OutOfMemory is the

@@ -1,5 +1,5 @@
 use Rattle.std.proofs.Common.{◌≡◌, Bool, true, not, ◌&&◌, ◌||◌, List, map, IfOk, refl, sym, ap, subst, ◌∙◌}
-use Rattle.guard_integers.specs.Integers.{Integers, holds, some_holds}
+use Rattle.guard_integers.specs.Integers.{Integers, some_holds}
 use Rattle.guard_model.specs.AbstractType as type
 use Rattle.guard_model.specs.AbstractType.{AbstractType, Element}
 use Rattle.guard_model.specs.AbstractValue as abstract
@@ -9,11 +9,11 @@ use Rattle.guard_model.specs.TypeView.{type_view, kind_view, constraint_view, co
 use Rattle.guard_model.specs.ValueView.{value_view}
 use Rattle.guard_model.specs.declared.ty.Kind.TheViews.{out-Ty}
 use Rattle.guard_model.proofs.TypeViews.{type_view_is}
-use Rattle.guard_eval.specs.Member.{holds_element, all_hold, is_member}
+use Rattle.guard_eval.specs.Member.{holds, holds_element, all_hold, some_hold, is_member}
 use Rattle.guard_eval.proofs.Applied.{contained_integer}
 use Rattle.guard_eval.specs.NumberSets.{HasNumbers}
 use Rattle.guard_eval.proofs.RuleViews.{view_one, view_inside, view_range, view_minus, view_other}
-use Rattle.guard_eval.proofs.WholeSets.{if_ok, all_more, all_done, some_more, some_done, one_set_more, of_integer, minus_has, other_has}
+use Rattle.guard_eval.proofs.WholeSets.{if_ok, all_more, all_done, some_more, some_done, of_integer, minus_has, other_has}
 use Rattle.guard_eval.proofs.number_sets.+number_sets.Goals as goal
 
 pub numbers_of_rule-returns-in-One : goal.numbers_of_rule-returns-in-One
@@ -46,31 +46,29 @@ numbers_of_rule-returns-in_ok-numbers_of-in-Other t c =
     subst (λ (e : Element). IfOk c.complement-in-Other.result (λ set. HasNumbers set (λ kind z. holds_element e kind (abstract.integer z)))) (sym e)
     (if_ok c.complement-in-Other.result _ _ (λ set h kind whole z. other_has _ (fits_128_bits z) _ _ (c.in_ok-numbers_of-in-Other.ensures kind whole z) (h z)) c.complement-in-Other.ensures)
 
-pub numbers_of_all-loop-constraint-preserved : goal.numbers_of_all-loop-constraint-preserved
-numbers_of_all-loop-constraint-preserved t c = λ kind whole z.
-    let added : some_holds c.push.new.self.items z ≡ (some_holds c.loop-constraint.left_out.items z || holds c.in_ok-complement.field-0 z) =
-    ap (λ (sets : List Integers). some_holds sets z) c.in_ok-push.ensures.items ∙ one_set_more c.loop-constraint.left_out.items c.in_ok-complement.field-0 z in
-    all_more kind z c.args.constraints.now c.loop-constraint.constraint-index c.constraint-item.result (some_holds c.loop-constraint.left_out.items z) _ _ _ (fits_128_bits z) _ c.loop-constraint-test.true
-    c.constraint-item.is added (c.in_ok-complement.ensures z) (c.in_ok-numbers.ensures kind whole z) (c.loop-constraint.invariant kind whole z)
+pub numbers_of_all-loop-count-preserved : goal.numbers_of_all-loop-count-preserved
+numbers_of_all-loop-count-preserved t c = λ kind whole z.
+    all_more (λ cs. all_hold cs kind (abstract.integer z)) (λ one. holds one kind (abstract.integer z)) (λ one cs. refl) c.args.constraints.now c.loop-count.count c.index-constraints-count.result
+    (some_holds c.loop-count.left_out.items z) _ _ _ (fits_128_bits z) _ c.loop-count-test.true
+    c.index-constraints-count.is (c.in_ok-keep.ensures z) (c.in_ok-complement.ensures z) (c.in_ok-numbers.ensures kind whole z) (c.loop-count.invariant kind whole z)
 
 pub numbers_of_all-returns : goal.numbers_of_all-returns
 numbers_of_all-returns t c =
     if_ok c.complement-3.result _ _
     (λ set h kind whole z. h z ∙ ap (λ (b : Bool). fits_128_bits z && not b) (c.in_ok-union_of.ensures z ∙ ap (λ (sets : List Integers). some_holds sets z) c.deref.ensures.value)
-    ∙ all_done kind z c.args.constraints.now c.loop-constraint.constraint-index (some_holds c.loop-constraint.left_out.items z) (fits_128_bits z) _ c.loop-constraint-test.false (c.loop-constraint.invariant kind whole z)) c.complement-3.ensures
+    ∙ all_done (λ cs. all_hold cs kind (abstract.integer z)) refl c.args.constraints.now c.loop-count.count (some_holds c.loop-count.left_out.items z) (fits_128_bits z) _ c.loop-count-test.false (c.loop-count.invariant kind whole z)) c.complement-3.ensures
 
-pub numbers_of_some-loop-constraint-preserved : goal.numbers_of_some-loop-constraint-preserved
-numbers_of_some-loop-constraint-preserved t c = λ kind whole z.
-    let added : some_holds c.push.new.self.items z ≡ (some_holds c.loop-constraint.sets.items z || holds c.in_ok-numbers_of.field-0 z) =
-    ap (λ (sets : List Integers). some_holds sets z) c.in_ok-push.ensures.items ∙ one_set_more c.loop-constraint.sets.items c.in_ok-numbers_of.field-0 z in
-    some_more kind z c.args.constraints.now c.loop-constraint.constraint-index c.constraint-item.result (some_holds c.loop-constraint.sets.items z) _ _ (fits_128_bits z) _ c.loop-constraint-test.true
-    c.constraint-item.is added (c.in_ok-numbers_of.ensures kind whole z) (c.loop-constraint.invariant kind whole z)
+pub numbers_of_some-loop-count-preserved : goal.numbers_of_some-loop-count-preserved
+numbers_of_some-loop-count-preserved t c = λ kind whole z.
+    some_more (λ cs. some_hold cs kind (abstract.integer z)) (λ one. holds one kind (abstract.integer z)) (λ one cs. refl) c.args.constraints.now c.loop-count.count c.index-constraints-count.result
+    (some_holds c.loop-count.sets.items z) _ _ (fits_128_bits z) _ c.loop-count-test.true
+    c.index-constraints-count.is (c.in_ok-keep.ensures z) (c.in_ok-numbers_of.ensures kind whole z) (c.loop-count.invariant kind whole z)
 
 pub numbers_of_some-returns : goal.numbers_of_some-returns
 numbers_of_some-returns t c =
     if_ok c.union_of.result _ _
     (λ set h kind whole z. h z ∙ ap (λ (sets : List Integers). some_holds sets z) c.deref.ensures.value
-    ∙ some_done kind z c.args.constraints.now c.loop-constraint.constraint-index (some_holds c.loop-constraint.sets.items z) (fits_128_bits z) _ c.loop-constraint-test.false (c.loop-constraint.invariant kind whole z)) c.union_of.ensures
+    ∙ some_done (λ cs. some_hold cs kind (abstract.integer z)) refl c.args.constraints.now c.loop-count.count (some_holds c.loop-count.sets.items z) (fits_128_bits z) _ c.loop-count-test.false (c.loop-count.invariant kind whole z)) c.union_of.ensures
 
 pub numbers_of_type-returns-then-is_integer : goal.numbers_of_type-returns-then-is_integer
 numbers_of_type-returns-then-is_integer t c =

@@ -9,13 +9,13 @@ use Rattle.guard_eval.specs.Member.{all_hold, some_hold}
 use Rattle.guard_eval.proofs.number_sets.+number_sets.Given as goal
 
 -- those that none leaves out so far, and that the constraints to come allow, are those that all allow
-abbrev pub invariant-numbers_of_all-loop-constraint : goal.invariant-numbers_of_all-loop-constraint
-invariant-numbers_of_all-loop-constraint l =
-    (kind : AbstractKind) → IsTrue (is_integer kind) → (z : ℤ) → (fits_128_bits z && (not (some_holds l.left_out.items z) && all_hold (constraints_of (map constraint_view (drop l.constraint-index l.constraints))) kind (abstract.integer z)))
+abbrev pub invariant-numbers_of_all-loop-count : goal.invariant-numbers_of_all-loop-count
+invariant-numbers_of_all-loop-count l =
+    (kind : AbstractKind) → IsTrue (is_integer kind) → (z : ℤ) → (fits_128_bits z && (not (some_holds l.left_out.items z) && all_hold (constraints_of (map constraint_view (drop l.count l.constraints))) kind (abstract.integer z)))
     ≡ (fits_128_bits z && all_hold (constraints_of (map constraint_view l.constraints)) kind (abstract.integer z))
 
 -- with those that a constraint to come allows they are those that one allows
-abbrev pub invariant-numbers_of_some-loop-constraint : goal.invariant-numbers_of_some-loop-constraint
-invariant-numbers_of_some-loop-constraint l =
-    (kind : AbstractKind) → IsTrue (is_integer kind) → (z : ℤ) → (some_holds l.sets.items z || (fits_128_bits z && some_hold (constraints_of (map constraint_view (drop l.constraint-index l.constraints))) kind (abstract.integer z)))
+abbrev pub invariant-numbers_of_some-loop-count : goal.invariant-numbers_of_some-loop-count
+invariant-numbers_of_some-loop-count l =
+    (kind : AbstractKind) → IsTrue (is_integer kind) → (z : ℤ) → (some_holds l.sets.items z || (fits_128_bits z && some_hold (constraints_of (map constraint_view (drop l.count l.constraints))) kind (abstract.integer z)))
     ≡ (fits_128_bits z && some_hold (constraints_of (map constraint_view l.constraints)) kind (abstract.integer z))

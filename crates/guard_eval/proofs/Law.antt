@@ -22,7 +22,7 @@ use Rattle.guard_eval.specs.Violations.{AbstractViolation, below, unless, first_
 abbrev pub is_clear : Option AbstractViolation → Bool
 is_clear w = is_none w
 
-clear_either : (v w : Option AbstractViolation) → is_clear (option_or v w) ≡ (is_clear v && is_clear w)
+pub clear_either : (v w : Option AbstractViolation) → is_clear (option_or v w) ≡ (is_clear v && is_clear w)
 clear_either None w = refl
 clear_either (Some v) w = refl
 

@@ -14,6 +14,7 @@ pub mod Paths
 pub mod Calls
 -- ---- integers that are allowed, as sets
 pub mod WholeSets
+pub mod Numbered
 pub mod RuleViews
 pub mod LongLists
 -- ---- sound types

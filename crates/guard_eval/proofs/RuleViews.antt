@@ -1,18 +1,19 @@
 -- One level of what an element of a constraint stands for.
-use Rattle.std.proofs.Common.{◌≡◌, sym, ap, ◌∙◌}
-use Rattle.std.specs.Arc.{arc_value}
+use Rattle.std.proofs.Common.{◌≡◌, map, sym, ap, ◌∙◌}
+use Rattle.std.specs.Arc.{arc_value, arc_slice_items}
 use Rattle.std.specs.Global.{Global}
 use Rattle.std.specs.declared.sync.Arc.{Arc}
+use Rattle.std.specs.declared.sync.ArcSlice.{ArcSlice}
 use Rattle.guard_model.specs.AbstractType as type
 use Rattle.guard_model.specs.AbstractType.{AbstractType, AbstractKind, Constraint, Element}
-use Rattle.guard_model.specs.TypeView.{OneComponent, OnePart, type_view, constraint_view, element_view, kind_step, rule_step, comp_step, cons_step, part_step, ty_step}
+use Rattle.guard_model.specs.TypeView.{OneComponent, OnePart, type_view, constraint_view, constraints_of, element_view, kind_step, rule_step, comp_step, cons_step, part_step, ty_step}
 use Rattle.guard_model.specs.ValueView.{value_view}
 use Rattle.guard_model.specs.declared.ty.Cons.{Cons}
 use Rattle.guard_model.specs.declared.ty.Kind.TheFolds.{fold-roll-Rule}
 use Rattle.guard_model.specs.declared.ty.Kind.TheOpen.{Rule-F}
 use Rattle.guard_model.specs.declared.ty.Limit.{Limit}
-use Rattle.guard_model.specs.declared.ty.Rule.{Rule, One, Inside, Range, Minus, Other}
-use Rattle.guard_model.specs.declared.ty.Rule.TheVariants.{rolls-One, rolls-Inside, rolls-Range, rolls-Minus, rolls-Other}
+use Rattle.guard_model.specs.declared.ty.Rule.{Rule, One, Inside, Range, Any, Both, Minus, Other}
+use Rattle.guard_model.specs.declared.ty.Rule.TheVariants.{rolls-One, rolls-Inside, rolls-Range, rolls-Any, rolls-Both, rolls-Minus, rolls-Other}
 use Rattle.guard_model.specs.declared.ty.Ty.{Ty}
 use Rattle.guard_model.specs.declared.value.Value.{Value}
 
@@ -30,3 +31,9 @@ view_minus rule a b is = ap element_view is ∙ ap element_view (sym (rolls-Minu
 
 pub view_other : (rule : Rule) (a : Arc Cons Global) → rule ≡ Other a → element_view rule ≡ type.all_except (constraint_view (arc_value a))
 view_other rule a is = ap element_view is ∙ ap element_view (sym (rolls-Other a)) ∙ fold-roll-Rule AbstractKind Element OneComponent Constraint OnePart AbstractType kind_step rule_step comp_step cons_step part_step ty_step (Rule-F.Other a)
+
+pub view_any : (rule : Rule) (cs : ArcSlice Cons Global) → rule ≡ Any cs → element_view rule ≡ type.union (constraints_of (map constraint_view (arc_slice_items cs)))
+view_any rule cs is = ap element_view is ∙ ap element_view (sym (rolls-Any cs)) ∙ fold-roll-Rule AbstractKind Element OneComponent Constraint OnePart AbstractType kind_step rule_step comp_step cons_step part_step ty_step (Rule-F.Any cs)
+
+pub view_both : (rule : Rule) (cs : ArcSlice Cons Global) → rule ≡ Both cs → element_view rule ≡ type.intersection (constraints_of (map constraint_view (arc_slice_items cs)))
+view_both rule cs is = ap element_view is ∙ ap element_view (sym (rolls-Both cs)) ∙ fold-roll-Rule AbstractKind Element OneComponent Constraint OnePart AbstractType kind_step rule_step comp_step cons_step part_step ty_step (Rule-F.Both cs)

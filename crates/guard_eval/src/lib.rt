@@ -7,8 +7,8 @@
 //! | What does WITH COMPONENTS say of a part's presence? | `presence.rt` | `specs/Presence.antt` |
 //! | What does a constraint allow? | `members.rt` (`holds`, inside types `holds_on_kind`) | `specs/Member.antt` |
 //! | Which are members of a type? | `members.rt` (`member`, inside types `proper_member`) | `specs/Member.antt` |
-//! | How are they found where a value is a long list of numbers? | `long_lists.rt` (`member_of`) | `specs/Member.antt`, `specs/inside/LongLists.antt` |
-//! | Which integers does a constraint allow, as a set? | `number_sets.rt` | `specs/NumberSets.antt` |
+//! | How are they found where a value is a long list of numbers or items? | `long_lists.rt` (`member_of`) | `specs/Member.antt`, `specs/inside/LongLists.antt` |
+//! | Which integers does a constraint allow, as a set, and which items? | `number_sets.rt` | `specs/NumberSets.antt` |
 //! | Which constraint is failed first, and where? | `violation.rt` (`first_violation`) | `specs/Violations.antt` |
 //! | How are all of these found in one walk? | `search.rt` | `specs/inside/Failures.antt` |
 //! | What holds for every type and value? | `laws.rt` | `specs/Violations.antt` |

@@ -1,77 +1,122 @@
-//! The integers that a constraint allows, of any form and at any depth, as one set (X.680 51.4 and 51.5).
-ghost use Rattle.std.specs.Prelude.{◌≡◌, ◌&&◌, ◌||◌, not, ℤ, map, IfOk, OnOk};
+//! The integers that a constraint allows, of any form and at any depth, as one set (X.680 51.4 and 51.5); and the items
+//! of an ENUMERATED type that it allows, as the set of their numbers.
+ghost use Rattle.std.specs.Prelude.{◌≡◌, ◌&&◌, ◌||◌, ℤ, map, IfOk, OnOk};
+ghost use Rattle.std.specs.Option.{is_none};
 ghost use Rattle.guard_integers.specs.Integers as integers;
 ghost use Rattle.guard_integers.specs.Integers.{some_holds};
 ghost use Rattle.guard_model.specs.AbstractValue as abstract;
-ghost use Rattle.guard_model.specs.TypeView.{type_view, constraint_view, element_view, constraints_of};
+ghost use Rattle.guard_model.specs.TypeView.{type_view, kind_view, constraint_view, constraints_of};
 ghost use Rattle.guard_model.specs.Limits.{fits_128_bits};
 ghost use Rattle.guard_model.specs.Same.{same};
 ghost use Rattle.guard_model.specs.ValueView.{value_view};
 ghost use Rattle.guard_eval.specs.Elements.{is_above, is_under, is_between};
-ghost use Rattle.guard_eval.specs.Member.{holds, holds_element, is_member, all_hold, some_hold};
+ghost use Rattle.guard_eval.specs.Member.{holds, is_member};
 ghost use Rattle.guard_eval.specs.NumberSets.{HasNumbers};
-ghost use Rattle.guard_eval.specs.inside.NumberSets.{begins, ends};
+ghost use Rattle.guard_eval.specs.inside.Failures.{failure};
+ghost use Rattle.guard_eval.specs.inside.NumberSets.{begins, ends, value_of, is_of, allows, all_allow, some_allow, has};
+ghost use Rattle.guard_eval.specs.inside.NumberSets.{HoldsThose};
 
 use guard_integers::IntSet;
-use guard_model::{Cons, Limit, OutOfMemory, Rule, Ty, Value};
+use guard_model::{Cons, Kind, Limit, OutOfMemory, Rule, Ty, Value};
 use std::alloc::Global;
+
+/// The values that are known by their numbers.
+#[derive(Clone, Copy)]
+enum Numbered {
+    Integers,
+    /// Those of an ENUMERATED type.
+    Items,
+}
 
 /// The integers from -2^127 to 2^127-1 that the constraint allows. An element that doesn't apply to INTEGER, such as
 /// SIZE, allows none. OutOfMemory is the only error.
-#[cycle(number_sets)]
 pub fn numbers_of(alloc: Global, constraint: &Cons) -> Result<IntSet, OutOfMemory>
     ensures { IfOk result
         (λ set. HasNumbers set (λ kind z. holds (constraint_view constraint.now) kind (abstract.integer z))) }
 {
-    numbers_of_rule(alloc, &constraint.rule)
+    set_of(alloc, Numbered::Integers, constraint)
+}
+
+/// The integers from -2^127 to 2^127-1 that are members of the type: none where it is no INTEGER. OutOfMemory is the
+/// only error.
+pub fn numbers_of_type(alloc: Global, ty: &Ty) -> Result<IntSet, OutOfMemory>
+    ensures { IfOk result (λ set. HasNumbers set (λ kind z. is_member (type_view ty.now) (abstract.integer z))) }
+{
+    set_of_type(alloc, Numbered::Integers, ty)
+}
+
+/// The numbers of the items that violate nothing of the type, whatever kind it has. OutOfMemory is the only error.
+pub fn items_of_type(alloc: Global, ty: &Ty) -> Result<IntSet, OutOfMemory>
+    ensures { IfOk result (λ set. (z : ℤ) → integers.holds set z
+        ≡ (fits_128_bits z && is_none (failure (type_view ty.now) (abstract.enumerated z)))) }
+{
+    set_of_type(alloc, Numbered::Items, ty)
 }
 
 #[cycle(number_sets)]
-fn numbers_of_rule(alloc: Global, rule: &Rule) -> Result<IntSet, OutOfMemory>
-    ensures { IfOk result
-        (λ set. HasNumbers set (λ kind z. holds_element (element_view rule.now) kind (abstract.integer z))) }
+fn set_of(alloc: Global, of: Numbered, constraint: &Cons) -> Result<IntSet, OutOfMemory>
+    ensures { IfOk result (λ set. HoldsThose of set (allows of (constraint_view constraint.now))) }
 {
-    match rule {
-        Rule::One(value) => number_alone(alloc, value),
-        Rule::Inside(ty) => numbers_of_type(alloc, ty),
-        Rule::Range(low, high) => numbers_between(alloc, *low, *high),
-        Rule::Any(constraints) => numbers_of_some(alloc, constraints),
-        Rule::Both(constraints) => numbers_of_all(alloc, constraints),
+    match &constraint.rule {
+        Rule::One(value) => number_alone(alloc, of, value),
+        Rule::Inside(ty) => set_of_type(alloc, of, ty),
+        Rule::Range(low, high) => numbers_between(alloc, of, *low, *high),
+        Rule::Any(constraints) => set_of_some(alloc, of, constraints),
+        Rule::Both(constraints) => set_of_all(alloc, of, constraints),
         Rule::Minus(kept, taken) => {
-            let numbers = numbers_of(alloc, kept)?;
-            numbers.minus(alloc, &numbers_of(alloc, taken)?)
+            let numbers = set_of(alloc, of, kept)?;
+            numbers.minus(alloc, &set_of(alloc, of, taken)?)
         }
-        Rule::Other(other) => numbers_of(alloc, other)?.complement(alloc),
+        Rule::Other(other) => set_of(alloc, of, other)?.complement(alloc),
         _ => Ok(IntSet::none(alloc)),
     }
 }
 
-/// The integers that all of these allow: those that none of them leaves out. A set that is common to many isn't made anew
-/// for each of them.
+/// What all of these allow: what none of them leaves out. A set that is common to many isn't made anew for each.
 #[cycle(number_sets)]
-fn numbers_of_all(alloc: Global, constraints: &[Cons]) -> Result<IntSet, OutOfMemory>
-    ensures { IfOk result (λ set. HasNumbers set (λ kind z.
-        all_hold (constraints_of (map constraint_view constraints.now)) kind (abstract.integer z))) }
+fn set_of_all(alloc: Global, of: Numbered, constraints: &[Cons]) -> Result<IntSet, OutOfMemory>
+    ensures { IfOk result
+        (λ set. HoldsThose of set (all_allow of (constraints_of (map constraint_view constraints.now)))) }
 {
     let mut left_out = Vec::new(alloc);
     for (count, constraint) in constraints.iter().enumerate() {
-        let numbers = numbers_of(alloc, constraint)?;
+        let numbers = set_of(alloc, of, constraint)?;
         keep(alloc, &mut left_out, numbers.complement(alloc)?, count)?;
     }
     IntSet::union_of(alloc, &left_out)?.complement(alloc)
 }
 
-/// The integers that one of these allows.
+/// What one of these allows.
 #[cycle(number_sets)]
-fn numbers_of_some(alloc: Global, constraints: &[Cons]) -> Result<IntSet, OutOfMemory>
-    ensures { IfOk result (λ set. HasNumbers set (λ kind z.
-        some_hold (constraints_of (map constraint_view constraints.now)) kind (abstract.integer z))) }
+fn set_of_some(alloc: Global, of: Numbered, constraints: &[Cons]) -> Result<IntSet, OutOfMemory>
+    ensures { IfOk result
+        (λ set. HoldsThose of set (some_allow of (constraints_of (map constraint_view constraints.now)))) }
 {
     let mut sets = Vec::new(alloc);
     for (count, constraint) in constraints.iter().enumerate() {
-        keep(alloc, &mut sets, numbers_of(alloc, constraint)?, count)?;
+        keep(alloc, &mut sets, set_of(alloc, of, constraint)?, count)?;
     }
     IntSet::union_of(alloc, &sets)
+}
+
+/// What the type allows. No kind but INTEGER has integers; of items its constraints alone are asked.
+#[cycle(number_sets)]
+fn set_of_type(alloc: Global, of: Numbered, ty: &Ty) -> Result<IntSet, OutOfMemory>
+    ensures { IfOk result (λ set. HoldsThose of set (λ kind z. has of (type_view ty.now) z)) }
+{
+    if is_of(of, &ty.kind) {
+        return set_of_all(alloc, of, &ty.cons);
+    }
+    Ok(IntSet::none(alloc))
+}
+
+fn is_of(of: Numbered, kind: &Kind) -> bool
+    ensures { result ≡ is_of of (kind_view kind.now) }
+{
+    match of {
+        Numbered::Integers => kind.is_integer(),
+        Numbered::Items => true,
+    }
 }
 
 /// Puts a set behind the others, where so many came before it. It is joined with as many of the last ones as this count
@@ -92,34 +137,28 @@ fn keep(alloc: Global, sets: &mut Vec<IntSet>, set: IntSet, count: usize) -> Res
     Ok(())
 }
 
-/// The integers from -2^127 to 2^127-1 that are members of the type: none where it is no INTEGER. OutOfMemory is the
-/// only error.
-#[cycle(number_sets)]
-pub fn numbers_of_type(alloc: Global, ty: &Ty) -> Result<IntSet, OutOfMemory>
-    ensures { IfOk result (λ set. HasNumbers set (λ kind z. is_member (type_view ty.now) (abstract.integer z))) }
+/// The set of one number, where the single value is one of these; else none.
+fn number_alone(alloc: Global, of: Numbered, value: &Value) -> Result<IntSet, OutOfMemory>
+    ensures { IfOk result (λ set. HoldsThose of set (λ kind z. same (value_view value.now) (value_of of z))) }
 {
-    if ty.kind.is_integer() {
-        return numbers_of_all(alloc, &ty.cons);
-    }
-    Ok(IntSet::none(alloc))
-}
-
-/// The set of one number, where the single value is one; else none.
-fn number_alone(alloc: Global, value: &Value) -> Result<IntSet, OutOfMemory>
-    ensures { IfOk result (λ set. HasNumbers set (λ kind z. same (value_view value.now) (abstract.integer z))) }
-{
-    match value {
-        Value::Int(number) => IntSet::range(alloc, *number, *number),
+    match (of, value) {
+        (Numbered::Integers, Value::Int(number)) => IntSet::range(alloc, *number, *number),
+        (Numbered::Items, Value::Enumerated(number)) => IntSet::range(alloc, *number, *number),
         _ => Ok(IntSet::none(alloc)),
     }
 }
 
-/// The integers of a range: none where the low end is above the high one.
-fn numbers_between(alloc: Global, low: Limit, high: Limit) -> Result<IntSet, OutOfMemory>
-    ensures { IfOk result (λ set. HasNumbers set (λ kind z. is_between low high (abstract.integer z))) }
+/// The integers of a range: none where the low end is above the high one. No item is in a range.
+fn numbers_between(
+    alloc: Global,
+    of: Numbered,
+    low: Limit,
+    high: Limit,
+) -> Result<IntSet, OutOfMemory>
+    ensures { IfOk result (λ set. HoldsThose of set (λ kind z. is_between low high (value_of of z))) }
 {
-    match (lowest(low), highest(high)) {
-        (Some(low), Some(high)) => IntSet::range(alloc, low, high),
+    match (of, lowest(low), highest(high)) {
+        (Numbered::Integers, Some(low), Some(high)) => IntSet::range(alloc, low, high),
         _ => Ok(IntSet::none(alloc)),
     }
 }

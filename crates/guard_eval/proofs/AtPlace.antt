@@ -3,7 +3,7 @@ use Rattle.std.proofs.Common.{◌≡◌, refl, sym, ap, ◌∙◌, ℕ, zero, su
 use Rattle.std.specs.List.{HoldsAt}
 use Rattle.std.proofs.lemmas.List.{at_drop_more}
 use Rattle.guard_model.specs.AbstractType.{AbstractType, AbstractKind, Components, Constraint, Element, Parts, no_components, component, type_of}
-use Rattle.guard_model.specs.AbstractValue.{AbstractValue}
+use Rattle.guard_model.specs.AbstractValue.{AbstractValue, fields_of}
 use Rattle.guard_model.specs.TypeView.{OneComponent, OnePart, type_view, kind_view, component_view, components_of, constraint_view, parts_of, part_before, part_view, element_view, rule_step, kind_step, comp_step, cons_step, part_step as step_of_part, ty_step}
 use Rattle.guard_model.specs.declared.ty.Part.{Part}
 use Rattle.guard_model.specs.declared.ty.Cons.{Cons}
@@ -15,7 +15,7 @@ use Rattle.guard_model.specs.declared.ty.Rule.{Each}
 use Rattle.guard_model.specs.declared.ty.Rule.TheVariants.{rolls-Each}
 use Rattle.guard_model.specs.declared.ty.Kind.TheFolds.{fold_out-Cons, fold-roll-Rule}
 use Rattle.guard_model.specs.declared.ty.Kind.TheOpen.{Rule-F}
-use Rattle.guard_model.specs.ValueView.{field_view, fields_view}
+use Rattle.guard_model.specs.ValueView.{slot_view, fields_view}
 use Rattle.guard_model.specs.Components.{component_at, components_in}
 use Rattle.guard_model.specs.declared.ty.Comp.{Comp}
 use Rattle.guard_model.specs.declared.ty.Ty.{Ty}
@@ -40,26 +40,35 @@ kind_of_component comp = ap (λ (c : OneComponent). kind_of c.ty) (component_vie
 
 -- ---- fields
 
-pub field_is : (fs : List (Option (Arc Value Global))) (i : ℕ) (f : Option (Arc Value Global)) → i < length fs → f ≡ get_or fs i f → field_at i (fields_view fs) ≡ field_view f
-field_is [] i f lt e = absurd (omega arith)
-field_is (None ∷ fs) zero f lt e = sym (ap field_view e)
-field_is (Some v ∷ fs) zero f lt e = sym (ap field_view e)
-field_is (None ∷ fs) (suc i) f lt e = field_is fs i f (omega arith) e
-field_is (Some v ∷ fs) (suc i) f lt e = field_is fs i f (omega arith) e
+-- a slot of the code, which holds a component's value or nothing
+abbrev Slot : Type 0
+Slot = Arc (Option Value) Global
 
-pub field_past : (fs : List (Option (Arc Value Global))) (i : ℕ) → length fs ≤ i → field_at i (fields_view fs) ≡ None
+field_first : (o : Option AbstractValue) (os : List (Option AbstractValue)) → field_at zero (fields_of (o ∷ os)) ≡ o
+field_first None os = refl
+field_first (Some v) os = refl
+
+field_later : (o : Option AbstractValue) (os : List (Option AbstractValue)) (i : ℕ) → field_at (suc i) (fields_of (o ∷ os)) ≡ field_at i (fields_of os)
+field_later None os i = refl
+field_later (Some v) os i = refl
+
+pub field_is : (fs : List Slot) (i : ℕ) (f : Slot) → i < length fs → f ≡ get_or fs i f → field_at i (fields_view fs) ≡ slot_view f
+field_is [] i f lt e = absurd (omega arith)
+field_is (s ∷ fs) zero f lt e = field_first (slot_view s) (map slot_view fs) ∙ sym (ap slot_view e)
+field_is (s ∷ fs) (suc i) f lt e = field_later (slot_view s) (map slot_view fs) i ∙ field_is fs i f (omega arith) e
+
+pub field_past : (fs : List Slot) (i : ℕ) → length fs ≤ i → field_at i (fields_view fs) ≡ None
 field_past [] i le = refl
-field_past (f ∷ fs) zero le = absurd (omega arith)
-field_past (None ∷ fs) (suc i) le = field_past fs i (omega arith)
-field_past (Some v ∷ fs) (suc i) le = field_past fs i (omega arith)
+field_past (s ∷ fs) zero le = absurd (omega arith)
+field_past (s ∷ fs) (suc i) le = field_later (slot_view s) (map slot_view fs) i ∙ field_past fs i (omega arith)
 
 -- as `get` finds them
-pub field_found : (found : Option (Bor (Option (Arc Value Global)))) (fs : List (Option (Arc Value Global))) (i : ℕ) (f : Bor (Option (Arc Value Global)))
-    → MatchOption found (length fs ≤ i) (λ c. (i < length fs) × HoldsAt (λ d. c.now ≡ d) fs i) → found ≡ Some f → field_at i (fields_view fs) ≡ field_view f.now
+pub field_found : (found : Option (Bor Slot)) (fs : List Slot) (i : ℕ) (f : Bor Slot)
+    → MatchOption found (length fs ≤ i) (λ c. (i < length fs) × HoldsAt (λ d. c.now ≡ d) fs i) → found ≡ Some f → field_at i (fields_view fs) ≡ slot_view f.now
 field_found None fs i f h is = absurd cc
-field_found (Some g) fs i f h is = field_is fs i g.now h.0 (h.1 g.now) ∙ ap (λ (x : Bor (Option (Arc Value Global))). field_view x.now) (same_Some _ _ is)
+field_found (Some g) fs i f h is = field_is fs i g.now h.0 (h.1 g.now) ∙ ap (λ (x : Bor Slot). slot_view x.now) (same_Some _ _ is)
 
-pub field_missing : (found : Option (Bor (Option (Arc Value Global)))) (fs : List (Option (Arc Value Global))) (i : ℕ)
+pub field_missing : (found : Option (Bor Slot)) (fs : List Slot) (i : ℕ)
     → MatchOption found (length fs ≤ i) (λ c. (i < length fs) × HoldsAt (λ d. c.now ≡ d) fs i) → found ≡ None → field_at i (fields_view fs) ≡ None
 field_missing None fs i h is = field_past fs i h
 field_missing (Some g) fs i h is = absurd cc
@@ -78,7 +87,7 @@ no_failure (component name t presence cs) (suc i) v e = no_failure cs i v e
 
 -- ---- no component left, or no field
 
-pub failure_at_end : (i : ℕ) (cs : List Comp) (fs : List (Option (Arc Value Global))) → (length cs ≡ 0) ⊎ (length fs ≡ 0) → failure_from i (components_of (map component_view cs)) (fields_view fs) ≡ None
+pub failure_at_end : (i : ℕ) (cs : List Comp) (fs : List Slot) → (length cs ≡ 0) ⊎ (length fs ≡ 0) → failure_from i (components_of (map component_view cs)) (fields_view fs) ≡ None
 failure_at_end i [] fs e = refl
 failure_at_end i (c ∷ cs) [] e = refl
 failure_at_end i (c ∷ cs) (f ∷ fs) e = absurd (elim e [ inl h ↦ omega (arith, h) | inr h ↦ omega (arith, h) ])

@@ -60,11 +60,11 @@ pub fn is_there(value: &Value, at: usize) -> bool
     part_at(value, at).is_some()
 }
 
-fn field_at(fields: &[Option<Arc<Value>>], at: usize) -> Option<&Value>
+fn field_at(fields: &[Arc<Option<Value>>], at: usize) -> Option<&Value>
     ensures { option_map (λ v. value_view v.now) result ≡ field_at at (fields_view fields.now) }
 {
     let field = fields.get(at)?;
-    match field {
+    match field.as_ref() {
         Some(value) => Some(value),
         None => None,
     }

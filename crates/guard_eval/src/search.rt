@@ -53,12 +53,12 @@ fn failure_inside(path: &mut Path, kind: &Kind, value: &Value) -> Option<Site>
 }
 
 #[cycle(search)]
-fn failure_from(path: &mut Path, comps: &[Comp], fields: &[Option<Arc<Value>>]) -> Option<Site>
+fn failure_from(path: &mut Path, comps: &[Comp], fields: &[Arc<Option<Value>>]) -> Option<Site>
     ensures { found_by path.new.items result
         ≡ failure_from 0 (components_of (map component_view comps.now)) (fields_view fields.now) }
 {
     for (index, (comp, field)) in comps.iter().zip(fields).enumerate() {
-        if let Some(value) = field
+        if let Some(value) = field.as_ref()
             && let Some(site) = failure(path, &comp.ty, value)
         {
             return Some(under_component(path, site, index));

@@ -17,9 +17,19 @@ own_failure (type_of tags kind cons) v = first_failure cons kind v
 
 -- kinds whose values are known by their numbers
 abbrev pub is_numbered : AbstractKind → Bool
+is_numbered type.boolean = false
 is_numbered (type.integer names) = true
+is_numbered (type.bit_string names) = false
+is_numbered type.octet_string = false
+is_numbered type.null = false
+is_numbered type.object_identifier = false
 is_numbered (type.enumerated items) = true
-is_numbered _ = false
+is_numbered (type.characters kind) = false
+is_numbered (type.sequence components) = false
+is_numbered (type.set components) = false
+is_numbered (type.choice alternatives) = false
+is_numbered (type.sequence_of element) = false
+is_numbered (type.set_of element) = false
 
 -- whether the value is known by a number, and the set holds it
 abbrev pub is_number_of : Integers → AbstractValue → Bool

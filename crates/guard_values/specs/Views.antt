@@ -1,14 +1,13 @@
 -- What the code's results and arguments mean.
 use Rattle.std.specs.Prelude.{ℕ, List, Option, Some, None, option_and_then, slice_get, IsTrue, IfSome}
 use Rattle.std.specs.Option.{option_map}
-use Rattle.std.specs.Arc.{arc_value}
 use Rattle.std.specs.Borrow.{Bor}
 use Rattle.std.specs.Global.{Global}
 use Rattle.std.specs.declared.sync.Arc.{Arc}
 use Rattle.guard_model.specs.AbstractType.{AbstractType}
-use Rattle.guard_model.specs.AbstractValue.{AbstractValue}
 use Rattle.guard_model.specs.TypeView.{shared_type_view, type_view}
 use Rattle.guard_model.specs.ValueView.{value_view}
+pub use Rattle.guard_model.specs.ValueView.{shared_view}
 use Rattle.guard_model.specs.declared.ty.Ty.{Ty}
 use Rattle.guard_model.specs.declared.value.Value.{Value}
 use Rattle.guard_values.specs.declared.fault.ValueFault.{ValueFault}
@@ -31,10 +30,6 @@ use Rattle.guard_values.specs.Arrangement.{EncodedValue}
 abbrev pub named : ValueFault → Option ValueFault
 named fault.OutOfMemory = None
 named f = Some f
-
--- the value that is shared
-abbrev pub shared_view : Arc Value Global → AbstractValue
-shared_view v = value_view (arc_value v)
 
 abbrev pub visible_view : VisibleValue → Governed
 visible_view v = record { ty = type_view v.ty.now; value = shared_view v.value.now }

@@ -1,10 +1,11 @@
 //! Components of a SEQUENCE or SET, and alternatives of a CHOICE: one slot for the value of each.
-ghost use Rattle.std.specs.Prelude.{◌≡◌, ◌&&◌, nat_lt, ◌<◌, length, map, option_map, IsTrue, IfOk, IfSome};
+ghost use Rattle.std.specs.Prelude.{◌≡◌, ◌&&◌, nat_lt, ◌<◌, length, map, option_map, IsTrue, IfOk, IfSome, None};
+ghost use Rattle.std.specs.Arc.{arc_value};
 ghost use Rattle.guard_model.specs.Answer.{Gives};
 ghost use Rattle.guard_der.specs.Sound.{is_proper, is_proper_kind, are_proper};
 ghost use Rattle.guard_model.specs.TypeView.{component_view, components_of, presence_view, type_view, kind_view};
 ghost use Rattle.guard_syntax.specs.Views.{name_view};
-ghost use Rattle.guard_model.specs.ValueView.{field_view, fields_view};
+ghost use Rattle.guard_model.specs.ValueView.{slot_view, fields_view};
 ghost use Rattle.guard_values.specs.Places as places;
 ghost use Rattle.guard_values.specs.inside.Reading as reading;
 ghost use Rattle.guard_values.specs.Views.{named, located_view};
@@ -12,6 +13,7 @@ ghost use Rattle.guard_values.specs.Views.{named, located_view};
 use crate::fault::ValueFault;
 use guard_model::{Comp, Kind, Presence, Site, Ty, Value, set_field};
 use std::alloc::Global;
+use std::sync::Arc;
 
 /// The first component or alternative with this name: its place in the list, from 0, and its type. None where none has
 /// the name.
@@ -32,7 +34,7 @@ pub fn located<'a>(name: &[u8], comps: &'a [Comp]) -> Option<(usize, &'a Ty)>
 pub fn placed<'a>(
     ordered: bool,
     next: usize,
-    fields: &[Option<Value>],
+    fields: &[Arc<Option<Value>>],
     site: Site,
     found: Option<(usize, &'a Ty)>,
 ) -> Result<(usize, &'a Ty), ValueFault>
@@ -58,7 +60,7 @@ pub fn place_of<'a>(
     ordered: bool,
     comps: &'a [Comp],
     next: usize,
-    fields: &[Option<Value>],
+    fields: &[Arc<Option<Value>>],
     site: Site,
     name: Option<&[u8]>,
 ) -> Result<(usize, &'a Ty), ValueFault>
@@ -102,27 +104,34 @@ pub fn completed(
     alloc: Global,
     site: Site,
     comps: &[Comp],
-    mut fields: Vec<Option<Value>>,
-) -> Result<Vec<Option<Value>>, ValueFault>
+    mut fields: Vec<Arc<Option<Value>>>,
+) -> Result<Vec<Arc<Option<Value>>>, ValueFault>
     requires { length fields.items ≡ length comps.now }
     ensures { Gives (λ v. fields_view v.items) named result
         (reading.completed site (components_of (map component_view comps.now)) (fields_view fields.items)) }
 {
     for (index, comp) in comps.iter().enumerate() {
         if fields[index].is_none() {
-            set_field(&mut fields, index, left_out(alloc, site, &comp.presence)?);
+            let slot = left_out(alloc, site, &comp.presence, &fields[index])?;
+            set_field(&mut fields, index, slot);
         }
     }
     Ok(fields)
 }
 
-/// What a component without an entry is.
-fn left_out(alloc: Global, site: Site, presence: &Presence) -> Result<Option<Value>, ValueFault>
-    ensures { Gives field_view named result (reading.settled site (presence_view presence.now) None) }
+/// The slot of a component without an entry: the one that holds nothing stays where the component may be absent.
+fn left_out(
+    alloc: Global,
+    site: Site,
+    presence: &Presence,
+    nothing: &Arc<Option<Value>>,
+) -> Result<Arc<Option<Value>>, ValueFault>
+    requires { arc_value nothing.now ≡ None }
+    ensures { Gives slot_view named result (reading.settled site (presence_view presence.now) None) }
 {
     match presence {
-        Presence::Optional => Ok(None),
-        Presence::Default(value) => Ok(Some(value.copy(alloc)?)),
+        Presence::Optional => Ok(nothing.clone()?),
+        Presence::Default(value) => Ok(Arc::new(alloc, Some(value.copy()?))?),
         Presence::Mandatory => Err(ValueFault::MissingComponent(site)),
         Presence::Pending => Err(ValueFault::MissingComponent(site)),
     }

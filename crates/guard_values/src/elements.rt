@@ -19,6 +19,7 @@ use guard_der::{EncodeFault, encode};
 use guard_model::{MOST_ITEMS, Site, Ty, Value};
 use guard_syntax::{EntryTree, ValueForm};
 use std::alloc::Global;
+use std::sync::ArcSlice;
 
 /// How many octets are left for the elements after this entry's, which has so many: where nothing is sorted they aren't
 /// counted, and as many are left as before.
@@ -70,7 +71,8 @@ pub fn listed(site: Site, elements: Vec<Value>) -> Result<Value, ValueFault>
     if elements.len() > MOST_ITEMS {
         return Err(ValueFault::TooLarge(site));
     }
-    Ok(Value::Items(elements))
+    let shared = ArcSlice::from_vec(elements)?;
+    Ok(Value::Items(shared))
 }
 
 /// A value of a SET OF: its elements as their encodings ascend.
@@ -87,7 +89,8 @@ pub fn listed_set(
     if elements.len() > MOST_ITEMS {
         return Err(ValueFault::TooLarge(site));
     }
-    Ok(Value::Items(arranged(alloc, elements)?))
+    let shared = ArcSlice::from_vec(arranged(alloc, elements)?)?;
+    Ok(Value::Items(shared))
 }
 
 /// The value at the site with its encoding, of at most 1,048,576 octets.

@@ -108,7 +108,7 @@ fn visible_copy(
         (read_visible site (type_view ty.now) (option_map visible_view value.entry)) }
 {
     let shared = visible(ty, site, value)?;
-    Ok(shared.copy(alloc)?)
+    Ok(shared.copy()?)
 }
 
 /// A visible value, where its type has the same base.

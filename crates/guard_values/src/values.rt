@@ -56,7 +56,7 @@ pub fn value(
         (IsFirstFault (visible_from names.now known.now id) (type_view ty.now) (trees.value_view tree.now))) }
 {
     let shared = shared_value(alloc, names, known, id, ty, tree)?;
-    Ok(shared.copy(alloc)?)
+    Ok(shared.copy()?)
 }
 
 /// The value that `value` gives, as a share (X.680 clause 17). Where a name is written, the share is of the value that

@@ -39,7 +39,7 @@ use guard_der::{LONGEST_ENCODING, encoded_length};
 use guard_model::{Comp, Kind, Site, Ty, Value, absent_fields, set_field};
 use guard_syntax::{EntryTree, ValueForm, ValueTree};
 use std::alloc::Global;
-use std::sync::Arc;
+use std::sync::{Arc, ArcSlice};
 
 /// The value that the tree denotes under the type, with an encoding of at most 1,048,576 octets; or the first fault.
 pub fn value_within_limit(
@@ -196,7 +196,7 @@ fn chosen(
 {
     let (place, ty) = alternative(kind, site, name)?;
     let counted = read(alloc, scope, sorted, tree, ty)?;
-    let value = Box::new(alloc, counted.value)?;
+    let value = Arc::new(alloc, counted.value)?;
     Ok(Counted {
         value: Value::Chosen(place, value),
         length: counted.length,
@@ -253,8 +253,9 @@ fn fields(
 {
     let (given, length) = entry_fields(alloc, scope, sorted, entries, ordered, comps)?;
     let fields = completed(alloc, site, comps, given)?;
+    let shared = ArcSlice::from_vec(fields)?;
     Ok(Counted {
-        value: Value::Fields(fields),
+        value: Value::Fields(shared),
         length,
     })
 }
@@ -268,7 +269,7 @@ fn entry_fields(
     entries: &[EntryTree],
     ordered: bool,
     comps: &[Comp],
-) -> Result<(Vec<Option<Value>>, Option<usize>), ValueFault>
+) -> Result<(Vec<Arc<Option<Value>>>, Option<usize>), ValueFault>
     requires proper { IsTrue (are_proper (components_of (map component_view comps.now))) }
     requires fitting { AreFitting (values_of scope) }
     ensures count { IfOk result (λ x. length x.0.items ≡ length comps.now) }
@@ -286,7 +287,8 @@ fn entry_fields(
             alloc, scope, sorted, entry, ordered, comps, next, &fields,
         )?;
         length = with_part(sorted, length, &comps[place].presence, &counted);
-        set_field(&mut fields, place, Some(counted.value));
+        let slot = Arc::new(alloc, Some(counted.value))?;
+        set_field(&mut fields, place, slot);
         next = place + 1;
     }
     Ok((fields, length))
@@ -302,7 +304,7 @@ fn entry_value(
     ordered: bool,
     comps: &[Comp],
     next: usize,
-    fields: &[Option<Value>],
+    fields: &[Arc<Option<Value>>],
 ) -> Result<(usize, Counted), ValueFault>
     requires proper { IsTrue (are_proper (components_of (map component_view comps.now))) }
     requires fitting { AreFitting (values_of scope) }

@@ -1,6 +1,7 @@
 -- Entries, one after another, as loops read them.
 use Rattle.std.proofs.Common.{◌≡◌, ℕ, suc, ◌+◌, ◌<◌, ◌≤◌, Bool, false, List, [], ◌∷◌, ◌++◌, length, drop, get_or, map, add-one, Option, Some, None, Ok, Err, refl, sym, ap, ◌∙◌, append_assoc}
 use Rattle.std.proofs.lemmas.List.{at_drop_more, at_drop_all, append-nil}
+use Rattle.std.specs.Arc.{arc_value}
 use Rattle.std.specs.Global.{Vec}
 use Rattle.guard_model.specs.Answer.{◌>>=◌, Refuses}
 use Rattle.guard_model.specs.declared.site.Site.{Site}
@@ -24,6 +25,7 @@ use Rattle.guard_syntax.specs.declared.tree.EntryTree.TheOpen.{EntryTree-F, Valu
 use Rattle.guard_syntax.specs.declared.tree.EntryTree.TheVariants.{rolls-Alone}
 use Rattle.guard_model.specs.Kinds.{kind_of}
 use Rattle.guard_values.specs.Places.{Located}
+use Rattle.guard_der.proofs.Functions.Encoding.{Slot}
 use Rattle.guard_der.proofs.Functions.SetFields.{field_filled}
 use Rattle.guard_syntax.specs.Trees.{WrittenValue, WrittenEntry, WrittenEntries, no_entries, entry, entries_of}
 use Rattle.guard_syntax.specs.Views.{site_of_value, value_form_step, entry_step, value_step, value_view, entry_view, value_form_view}
@@ -166,9 +168,9 @@ module _ (m : Meaning) (sorted : Bool) (ordered : Bool) (cs : Components) (entri
   unfolding build
   entries_done next fs i total le so_far = sym so_far ∙ ap (build_entries m sorted ordered cs next fs) (none_left entries i le)
 
-  pub entries_put : (next : ℕ) (fields after : List (Option Value)) (i : ℕ) (e : EntryTree) (place : ℕ) (v : Value) (total : Read Fields) → i < length entries → e ≡ get_or entries i e
-      → at next (fields_view fields) e ≡ Ok (place, guard.value_view v) → place < length fields → after ≡ set fields place (Some v) → from next (fields_view fields) i ≡ total → from (place + 1) (fields_view after) (i + 1) ≡ total
-  entries_put next fields after i e place v total lt is got within put so_far =
+  pub entries_put : (next : ℕ) (fields after : List Slot) (i : ℕ) (e : EntryTree) (place : ℕ) (slot : Slot) (v : Value) (total : Read Fields) → i < length entries → e ≡ get_or entries i e
+      → at next (fields_view fields) e ≡ Ok (place, guard.value_view v) → place < length fields → arc_value slot ≡ Some v → after ≡ set fields place slot → from next (fields_view fields) i ≡ total → from (place + 1) (fields_view after) (i + 1) ≡ total
+  entries_put next fields after i e place slot v total lt is got within holds put so_far =
       ap (λ (n : ℕ). from n (fields_view after) (i + 1)) (add-one place)
-      ∙ ap (λ (fs : Fields). from (suc place) fs (i + 1)) (ap fields_view put ∙ field_filled fields place v within)
+      ∙ ap (λ (fs : Fields). from (suc place) fs (i + 1)) (ap fields_view put ∙ field_filled fields place slot v holds within)
       ∙ entries_on next (fields_view fields) i e (place, guard.value_view v) total lt is got so_far

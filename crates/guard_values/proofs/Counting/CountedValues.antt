@@ -1,6 +1,7 @@
 -- Values whose octets are counted, by their forms.
 use Rattle.std.proofs.Common.{◌≡◌, ℕ, zero, suc, ◌<◌, ◌≤◌, Bool, true, false, cond, List, [], ◌∷◌, length, get_or, map, Option, Some, None, Result, Ok, Err, refl, sym, ap, subst, ◌∙◌, IfOk, IfSome, arith}
 use Rattle.std.specs.Prelude.{is_some, set, nat_le}
+use Rattle.std.specs.Arc.{arc_value}
 use Rattle.std.specs.Global.{Vec}
 use Rattle.std.proofs.lemmas.Bool.{leb-true}
 use Rattle.guard_model.proofs.Components.{in_view}
@@ -25,6 +26,7 @@ use Rattle.guard_der.specs.Encoding.{longest_encoding, short, short_length, leng
 use Rattle.guard_der.specs.ProperConstraints.{is_short}
 use Rattle.guard_der.specs.Reading.{is_filled, fill}
 use Rattle.guard_der.proofs.Functions.Lengths.{set_short, whole_length}
+use Rattle.guard_der.proofs.Functions.Encoding.{Slot}
 use Rattle.guard_der.proofs.Functions.SetFields.{field_filled}
 use Rattle.guard_der.proofs.Functions.Soundness.{told_where_short}
 use Rattle.guard_values.specs.declared.fault.ValueFault.{ValueFault}
@@ -90,14 +92,14 @@ one_type (component name u presence rest) zero c t e f =
     sym (ap (λ (x : OneComponent). x.ty) (same_Some first c e)) ∙ same_Some u t f
 one_type (component name u presence rest) (suc i) c t e f = one_type rest i c t e f
 
-pub part_put : (comps : List Comp) (fields after : List (Option Value)) (i : ℕ) (comp : Comp) (t : AbstractType) (v : Value) (so_far more next : Option ℕ) → length fields ≡ length comps → i < length comps → comp ≡ get_or comps i comp
-    → is_filled i (fields_view fields) ≡ false → component_type i (in_view comps) ≡ Some t → more ≡ short_length (der t (value_view v)) → after ≡ set fields i (Some v) → next ≡ with_part (is_left_out (presence_view (out-Comp (get_or comps i comp)).presence) (value_view v)) so_far more
+pub part_put : (comps : List Comp) (fields after : List Slot) (i : ℕ) (comp : Comp) (t : AbstractType) (slot : Slot) (v : Value) (so_far more next : Option ℕ) → length fields ≡ length comps → i < length comps → comp ≡ get_or comps i comp
+    → is_filled i (fields_view fields) ≡ false → component_type i (in_view comps) ≡ Some t → more ≡ short_length (der t (value_view v)) → arc_value slot ≡ Some v → after ≡ set fields i slot → next ≡ with_part (is_left_out (presence_view (out-Comp (get_or comps i comp)).presence) (value_view v)) so_far more
     → so_far ≡ short_length (contents_octets (type.sequence (in_view comps)) (value.fields (fields_view fields))) → next ≡ short_length (contents_octets (type.sequence (in_view comps)) (value.fields (fields_view after)))
-part_put comps fields after i comp t v so_far more next count lt is free typed length put step before =
+part_put comps fields after i comp t slot v so_far more next count lt is free typed length holds put step before =
     let c = opened comp in
     let there = component_there comps i comp lt is in
     let left_out = is_left_out c.presence (value_view v) in
-    let filled : fields_view after ≡ fill i (value_view v) (fields_view fields) = ap fields_view put ∙ field_filled fields i v (omega (arith, lt, count)) in
+    let filled : fields_view after ≡ fill i (value_view v) (fields_view fields) = ap fields_view put ∙ field_filled fields i slot v holds (omega (arith, lt, count)) in
     step ∙ ap (λ (x : Comp). with_part (is_left_out (presence_view (out-Comp x).presence) (value_view v)) so_far more) (sym is) ∙ ap (λ (n : Option ℕ). with_part left_out n more) before
     ∙ ap (with_part left_out (short_length (contents_octets (type.sequence (in_view comps)) (value.fields (fields_view fields))))) (length ∙ ap (λ (u : AbstractType). short_length (der u (value_view v))) (sym (one_type (in_view comps) i c t there typed)))
     ∙ sym (one_counted (in_view comps) i c (value_view v) (fields_view fields) (has_view comps fields count) there free)

@@ -7,19 +7,19 @@ use Rattle.guard_model.proofs.Sameness.{same_from_equal}
 use Rattle.guard_model.specs.declared.site.Site.{Site}
 use Rattle.guard_model.specs.declared.tag.Tag.{Tag}
 use Rattle.guard_model.specs.declared.ty.Comp.{Comp}
-use Rattle.guard_model.specs.declared.value.Value.{Value}
 use Rattle.guard_model.specs.AbstractType as type
 use Rattle.guard_model.specs.AbstractType.{AbstractType, AbstractPresence, Components, no_components, component}
 use Rattle.guard_model.specs.AbstractValue as value
-use Rattle.guard_model.specs.AbstractValue.{AbstractValue, Fields}
+use Rattle.guard_model.specs.AbstractValue.{AbstractValue, Fields, fields_of}
 use Rattle.guard_model.specs.Components.{component_at}
 use Rattle.guard_model.specs.Slots.{all_absent}
 use Rattle.guard_model.specs.TypeView.{OneComponent}
-use Rattle.guard_model.specs.ValueView.{fields_view}
+use Rattle.guard_model.specs.ValueView.{slot_view, fields_view}
 use Rattle.guard_der.specs.Der.{Part, der, contents_octets, parts_of, part_unless, is_left_out, outermost, parts_joined, ◌>>=◌}
 use Rattle.guard_der.specs.Encoding.{short, short_length}
 use Rattle.guard_der.specs.Reading.{is_filled, fill, field_before}
 use Rattle.guard_der.specs.inside.EncodingSteps.{sequence_octets}
+use Rattle.guard_der.proofs.Functions.Encoding.{Slot}
 use Rattle.guard_values.specs.inside.Lengths.{with_part}
 use Rattle.guard_values.specs.inside.Reading.{completed}
 use Rattle.guard_values.proofs.Denoted.SettledFields.{HasFields}
@@ -91,9 +91,11 @@ completed_sent site (component name t type.pending rest) (value.absent gs) fs sh
 
 -- ---- as the code has them
 
-pub has_view : (comps : List Comp) (fields : List (Option Value)) → length fields ≡ length comps → HasFields (in_view comps) (fields_view fields)
+pub has_view : (comps : List Comp) (fields : List Slot) → length fields ≡ length comps → HasFields (in_view comps) (fields_view fields)
 has_view [] [] e = tt
 has_view [] (f ∷ fields) e = absurd (omega (arith, e))
 has_view (c ∷ comps) [] e = absurd (omega (arith, e))
-has_view (c ∷ comps) (None ∷ fields) e = has_view comps fields (omega (arith, e))
-has_view (c ∷ comps) (Some v ∷ fields) e = has_view comps fields (omega (arith, e))
+has_view (c ∷ comps) (f ∷ fields) e = one_more (slot_view f) where
+  one_more : (o : Option AbstractValue) → HasFields (in_view (c ∷ comps)) (fields_of (o ∷ map slot_view fields))
+  one_more None = has_view comps fields (omega (arith, e))
+  one_more (Some v) = has_view comps fields (omega (arith, e))

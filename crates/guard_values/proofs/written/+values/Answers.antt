@@ -1,7 +1,10 @@
 use Rattle.std.proofs.Common.{◌≡◌, ℕ, ◌<◌, ◌+◌, ◌-◌, ◌≤◌, ◌++◌, rules, Bool, map, length, List, [], ◌∷◌, Option, Some, Ok, Err, Result, true, false, cond, refl, sym, ap, ◌∙◌, subst, IfOk, arith}
+use Rattle.std.specs.Arc.{arc_slice_items}
+use Rattle.std.specs.Global.{Global}
+use Rattle.std.specs.declared.sync.ArcSlice.{ArcSlice}
 use Rattle.std.proofs.lemmas.List.{length-set, map_push}
 use Rattle.std.proofs.lemmas.Result.{err_from_is_err_and}
-use Rattle.guard_model.specs.Answer.{Gives, Refuses}
+use Rattle.guard_model.specs.Answer.{Gives, Refuses, ◌>>=◌}
 use Rattle.guard_model.specs.AbstractType as type
 use Rattle.guard_model.specs.AbstractType.{AbstractType}
 use Rattle.guard_model.specs.AbstractValue as value
@@ -9,6 +12,7 @@ use Rattle.guard_model.specs.AbstractValue.{AbstractValue, Fields}
 use Rattle.guard_model.specs.Kinds.{kind_of}
 use Rattle.guard_model.specs.TypeView.{type_view, kind_view, component_view, components_of}
 use Rattle.guard_model.specs.ValueView.{value_view, fields_view}
+use Rattle.guard_model.specs.declared.value.Value.TheVariants as values
 use Rattle.guard_model.proofs.Components.{in_view}
 use Rattle.guard_model.proofs.TypeViews.{type_view_is, kind_view_sequence, kind_view_set, kind_view_sequence_of, kind_view_set_of}
 use Rattle.guard_model.proofs.ValueViews.{value_view_chosen, value_view_fields}
@@ -17,15 +21,17 @@ use Rattle.guard_der.specs.Der.{der, contents_octets}
 use Rattle.guard_der.specs.Encoding.{longest_encoding, short_length}
 use Rattle.guard_der.specs.Reading.{is_filled}
 use Rattle.guard_der.specs.inside.EncodingSteps.{sequence_octets}
+use Rattle.guard_der.proofs.Functions.Encoding.{Slot}
 use Rattle.guard_syntax.specs.Trees.{entries_of}
 use Rattle.guard_syntax.specs.Views as trees
 use Rattle.guard_model.specs.declared.ty.Kind.{the_lemmas as type_lemmas}
 use Rattle.guard_syntax.specs.declared.tree.EntryTree.{the_lemmas}
 use Rattle.guard_values.specs.Arrangement.{AreEncodings, encoded_value}
 use Rattle.guard_values.specs.inside.Lengths.{HasContents}
-use Rattle.guard_values.specs.inside.Reading.{site_of, kept, room_without, room_after, build, build_form, build_entries, build_elements, build_list}
+use Rattle.guard_values.specs.inside.Reading.{Read, site_of, kept, read_fields, room_without, room_after, build, build_form, build_entries, build_elements, build_list}
 use Rattle.guard_values.specs.Views.{named, encoded_view, located_view, values_of}
 use Rattle.guard_values.proofs.SetOf.MadeEncodings.{one_more_encoding}
+use Rattle.guard_values.proofs.Braces.CodeFields.{CodeFields}
 use Rattle.guard_values.proofs.Braces.ProperComponents.{kind_proper}
 use Rattle.guard_values.proofs.Braces.EntriesInTurn.{list_is, alone_element, entry_found, elements_from, with_front, room_left, elements_on, elements_refused, elements_long, elements_done, entries_put, entries_refused, entries_done}
 use Rattle.guard_values.proofs.Denoted.ReadIsDenoted.{entry_ok}
@@ -139,12 +145,23 @@ braces-returns-in-SetOf-clause-counted t c = λ so.
 
 -- ---- components
 
+fields_shared : (fields : CodeFields) (shared : ArcSlice Slot Global) → arc_slice_items shared ≡ fields → value_view (values.Fields shared) ≡ value.fields (fields_view fields)
+fields_shared fields shared same = value_view_fields shared ∙ ap (λ (gs : CodeFields). value.fields (fields_view gs)) same
+
+pub fields-returns-clause-given : goal.fields-returns-clause-given
+fields-returns-clause-given t c =
+    let cs = in_view c.args.comps.now in
+    ap (read_fields c.args.site cs) c.in_ok-given.ensures.given ∙ ap (λ (r : Read Fields). r >>= λ fs. Ok (value.fields fs)) c.in_ok-fields.ensures
+    ∙ ap (λ (v : AbstractValue). Ok v) (sym (fields_shared c.in_ok-fields.fields.items c.in_ok-shared.shared c.in_ok-shared.ensures))
+
 pub fields-returns-clause-counted : goal.fields-returns-clause-counted
 fields-returns-clause-counted t c = λ so.
     let cs = in_view c.args.comps.now in
     let given = c.in_ok-given.given.items in
-    let same = completed_sent c.args.site cs (fields_view given) (fields_view c.in_ok-fields.fields.items) (has_view c.args.comps.now given c.in_ok-given.ensures.count) c.in_ok-fields.ensures in
-    c.in_ok-given.ensures.counted so ∙ sym (ap (λ ps. short_length (sequence_octets ps)) same) ∙ ap (λ (v : AbstractValue). short_length (contents_octets (type.sequence cs) v)) (sym (value_view_fields c.in_ok-fields.fields))
+    let fields = c.in_ok-fields.fields.items in
+    let same = completed_sent c.args.site cs (fields_view given) (fields_view fields) (has_view c.args.comps.now given c.in_ok-given.ensures.count) c.in_ok-fields.ensures in
+    c.in_ok-given.ensures.counted so ∙ sym (ap (λ ps. short_length (sequence_octets ps)) same)
+    ∙ ap (λ (v : AbstractValue). short_length (contents_octets (type.sequence cs) v)) (sym (fields_shared fields c.in_ok-shared.shared c.in_ok-shared.ensures))
 
 pub entry_value-read_entry-requires : goal.entry_value-read_entry-requires
 entry_value-read_entry-requires t c = (search (rules, the_lemmas), (c.in_ok-place.ensures.proper, c.requires.fitting))
@@ -175,19 +192,21 @@ entry_fields-loop-entry-preserved t c =
     let fs = c.loop-entry.fields.items in
     let place = c.in_ok-place.place in
     let v = c.in_ok-place.counted.value in
+    let slot = c.in_ok-slot.slot in
+    let holds = c.in_ok-slot.ensures.ok in
     let given = rw c.deref.ensures.value at c.in_ok-place.ensures.given in
     let within = subst (λ n. place < n) (sym c.loop-entry.invariant.count) c.in_ok-place.ensures.within in
     record {
       count = ap length c.set_field.ensures ∙ length-set fs place _ ∙ c.loop-entry.invariant.count;
-      so_far = entries_put m c.args.sorted c.args.ordered cs c.args.entries.now c.loop-entry.next fs c.set_field.new.fields.items c.loop-entry.entry-index c.entry-item.result place v
-          (build_entries m c.args.sorted c.args.ordered cs 0 (all_absent cs) (entries_of (map trees.entry_view c.args.entries.now))) c.loop-entry-test.true c.entry-item.is given within c.set_field.ensures c.loop-entry.invariant.so_far;
+      so_far = entries_put m c.args.sorted c.args.ordered cs c.args.entries.now c.loop-entry.next fs c.set_field.new.fields.items c.loop-entry.entry-index c.entry-item.result place slot v
+          (build_entries m c.args.sorted c.args.ordered cs 0 (all_absent cs) (entries_of (map trees.entry_view c.args.entries.now))) c.loop-entry-test.true c.entry-item.is given within holds c.set_field.ensures c.loop-entry.invariant.so_far;
       counted = λ so.
           let entry = trees.entry_view c.entry-item.result in
           let k = entry_ok c.args.ordered cs c.loop-entry.next (fields_view fs) entry.site entry.name (λ u. build m c.args.sorted u entry.value) (place, value_view v) given in
           let free = subst (λ p. is_filled p (fields_view fs) ≡ false) k.6 k.3 in
           let one = c.in_ok-place.ensures.counted so in
-          part_put c.args.comps.now fs c.set_field.new.fields.items place c.index-comps-place.result one.0 v c.loop-entry.length c.in_ok-place.counted.length c.with_part-length.result c.loop-entry.invariant.count c.in_ok-place.ensures.within c.index-comps-place.is
-          free one.1 one.2 c.set_field.ensures (c.with_part-length.ensures so) (c.loop-entry.invariant.counted so);
+          part_put c.args.comps.now fs c.set_field.new.fields.items place c.index-comps-place.result one.0 slot v c.loop-entry.length c.in_ok-place.counted.length c.with_part-length.result c.loop-entry.invariant.count c.in_ok-place.ensures.within c.index-comps-place.is
+          free one.1 one.2 holds c.set_field.ensures (c.with_part-length.ensures so) (c.loop-entry.invariant.counted so);
     }
 
 pub entry_fields-returns-in_err-place-clause-given : goal.entry_fields-returns-in_err-place-clause-given

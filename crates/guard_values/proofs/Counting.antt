@@ -3,3 +3,4 @@ pub mod Sums
 pub mod SentParts
 pub mod CountedLists
 pub mod CountedValues
+pub mod KnownLengths

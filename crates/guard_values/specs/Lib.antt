@@ -13,6 +13,7 @@ pub mod Forms
 pub mod Conditions
 pub mod Faults
 pub mod FirstFault
+pub mod KeptLengths
 pub mod Views
 -- ---- what only private contracts and proofs cite
 pub mod inside

@@ -5,6 +5,7 @@ use Rattle.std.specs.Borrow.{Bor}
 use Rattle.std.specs.Global.{Global}
 use Rattle.std.specs.declared.sync.Arc.{Arc}
 use Rattle.guard_model.specs.AbstractType.{AbstractType}
+use Rattle.guard_model.specs.AbstractValue.{AbstractValue}
 use Rattle.guard_model.specs.TypeView.{shared_type_view, type_view}
 use Rattle.guard_model.specs.ValueView.{value_view}
 pub use Rattle.guard_model.specs.ValueView.{shared_view}
@@ -13,6 +14,7 @@ use Rattle.guard_model.specs.declared.value.Value.{Value}
 use Rattle.guard_values.specs.declared.fault.ValueFault.{ValueFault}
 use Rattle.guard_values.specs.declared.fault.ValueFault.TheVariants as fault
 use Rattle.guard_values.specs.declared.scope.Known.{Known}
+use Rattle.guard_values.specs.declared.scope.KnownValue.{KnownValue}
 use Rattle.guard_values.specs.declared.scope.ModuleScope.{ModuleScope}
 use Rattle.guard_values.specs.declared.scope.Scope.{Scope}
 use Rattle.guard_values.specs.declared.scope.VisibleValue.{VisibleValue}
@@ -30,6 +32,9 @@ use Rattle.guard_values.specs.Arrangement.{EncodedValue}
 abbrev pub named : ValueFault → Option ValueFault
 named fault.OutOfMemory = None
 named f = Some f
+
+abbrev pub known_value_view : KnownValue → AbstractValue
+known_value_view k = shared_view k.value
 
 abbrev pub visible_view : VisibleValue → Governed
 visible_view v = record { ty = type_view v.ty.now; value = shared_view v.value.now }

@@ -16,7 +16,7 @@ ghost use Rattle.guard_values.specs.inside.Reading.{Read};
 ghost use Rattle.guard_values.specs.Views.{named};
 
 use crate::fault::ValueFault;
-use guard_der::{LONGEST_ENCODING, encoded_length, is_left_out, length_in};
+use guard_der::{LONGEST_ENCODING, contents_length, is_left_out, length_in};
 use guard_model::{Presence, Tag, Ty, Value};
 
 /// A value that is read, and how many octets its encoding or its contents have; None where there are more than an
@@ -27,7 +27,7 @@ pub struct Counted {
     pub length: Option<usize>,
 }
 
-/// A value that is read without a written value inside, its encoding counted as a whole; or the fault.
+/// A value that is read without a written value inside, its contents counted as a whole; or the fault.
 pub fn measured(
     sorted: bool,
     ty: &Ty,
@@ -36,11 +36,11 @@ pub fn measured(
     requires { sorted ≡ true → IfOk read (λ v. IsTrue (fits (type_view ty.now) (value_view v))) }
     ensures given { (answer : Read AbstractValue) → Gives value_view named read answer
         → Gives (λ c. value_view c.value) named result answer }
-    ensures counted { sorted ≡ true → IfOk result (IsCounted (type_view ty.now)) }
+    ensures counted { sorted ≡ true → IfOk result (HasContents (kind_of (type_view ty.now))) }
 {
     let value = read?;
     let length = if sorted {
-        encoded_length(ty, &value)
+        contents_length(&ty.kind, &value)
     } else {
         None
     };
@@ -92,7 +92,7 @@ pub fn in_tags(ty: &Ty, read: Result<Counted, ValueFault>) -> Result<Counted, Va
 }
 
 /// How many octets so many contents octets have in their tags. None where they are more than an encoding may have.
-fn tagged_length(tags: &[Tag], contents: Option<usize>) -> Option<usize>
+pub fn tagged_length(tags: &[Tag], contents: Option<usize>) -> Option<usize>
     ensures { IfSome contents (λ n. n ≤ longest_encoding) → result ≡ length_in tags.now contents }
 {
     let contents = contents?;

@@ -1,6 +1,5 @@
 //! The value that a tree of the notation denotes under its type (X.680 clause 17).
-ghost use Rattle.std.specs.Arc.{arc_value};
-ghost use Rattle.std.specs.Prelude.{IsTrue, IfOk, IfErr, IfSome};
+ghost use Rattle.std.specs.Prelude.{◌≡◌, IsTrue, IfOk, IfErr, IfSome};
 ghost use Rattle.guard_model.specs.AbstractValue.{AbstractValue};
 ghost use Rattle.guard_model.specs.TypeView.{type_view};
 ghost use Rattle.guard_model.specs.ValueView.{value_view};
@@ -10,16 +9,16 @@ ghost use Rattle.guard_syntax.specs.Views as trees;
 ghost use Rattle.guard_values.specs.Denotes.{Denotes};
 ghost use Rattle.guard_values.specs.Conditions.{IsFaultIn};
 ghost use Rattle.guard_values.specs.FirstFault.{IsFirstFault};
-ghost use Rattle.guard_values.specs.Views.{named, visible_from, visible_in, AreKnownFitting};
+ghost use Rattle.guard_values.specs.KeptLengths.{contents_length};
+ghost use Rattle.guard_values.specs.Views.{named, known_value_view, visible_from, visible_in, AreKnownFitting};
 
 use crate::fault::ValueFault;
-use crate::scope::{Known, ModuleScope};
+use crate::scope::{Known, KnownValue, ModuleScope};
 use crate::written::value_within_limit;
 use guard_model::{Ty, Value};
 use guard_names::{Id, Names};
 use guard_syntax::ValueTree;
 use std::alloc::Global;
-use std::sync::Arc;
 
 /// The value that a tree denotes under a type (X.680 clause 17), written in the definition `id`: names mean what they
 /// mean in the module of that definition, as far as `known` has it.
@@ -56,11 +55,12 @@ pub fn value(
         (IsFirstFault (visible_from names.now known.now id) (type_view ty.now) (trees.value_view tree.now))) }
 {
     let shared = shared_value(alloc, names, known, id, ty, tree)?;
-    Ok(shared.copy()?)
+    Ok(shared.value.copy()?)
 }
 
-/// The value that `value` gives, as a share (X.680 clause 17). Where a name is written, the share is of the value that
-/// is known, so that no use of a name copies a value.
+/// The value that `value` gives, as a share, with how many octets the contents of its encoding are (X.680 clause 17).
+/// Where a name is written, the share is of the value that is known, and so is the number: no use of a name copies a
+/// value or counts it.
 ///
 /// Conditions and errors: those of `value`.
 pub fn shared_value(
@@ -70,13 +70,15 @@ pub fn shared_value(
     id: Id,
     ty: &Ty,
     tree: &ValueTree,
-) -> Result<Arc<Value>, ValueFault>
+) -> Result<KnownValue, ValueFault>
     requires sound { IsTrue (is_sound (type_view ty.now)) }
     requires fitting { AreKnownFitting known.now }
     // The value is the one denoted.
     ensures denoted { IfOk result (λ v. Denotes (visible_from names.now known.now id) (type_view ty.now)
-        (trees.value_view tree.now) (value_view (arc_value v))) }
-    ensures fits { IfOk result (λ v. IsTrue (fits (type_view ty.now) (value_view (arc_value v)))) }
+        (trees.value_view tree.now) (known_value_view v)) }
+    ensures fits { IfOk result (λ v. IsTrue (fits (type_view ty.now) (known_value_view v))) }
+    // The contents of its encoding have so many octets.
+    ensures counted { IfOk result (λ v. v.length ≡ contents_length (type_view ty.now) (known_value_view v)) }
     // The condition of a fault that is named stands at its site, and then nothing is denoted.
     ensures holds { IfErr result (λ e. IfSome (named e)
         (λ f. IsFaultIn (visible_from names.now known.now id) (type_view ty.now) (trees.value_view tree.now) f)) }
@@ -90,8 +92,9 @@ pub fn shared_value(
     value_within_limit(alloc, ModuleScope { names, known, home }, tree, ty)
 }
 
-/// The value that a tree denotes under a type (X.680 clause 17), as a share, as if it were written in the module of
-/// this name: names mean what they mean there, as far as `known` has it, and nothing where no module has the name.
+/// The value that a tree denotes under a type (X.680 clause 17), as a share with how many octets the contents of its
+/// encoding are, as if it were written in the module of this name: names mean what they mean there, as far as `known` has
+/// it, and nothing where no module has the name.
 ///
 /// Conditions and errors: those of `value`.
 pub fn shared_value_in(
@@ -101,13 +104,15 @@ pub fn shared_value_in(
     home: &[u8],
     ty: &Ty,
     tree: &ValueTree,
-) -> Result<Arc<Value>, ValueFault>
+) -> Result<KnownValue, ValueFault>
     requires sound { IsTrue (is_sound (type_view ty.now)) }
     requires fitting { AreKnownFitting known.now }
     // The value is the one denoted.
     ensures denoted { IfOk result (λ v. Denotes (visible_in names.now known.now home.now) (type_view ty.now)
-        (trees.value_view tree.now) (value_view (arc_value v))) }
-    ensures fits { IfOk result (λ v. IsTrue (fits (type_view ty.now) (value_view (arc_value v)))) }
+        (trees.value_view tree.now) (known_value_view v)) }
+    ensures fits { IfOk result (λ v. IsTrue (fits (type_view ty.now) (known_value_view v))) }
+    // The contents of its encoding have so many octets.
+    ensures counted { IfOk result (λ v. v.length ≡ contents_length (type_view ty.now) (known_value_view v)) }
     // The condition of a fault that is named stands at its site, and then nothing is denoted.
     ensures holds { IfErr result (λ e. IfSome (named e)
         (λ f. IsFaultIn (visible_in names.now known.now home.now) (type_view ty.now) (trees.value_view tree.now) f)) }

@@ -6,6 +6,7 @@ ghost use Rattle.guard_model.specs.AbstractValue as value;
 ghost use Rattle.guard_model.specs.AbstractValue.{items_of};
 ghost use Rattle.guard_model.specs.Answer.{Gives, Refuses};
 ghost use Rattle.guard_model.specs.Slots.{all_absent};
+ghost use Rattle.guard_model.specs.Kinds.{kind_of};
 ghost use Rattle.guard_model.specs.TypeView.{type_view, kind_view, component_view, components_of};
 ghost use Rattle.guard_model.specs.ValueView.{value_view, fields_view, items_view};
 ghost use Rattle.guard_tagcheck.specs.Distinct.{component_type};
@@ -14,6 +15,7 @@ ghost use Rattle.guard_der.specs.Encoding.{longest_encoding, short_length};
 ghost use Rattle.guard_der.specs.Sound.{is_proper, is_proper_kind, are_proper};
 ghost use Rattle.guard_syntax.specs.Trees.{entries_of};
 ghost use Rattle.guard_syntax.specs.Views as trees;
+ghost use Rattle.guard_values.specs.KeptLengths.{contents_length};
 ghost use Rattle.guard_values.specs.Meanings.{AreFitting};
 ghost use Rattle.guard_values.specs.Arrangement.{AreEncodings, encoded_value};
 ghost use Rattle.guard_values.specs.inside.Lengths.{IsCounted, HasContents};
@@ -22,7 +24,7 @@ ghost use Rattle.guard_values.specs.inside.Reading.{build, build_form, build_lis
 ghost use Rattle.guard_values.specs.inside.Reading.{build_entries, build_elements, entry_at, element_at, read_chosen};
 ghost use Rattle.guard_values.specs.inside.Reading.{read_fields};
 ghost use Rattle.guard_values.specs.inside.Reading.{build_whole, build_sorted, build_first_fault};
-ghost use Rattle.guard_values.specs.Views.{named, encoded_view, shared_view, values_of};
+ghost use Rattle.guard_values.specs.Views.{named, encoded_view, known_value_view, values_of};
 
 use crate::arrangement::Encoded;
 use crate::components::{alternative, completed, place_of};
@@ -30,62 +32,66 @@ use crate::elements::{
     encoded, kept, listed, listed_set, object_identifier_fault, room_after, room_without,
 };
 use crate::fault::ValueFault;
-use crate::lengths::{Counted, bits_counted, in_tags, measured, with_part};
+use crate::lengths::{Counted, bits_counted, in_tags, measured, tagged_length, with_part};
 use crate::named_bits::value_of_names;
 use crate::names::{reference, shared_reference};
-use crate::scope::ModuleScope;
+use crate::scope::{KnownValue, ModuleScope};
 use crate::simple::{arcs, boolean, integer, null, text};
-use guard_der::{LONGEST_ENCODING, encoded_length};
+use guard_der::LONGEST_ENCODING;
 use guard_model::{Comp, Kind, Site, Ty, Value, absent_fields, set_field};
 use guard_syntax::{EntryTree, ValueForm, ValueTree};
 use std::alloc::Global;
 use std::sync::{Arc, ArcSlice};
 
-/// The value that the tree denotes under the type, with an encoding of at most 1,048,576 octets; or the first fault.
+/// The value that the tree denotes under the type, with an encoding of at most 1,048,576 octets and its contents counted;
+/// or the first fault.
 pub fn value_within_limit(
     alloc: Global,
     scope: ModuleScope,
     tree: &ValueTree,
     ty: &Ty,
-) -> Result<Arc<Value>, ValueFault>
+) -> Result<KnownValue, ValueFault>
     requires proper { IsTrue (is_proper (type_view ty.now)) }
     requires fitting { AreFitting (values_of scope) }
-    ensures { Gives shared_view named result
+    ensures given { Gives known_value_view named result
         (build_whole (values_of scope.entry) (type_view ty.now) (trees.value_view tree.now)) }
+    ensures counted { IfOk result (λ k. k.length ≡ contents_length (type_view ty.now) (known_value_view k)) }
 {
-    let (value, length) = shared_value(alloc, scope, tree, ty)?;
-    if length.is_none() {
+    let known = shared_value(alloc, scope, tree, ty)?;
+    if tagged_length(&ty.tags, known.length).is_none() {
         return Err(ValueFault::TooLarge(tree.site));
     }
-    Ok(value)
+    Ok(known)
 }
 
-/// The value and the length of its encoding, which may be too long. A name gives a share of the value that it means.
+/// The value with its contents counted, whose encoding may be too long. A name gives a share of the value that it means,
+/// and the length that is kept beside it.
 #[tactic(auto, unfolding(crate::specs::inside::Reading::build))]
 fn shared_value(
     alloc: Global,
     scope: ModuleScope,
     tree: &ValueTree,
     ty: &Ty,
-) -> Result<(Arc<Value>, Option<usize>), ValueFault>
+) -> Result<KnownValue, ValueFault>
     requires proper { IsTrue (is_proper (type_view ty.now)) }
     requires fitting { AreFitting (values_of scope) }
-    ensures given { Gives (λ x. shared_view x.0) named result
+    ensures given { Gives known_value_view named result
         (build_sorted (values_of scope.entry) (type_view ty.now) (trees.value_view tree.now)) }
-    ensures counted { IfOk result (λ x. x.1 ≡ short_length (der (type_view ty.now) (shared_view x.0))) }
+    ensures counted { IfOk result (λ k. k.length ≡ contents_length (type_view ty.now) (known_value_view k)) }
 {
     if let ValueForm::Reference(name) = &tree.form {
-        let value = shared_reference(alloc, scope, ty, tree.site, name)?;
-        let length = encoded_length(ty, &value);
-        return Ok((value, length));
+        return shared_reference(alloc, scope, ty, tree.site, name);
     }
     let counted = sorted_value(alloc, scope, tree, ty)?;
     let value = Arc::new(alloc, counted.value)?;
-    Ok((value, counted.length))
+    Ok(KnownValue {
+        value,
+        length: counted.length,
+    })
 }
 
-/// The value with the length of its encoding. What is at fault elsewhere comes before an element whose encoding is too
-/// long.
+/// The value with its contents counted. What is at fault elsewhere comes before an element whose encoding is too long.
+#[tactic(auto, unfolding(crate::specs::inside::Reading::build))]
 fn sorted_value(
     alloc: Global,
     scope: ModuleScope,
@@ -96,9 +102,9 @@ fn sorted_value(
     requires fitting { AreFitting (values_of scope) }
     ensures given { Gives (λ c. value_view c.value) named result
         (build_sorted (values_of scope.entry) (type_view ty.now) (trees.value_view tree.now)) }
-    ensures counted { IfOk result (IsCounted (type_view ty.now)) }
+    ensures counted { IfOk result (HasContents (kind_of (type_view ty.now))) }
 {
-    match read(alloc, scope, true, tree, ty) {
+    match form(alloc, scope, true, &tree.form, tree.site, ty) {
         Ok(counted) => Ok(counted),
         Err(ValueFault::OutOfMemory) => Err(ValueFault::OutOfMemory),
         Err(_) => Err(first_fault(alloc, scope, tree, ty)),
@@ -136,9 +142,10 @@ fn read(
         (build (values_of scope.entry) sorted (type_view ty.now) (trees.value_view tree.now)) }
     ensures counted { sorted ≡ true → IfOk result (IsCounted (type_view ty.now)) }
 {
-    form(alloc, scope, sorted, &tree.form, tree.site, ty)
+    in_tags(ty, form(alloc, scope, sorted, &tree.form, tree.site, ty))
 }
 
+/// The value of a form, its contents counted.
 #[cycle(values)]
 #[tactic(auto, unfolding(crate::specs::inside::Reading::build))]
 fn form(
@@ -153,7 +160,7 @@ fn form(
     requires fitting { AreFitting (values_of scope) }
     ensures given { Gives (λ c. value_view c.value) named result
         (build_form (values_of scope.entry) sorted (type_view ty.now) site (trees.value_form_view form.now)) }
-    ensures counted { sorted ≡ true → IfOk result (IsCounted (type_view ty.now)) }
+    ensures counted { sorted ≡ true → IfOk result (HasContents (kind_of (type_view ty.now))) }
 {
     match form {
         ValueForm::Boolean(truth) => measured(sorted, ty, boolean(&ty.kind, site, *truth)),
@@ -164,15 +171,11 @@ fn form(
         ValueForm::Text(string, spelling) => {
             measured(sorted, ty, text(alloc, &ty.kind, site, *string, spelling))
         }
-        ValueForm::Reference(name) => {
-            measured(sorted, ty, reference(alloc, scope, sorted, ty, site, name))
-        }
+        ValueForm::Reference(name) => { reference(scope, sorted, ty, site, name) }
         ValueForm::Chosen(name, tree) => {
-            in_tags(ty, chosen(alloc, scope, sorted, tree, name, site, &ty.kind))
+            chosen(alloc, scope, sorted, tree, name, site, &ty.kind)
         }
-        ValueForm::List(entries) => {
-            in_tags(ty, braces(alloc, scope, sorted, entries, site, &ty.kind))
-        }
+        ValueForm::List(entries) => { braces(alloc, scope, sorted, entries, site, &ty.kind) }
         ValueForm::Arcs(all) => measured(sorted, ty, arcs(alloc, &ty.kind, site, all)),
     }
 }

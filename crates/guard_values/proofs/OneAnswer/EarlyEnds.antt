@@ -2,8 +2,6 @@
 -- too long, or of something inside.
 use Rattle.std.proofs.Common.{◌≡◌, ℕ, suc, ◌-◌, ◌<◌, ◌≤◌, Bool, true, false, cond, List, [], ◌∷◌, length, Option, Some, None, Ok, Err, inl, inr, ◌⊎◌, option_map, refl, sym, ap, ◌∙◌, subst, arith}
 use Rattle.std.specs.Prelude.{nat_le, option_and_then, Result, IfOk, IsTrue}
-use Rattle.std.specs.Global.{Global}
-use Rattle.std.specs.declared.sync.Arc.{Arc}
 use Rattle.std.proofs.lemmas.Grind.{common_steps}
 use Rattle.guard_model.specs.Answer.{◌>>=◌, Gives}
 use Rattle.guard_model.proofs.Results.{same_Ok, made_ok}
@@ -31,13 +29,14 @@ use Rattle.guard_names.specs.Places.{place_in}
 use Rattle.guard_values.specs.declared.fault.ValueFault.{ValueFault}
 use Rattle.guard_values.specs.declared.fault.ValueFault.TheVariants.{UnknownName, TooLarge}
 use Rattle.guard_values.specs.declared.scope.Known.{Known}
+use Rattle.guard_values.specs.declared.scope.KnownValue.{KnownValue}
 use Rattle.guard_values.specs.Meanings.{Meaning, AreFitting}
 use Rattle.guard_values.specs.Places.{Located, located}
 use Rattle.guard_values.specs.Arrangement.{arranged}
 use Rattle.guard_values.specs.Faults.{faults_of}
 use Rattle.guard_values.specs.Conditions.{entry_type, chosen_type, InEntry, HasLongEncoding}
 use Rattle.guard_values.specs.inside.Reading.{Read, read_reference, alternative, placed, entry_at, completed, limited, few, read_fields, read_set_of, read_braces, perhaps_limited, site_of, element_at, kept, read, read_form, read_entries, read_elements, room_without, room_after, build, build_form, build_entries, build_elements, read_first_fault, sorted_or, read_whole, build_first_fault, build_sorted, build_whole}
-use Rattle.guard_values.specs.Views.{named, shared_view, known_definition}
+use Rattle.guard_values.specs.Views.{named, known_value_view, known_definition}
 use Rattle.guard_values.proofs.Denoted.ReadIsDenoted.{read_said, answered_ok, placed_ok, few_ok, limited_ok}
 use Rattle.guard_values.proofs.FirstFaults.WholeValues.{not_there}
 use Rattle.guard_values.proofs.FirstFaults.ReadingRefuses.{read_tells, Tells, IsLong, here_somewhere}
@@ -315,9 +314,10 @@ form_fits m fit sorted t site form (Ok v) proper given so =
 form_fits m fit sorted t site form (Err e) proper given so = tt
 
 -- what a name is read as
-pub reference_fits : (m : Meaning) → AreFitting m → (t : AbstractType) (site : Site) (name : List ℕ) (v : AbstractValue) → is_proper t ≡ true → read_reference m t site name ≡ Ok v → fits t v ≡ true
+pub reference_fits : (m : Meaning) → AreFitting m → (t : AbstractType) (site : Site) (name : List ℕ) (answer : Result Value ValueFault) → is_proper t ≡ true → Gives value_view named answer (read_reference m t site name) → IfOk answer (λ v. IsTrue (fits t (value_view v)))
 unfolding build
-reference_fits m fit t site name v proper e = built_fits m t (value_node site (written.reference name)) fit v proper e
+reference_fits m fit t site name (Ok v) proper given = built_fits m t (value_node site (written.reference name)) fit (value_view v) proper given
+reference_fits m fit t site name (Err e) proper given = tt
 
 -- ---- one element
 
@@ -349,9 +349,9 @@ module _ (m : Meaning) (t : AbstractType) (e : WrittenEntry) where
 -- what the code reads in the module at a place is what is read by what the names mean there
 pub built_there : (names : Names) (known : Known) (place : Option ℕ) (meant : List ℕ → Option ℕ)
     → ((name : List ℕ) → number_meant_in (modules_of names) place name ≡ meant name)
-    → (t : AbstractType) → is_proper t ≡ true → (tree : WrittenValue) (answer : Result (Arc Value Global) ValueFault)
-    → Gives shared_view named answer (build_whole (λ name. known_definition known (option_and_then (place_in (order_of names)) (number_meant_in (modules_of names) place name))) t tree)
-    → Gives shared_view named answer (read_whole (λ name. known_definition known (option_and_then (place_in (order_of names)) (meant name))) t tree)
+    → (t : AbstractType) → is_proper t ≡ true → (tree : WrittenValue) (answer : Result KnownValue ValueFault)
+    → Gives known_value_view named answer (build_whole (λ name. known_definition known (option_and_then (place_in (order_of names)) (number_meant_in (modules_of names) place name))) t tree)
+    → Gives known_value_view named answer (read_whole (λ name. known_definition known (option_and_then (place_in (order_of names)) (meant name))) t tree)
 built_there names known place meant same t proper tree answer h =
     read_there names known place meant same t tree answer
-    (subst (λ r. Gives shared_view named answer r) (built_whole (λ name. known_definition known (option_and_then (place_in (order_of names)) (number_meant_in (modules_of names) place name))) t tree proper) h)
+    (subst (λ r. Gives known_value_view named answer r) (built_whole (λ name. known_definition known (option_and_then (place_in (order_of names)) (number_meant_in (modules_of names) place name))) t tree proper) h)

@@ -4,7 +4,7 @@ use Rattle.guard_names.specs.Meanings.{number_meant_from}
 use Rattle.guard_names.specs.NamesView.{modules_of}
 use Rattle.guard_syntax.specs.Views as trees
 use Rattle.guard_values.specs.inside.Reading.{read_whole}
-use Rattle.guard_values.specs.Views.{named, shared_view, visible_from}
+use Rattle.guard_values.specs.Views.{named, known_value_view, visible_from}
 use Rattle.guard_values.proofs.Fitting.KnownValuesFit.{known_fits}
 use Rattle.guard_values.proofs.OneAnswer.CodeAnswers.{sound_proper, gives_denoted, gives_fitting, gives_fault, gives_first, gives_none}
 use Rattle.guard_values.proofs.OneAnswer.EarlyEnds.{built_there}
@@ -16,11 +16,11 @@ value_within_limit-requires-clause-proper c = sound_proper (type_view c.args.ty.
 pub value_within_limit-requires-clause-fitting : goal.value_within_limit-requires-clause-fitting
 value_within_limit-requires-clause-fitting c = λ name. known_fits c.args.known.now c.requires.fitting _
 
-given : (c : goal.After-value_within_limit) → Gives shared_view named c.value_within_limit.result
+given : (c : goal.After-value_within_limit) → Gives known_value_view named c.value_within_limit.result
     (read_whole (visible_from c.args.names.now c.args.known.now c.args.id) (type_view c.args.ty.now) (trees.value_view c.args.tree.now))
 given c = built_there c.args.names.now c.args.known.now c.module_of-home.result (number_meant_from (modules_of c.args.names.now) c.args.id)
     c.module_of-home.ensures.meant (type_view c.args.ty.now) (sound_proper (type_view c.args.ty.now) c.requires.sound)
-    (trees.value_view c.args.tree.now) c.value_within_limit.result c.value_within_limit.ensures
+    (trees.value_view c.args.tree.now) c.value_within_limit.result c.value_within_limit.ensures.given
 
 pub returns-clause-denoted : goal.returns-clause-denoted
 returns-clause-denoted c = gives_denoted _ (type_view c.args.ty.now) (trees.value_view c.args.tree.now) c.value_within_limit.result (given c)

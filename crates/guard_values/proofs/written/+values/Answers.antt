@@ -63,11 +63,6 @@ unfolding build
 form-measured-requires-in-Text t c =
     form_fits (values_of c.args.scope) c.requires.fitting c.args.sorted (type_view c.args.ty.now) c.args.site (trees.value_form_view c.args.form.now) c.text.result c.requires.proper (search (rules, the_lemmas, type_lemmas))
 
-pub form-measured-requires-in-Reference : goal.form-measured-requires-in-Reference
-unfolding build
-form-measured-requires-in-Reference t c =
-    form_fits (values_of c.args.scope) c.requires.fitting c.args.sorted (type_view c.args.ty.now) c.args.site (trees.value_form_view c.args.form.now) c.reference.result c.requires.proper (search (rules, the_lemmas))
-
 pub form-measured-requires-in-Arcs : goal.form-measured-requires-in-Arcs
 unfolding build
 form-measured-requires-in-Arcs t c =
@@ -78,19 +73,18 @@ form-chosen-requires t c = (search (rules, the_lemmas), (kind_proper c.args.ty.n
 
 pub form-returns-in-Chosen-clause-counted : goal.form-returns-in-Chosen-clause-counted
 form-returns-in-Chosen-clause-counted t c = λ so.
-    c.in_tags.ensures.counted (subst (λ k. IfOk c.chosen.result (HasContents k)) (sym (ap kind_of (type_view_is c.args.ty.now))) (c.chosen.ensures.counted so))
+    subst (λ k. IfOk c.chosen.result (HasContents k)) (sym (ap kind_of (type_view_is c.args.ty.now))) (c.chosen.ensures.counted so)
 
 pub form-braces-requires : goal.form-braces-requires
 form-braces-requires t c = (search (rules, the_lemmas, c.deref-in-List.ensures.value), (kind_proper c.args.ty.now c.requires.proper, c.requires.fitting))
 
 pub form-returns-in-List-clause-given : goal.form-returns-in-List-clause-given
 form-returns-in-List-clause-given t c =
-    c.in_tags-in-List.ensures.given (build_form (values_of c.args.scope) c.args.sorted (type_view c.args.ty.now) c.args.site (trees.value_form_view c.args.form.now))
-    (subst (λ r. Gives (λ x. value_view x.value) named c.braces.result r) (sym (list_is (values_of c.args.scope) c.args.sorted c.args.ty.now c.args.site c.args.form.now c.in-List.entries c.in-List.is)) (rw c.deref-in-List.ensures.value at c.braces.ensures.given))
+    subst (λ r. Gives (λ x. value_view x.value) named c.braces.result r) (sym (list_is (values_of c.args.scope) c.args.sorted c.args.ty.now c.args.site c.args.form.now c.in-List.entries c.in-List.is)) (rw c.deref-in-List.ensures.value at c.braces.ensures.given)
 
 pub form-returns-in-List-clause-counted : goal.form-returns-in-List-clause-counted
 form-returns-in-List-clause-counted t c = λ so.
-    c.in_tags-in-List.ensures.counted (subst (λ k. IfOk c.braces.result (HasContents k)) (sym (ap kind_of (type_view_is c.args.ty.now))) (c.braces.ensures.counted so))
+    subst (λ k. IfOk c.braces.result (HasContents k)) (sym (ap kind_of (type_view_is c.args.ty.now))) (c.braces.ensures.counted so)
 
 pub chosen-read-requires : goal.chosen-read-requires
 chosen-read-requires t c = (search (rules, the_lemmas), (c.in_ok-place.ensures.proper, c.requires.fitting))

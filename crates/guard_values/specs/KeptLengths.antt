@@ -23,5 +23,6 @@ length_beside t None = None
 length_beside t (Some v) = contents_length (shared_type_view t) (value_view (arc_value v))
 
 abbrev pub lengths_beside : List (Arc Ty Global) → List (Option (Arc Value Global)) → List (Option ℕ)
+lengths_beside [] vs = []
+lengths_beside (t ∷ ts) [] = []
 lengths_beside (t ∷ ts) (v ∷ vs) = length_beside t v ∷ lengths_beside ts vs
-lengths_beside _ _ = []

@@ -25,9 +25,9 @@ is_numbered type.null = false
 is_numbered type.object_identifier = false
 is_numbered (type.enumerated items) = true
 is_numbered (type.characters kind) = false
-is_numbered (type.sequence components) = false
-is_numbered (type.set components) = false
-is_numbered (type.choice alternatives) = false
+is_numbered (type.sequence cs) = false
+is_numbered (type.set cs) = false
+is_numbered (type.choice cs) = false
 is_numbered (type.sequence_of element) = false
 is_numbered (type.set_of element) = false
 

@@ -14,10 +14,5 @@ pub mod Sound
 pub mod Throughout
 -- ---- the schema
 pub mod ByNames
--- ---- lists that are too long
-pub mod ListsInOrder
-pub mod ElementQuestions
-pub mod AskedOfLists
-pub mod LongLists
 -- ---- values that stand alone
 pub mod Alone

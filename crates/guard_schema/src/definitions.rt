@@ -27,7 +27,6 @@ ghost use Rattle.guard_schema.specs.Views.{built_in, definition_view, known_view
 use crate::counting::held_by;
 use crate::fault::SchemaFault;
 use crate::finishing::finished;
-use crate::long_lists::check_length;
 use crate::progress::{Definition, Progress};
 use crate::readings::read_member;
 use guard_model::{Site, Ty, Value};
@@ -181,9 +180,6 @@ fn valued(
     ensures fits { IfOk result (λ r. IfSome r.0 (λ v. IsTrue (fits (type_view ty.now) (shared_view v)))) }
     ensures held { IfOk result (λ r. (r.1 ≡ progress.now.held + held_by (built_view ty.now r.0)) × (r.1 ≤ most_held)) }
 {
-    if let Some(tree) = &assignment.value {
-        check_length(alloc, scope, assignment.site, ty, tree)?;
-    }
     let value = assigned(alloc, scope, ty, &assignment.value)?;
     let held = within_limit(progress.held, assignment.site, ty, &value)?;
     Ok((value, held))

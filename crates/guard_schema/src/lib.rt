@@ -11,7 +11,6 @@
 //! | Which constraints and defaults are filled into a type? | `finishing.rt`, `constraints.rt` | `specs/Finishing.antt` |
 //! | What are a written value and a written constraint? | `readings.rt` | `specs/Readings.antt` |
 //! | Which value is too long under the tags of a reference, and is a finished type sound? | `long_values.rt`, `laws.rt` | `specs/LongValues.antt`, `specs/FinishedSound.antt` |
-//! | Which assigned lists are so long that none of their elements is kept? | `long_lists.rt`, `questions.rt`, `list_sizes.rt` | `specs/inside/LongLists.antt`, `Questions.antt` (private) |
 //! | By what are types found? | `index.rt` (`TypeIndex`), `build.rt` | `specs/Entries.antt`, `specs/Views.antt` |
 //! | How much may a schema hold? | `counting.rt` | `specs/Counting.antt` |
 //! | Is there one schema, one thing known, or one fault? | `laws.rt` | `specs/OneAnswer.antt` |
@@ -28,11 +27,8 @@ mod fault;
 mod finishing;
 mod index;
 pub mod laws;
-mod list_sizes;
-mod long_lists;
 mod long_values;
 mod progress;
-mod questions;
 mod readings;
 mod schema;
 mod texts;

@@ -1,24 +1,13 @@
-use Rattle.std.proofs.Common.{option_map, ap}
+use Rattle.std.proofs.Common.{option_map}
 use Rattle.std.proofs.lemmas.Result.{err_from_is_err_and}
 use Rattle.guard_model.specs.TypeView.{type_view}
-use Rattle.guard_syntax.specs.ModuleViews.{assignment_view, perhaps_value_view}
-use Rattle.guard_syntax.specs.Views as values
+use Rattle.guard_syntax.specs.ModuleViews.{assignment_view}
 use Rattle.guard_values.specs.Views.{shared_view}
 use Rattle.guard_constraints.specs.Views.{visible_in}
 use Rattle.guard_schema.specs.Faults.{named}
 use Rattle.guard_schema.specs.Views.{known_view}
-use Rattle.guard_schema.specs.Counting.{all_held}
-use Rattle.guard_schema.proofs.LongLists.{length_refuses}
 use Rattle.guard_schema.proofs.Built.OneDefinition.{limit_refuses, limit_kept}
 use Rattle.guard_schema.proofs.definitions.valued.Goals as goal
-
-pub returns-in_err-check_length-clause-built : goal.returns-in_err-check_length-clause-built
-returns-in_err-check_length-clause-built c =
-    let p = err_from_is_err_and c.from_residual.result c.from_residual.ensures.1 in
-    let k = known_view c.args.progress.now in
-    rw (p.1, p.2) (length_refuses k (visible_in c.args.scope) (assignment_view c.args.assignment.now)
-    (type_view c.args.ty.now) (values.value_view c.in-Some.tree.value) (ap perhaps_value_view c.in-Some.is)
-    (named c.in_err-check_length.field-0.0) (rw c.deref.ensures at (c.in_err-check_length.ensures (all_held k.built))))
 
 pub returns-in_err-held-clause-built : goal.returns-in_err-held-clause-built
 returns-in_err-held-clause-built c =

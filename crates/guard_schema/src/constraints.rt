@@ -27,6 +27,7 @@ use guard_model::{Cons, Kind, Rule, Site, Tag, Ty, are_same_tags};
 use guard_syntax::{BaseTree, ConsTree, OfConsTree, TypeTree};
 use guard_values::Scope;
 use std::alloc::{AllocError, Global};
+use std::sync::Arc;
 
 /// The type that is written so, whose parts are finished, with its constraints: those that it has before those after
 /// it, and these.
@@ -175,6 +176,6 @@ fn constraint_of_sizes(alloc: Global, site: Site, inner: Cons) -> Result<Cons, A
 {
     Ok(Cons {
         site,
-        rule: Rule::Size(Box::new(alloc, inner)?),
+        rule: Rule::Size(Arc::new(alloc, inner)?),
     })
 }

@@ -2,8 +2,7 @@
 //! limit.
 ghost use Rattle.std.specs.Prelude.{◌≡◌, ◌+◌, ◌∷◌, [], min, map, option_map};
 ghost use Rattle.guard_model.specs.TypeView as model;
-ghost use Rattle.guard_model.specs.ValueView.{value_view, field_view};
-ghost use Rattle.guard_model.specs.AbstractValue.{fields_of, items_of};
+ghost use Rattle.guard_model.specs.ValueView.{value_view, fields_view, items_view};
 ghost use Rattle.guard_schema.specs.Counting as counting;
 ghost use Rattle.guard_schema.specs.Pairs.{built_view};
 
@@ -164,12 +163,12 @@ fn value_nodes(so_far: usize, value: &Value) -> usize
 }
 
 #[cycle(values)]
-fn nodes_of_fields(before: usize, fields: &[Option<Value>]) -> usize
-    ensures { result ≡ min (before + counting.nodes_of_fields (fields_of (map field_view fields.now))) 100001 }
+fn nodes_of_fields(before: usize, fields: &[Arc<Option<Value>>]) -> usize
+    ensures { result ≡ min (before + counting.nodes_of_fields (fields_view fields.now)) 100001 }
 {
     let mut so_far = before.min(TOO_MUCH);
     for field in fields {
-        if let Some(value) = field {
+        if let Some(value) = field.as_ref() {
             so_far = value_nodes(so_far, value);
         }
     }
@@ -178,7 +177,7 @@ fn nodes_of_fields(before: usize, fields: &[Option<Value>]) -> usize
 
 #[cycle(values)]
 fn nodes_of_items(before: usize, items: &[Value]) -> usize
-    ensures { result ≡ min (before + counting.nodes_of_items (items_of (map value_view items.now))) 100001 }
+    ensures { result ≡ min (before + counting.nodes_of_items (items_view items.now)) 100001 }
 {
     let mut so_far = before.min(TOO_MUCH);
     for item in items {

@@ -159,7 +159,7 @@ fn check_tags(alloc: Global, site: Site, ty: &Ty) -> Result<(), SchemaFault>
     match find_clash(alloc, ty)? {
         None => Ok(()),
         Some(clash) => {
-            let common = common_to(ty, &clash)?;
+            let common = common_to(alloc, ty, &clash)?;
             Err(SchemaFault::Clash(site, clash, common))
         }
     }

@@ -4,6 +4,7 @@ ghost use Rattle.std.specs.Prelude.{slice_get, Some, IsTrue, IfOk, IfSome};
 ghost use Rattle.guard_der.specs.Fits.{fits};
 ghost use Rattle.guard_der.specs.Sound.{is_sound};
 ghost use Rattle.guard_model.specs.TypeView.{shared_type_view, type_view};
+ghost use Rattle.guard_values.specs.KeptLengths.{length_beside};
 ghost use Rattle.guard_values.specs.Views.{shared_view};
 ghost use Rattle.guard_names.specs.NamesView.{modules_of, order_of};
 ghost use Rattle.guard_syntax.specs.ModuleViews.{perhaps_value_view, assignment_view};
@@ -21,7 +22,7 @@ ghost use Rattle.guard_schema.specs.Counting.{held_by, most_held};
 ghost use Rattle.guard_schema.specs.Faults.{named};
 ghost use Rattle.guard_schema.specs.Known.{none_known};
 ghost use Rattle.guard_schema.specs.Outcomes.{Answers};
-ghost use Rattle.guard_schema.specs.Pairs.{built_view, AreBuilt};
+ghost use Rattle.guard_schema.specs.Pairs.{built_view, length_of, AreBuilt};
 ghost use Rattle.guard_schema.specs.Views.{built_in, definition_view, known_view};
 
 use crate::counting::held_by;
@@ -40,6 +41,15 @@ use std::sync::Arc;
 
 /// Constraints, values and contained types over all definitions.
 const MOST_HELD: usize = 100_000;
+
+/// The value that is assigned, where one is.
+#[derive(Drop)]
+pub struct Assigned {
+    pub value: Option<Arc<Value>>,
+    /// How many octets the contents of its encoding are; None without a value, and where they are more than an encoding
+    /// may have.
+    pub length: Option<usize>,
+}
 
 /// What all definitions denote, in their order.
 pub fn all_built<'m, 'a>(
@@ -71,6 +81,7 @@ fn built(alloc: Global, progress: &Progress, id: Id) -> Result<Definition, Schem
     ensures built { Answers definition_view named result (BuildsNumber (known_view progress.now) id) }
     ensures sound { IfOk result (λ d. IsTrue (is_sound (definition_view d).ty)) }
     ensures fits { IfOk result (λ d. IfSome (definition_view d).value (λ v. IsTrue (fits (definition_view d).ty v))) }
+    ensures length { IfOk result (λ d. d.length ≡ length_beside d.ty d.value) }
     ensures nodes { IfOk result (λ d. (d.nodes ≡ progress.now.nodes + tagging.nodes (definition_view d).ty)
         × (d.nodes ≤ tagging.most_nodes)) }
     ensures held { IfOk result (λ d. (d.held ≡ progress.now.held + held_by (definition_view d))
@@ -122,6 +133,7 @@ fn completed(
         progress.now.names.now progress.now.known id) (assignment_view assignment.now) (type_view tagged.ty)) }
     ensures sound { IfOk result (λ d. IsTrue (is_sound (definition_view d).ty)) }
     ensures fits { IfOk result (λ d. IfSome (definition_view d).value (λ v. IsTrue (fits (definition_view d).ty v))) }
+    ensures length { IfOk result (λ d. d.length ≡ length_beside d.ty d.value) }
     ensures nodes { IfOk result (λ d. (d.nodes ≡ progress.now.nodes + tagging.nodes (definition_view d).ty)
         × (d.nodes ≤ tagging.most_nodes)) }
     ensures held { IfOk result (λ d. (d.held ≡ progress.now.held + held_by (definition_view d))
@@ -140,11 +152,12 @@ fn completed(
     };
     let ty = finished(alloc, scope, &assignment.ty, bare)?;
     let found = valued(alloc, progress, scope, assignment, &ty)?;
-    let (value, held) = found;
+    let (assigned, held) = found;
     let shared = Arc::new(alloc, ty)?;
     Ok(Definition {
         ty: shared,
-        value,
+        value: assigned.value,
+        length: assigned.length,
         is_automatic,
         nodes,
         held,
@@ -172,17 +185,19 @@ fn valued(
     scope: Scope,
     assignment: &Assignment,
     ty: &Ty,
-) -> Result<(Option<Arc<Value>>, usize), SchemaFault>
+) -> Result<(Assigned, usize), SchemaFault>
     requires sound { IsTrue (is_sound (type_view ty.now)) }
     requires known { AreBuilt scope.known.now }
-    ensures built { Answers (λ r. built_view ty.now r.0) named result (HasValue (known_view progress.now)
+    ensures built { Answers (λ r. built_view ty.now r.0.value) named result (HasValue (known_view progress.now)
         (visible_in scope.entry) (assignment_view assignment.now) (type_view ty.now)) }
-    ensures fits { IfOk result (λ r. IfSome r.0 (λ v. IsTrue (fits (type_view ty.now) (shared_view v)))) }
-    ensures held { IfOk result (λ r. (r.1 ≡ progress.now.held + held_by (built_view ty.now r.0)) × (r.1 ≤ most_held)) }
+    ensures fits { IfOk result (λ r. IfSome r.0.value (λ v. IsTrue (fits (type_view ty.now) (shared_view v)))) }
+    ensures length { IfOk result (λ r. r.0.length ≡ length_of (type_view ty.now) r.0.value) }
+    ensures held { IfOk result
+        (λ r. (r.1 ≡ progress.now.held + held_by (built_view ty.now r.0.value)) × (r.1 ≤ most_held)) }
 {
-    let value = assigned(alloc, scope, ty, &assignment.value)?;
-    let held = within_limit(progress.held, assignment.site, ty, &value)?;
-    Ok((value, held))
+    let found = assigned(alloc, scope, ty, &assignment.value)?;
+    let held = within_limit(progress.held, assignment.site, ty, &found.value)?;
+    Ok((found, held))
 }
 
 /// The value of a value assignment.
@@ -191,16 +206,26 @@ fn assigned(
     scope: Scope,
     ty: &Ty,
     value: &Option<Box<ValueTree>>,
-) -> Result<Option<Arc<Value>>, SchemaFault>
+) -> Result<Assigned, SchemaFault>
     requires sound { IsTrue (is_sound (type_view ty.now)) }
     requires known { AreBuilt scope.known.now }
-    ensures read { Answers (option_map shared_view) named result
+    ensures read { Answers (λ a. option_map shared_view a.value) named result
         (Assigns (visible_in scope.entry) (type_view ty.now) (perhaps_value_view value.now)) }
-    ensures fits { IfOk result (λ o. IfSome o (λ v. IsTrue (fits (type_view ty.now) (shared_view v)))) }
+    ensures fits { IfOk result (λ a. IfSome a.value (λ v. IsTrue (fits (type_view ty.now) (shared_view v)))) }
+    ensures length { IfOk result (λ a. a.length ≡ length_of (type_view ty.now) a.value) }
 {
     match value {
-        None => Ok(None),
-        Some(tree) => Ok(Some(read_member(alloc, scope, ty, tree)?)),
+        None => Ok(Assigned {
+            value: None,
+            length: None,
+        }),
+        Some(tree) => {
+            let found = read_member(alloc, scope, ty, tree)?;
+            Ok(Assigned {
+                value: Some(found.value),
+                length: found.length,
+            })
+        }
     }
 }
 

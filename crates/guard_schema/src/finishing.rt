@@ -380,7 +380,10 @@ fn presence_of(
     match presence {
         PresenceTree::Mandatory => Ok(Presence::Mandatory),
         PresenceTree::Optional => Ok(Presence::Optional),
-        PresenceTree::Default(tree) => Ok(Presence::Default(read_member(alloc, scope, ty, tree)?)),
+        PresenceTree::Default(tree) => {
+            let found = read_member(alloc, scope, ty, tree)?;
+            Ok(Presence::Default(found.value))
+        }
     }
 }
 

@@ -4,6 +4,7 @@ ghost use Rattle.std.proofs.Props.{props};
 ghost use Rattle.guard_der.specs.Fits.{fits};
 ghost use Rattle.guard_der.specs.Sound.{is_sound};
 ghost use Rattle.guard_model.specs.TypeView.{shared_type_view};
+ghost use Rattle.guard_values.specs.KeptLengths.{length_beside};
 ghost use Rattle.guard_tagging.specs.Surroundings.{nodes_of_all};
 ghost use Rattle.guard_tagging.specs.Faults as tagging;
 ghost use Rattle.guard_schema.specs.Counting.{all_held, held_by, most_held};
@@ -23,6 +24,9 @@ pub struct Definition {
     pub ty: Arc<Ty>,
     /// The value of a value assignment.
     pub value: Option<Arc<Value>>,
+    /// How many octets the contents of its encoding are; None without a value, and where they are more than an encoding
+    /// may have.
+    pub length: Option<usize>,
     /// Whether the type's list of components or alternatives was tagged automatically, where there is one.
     pub is_automatic: bool,
     /// How many types this definition and those before it are made of.
@@ -39,7 +43,6 @@ pub struct Progress<'m, 'a> {
     pub automatic: Vec<bool>,
     pub nodes: usize,
     pub held: usize,
-    pub ghost even: { length known.values.items ≡ length known.types.items },
     pub ghost counted: { nodes ≡ nodes_of_all (map shared_type_view known.types.items) },
     pub ghost few: { nodes ≤ tagging.most_nodes },
     pub ghost holding: { held ≡ all_held (paired known.types.items known.values.items) },
@@ -61,12 +64,11 @@ impl<'m, 'a> Progress<'m, 'a> {
         ensures names { IfOk result (λ p. p.names.now ≡ names.now) }
         ensures none { IfOk result (λ p. (built_in p ≡ []) × (p.known.types.items ≡ []) × (p.automatic.items ≡ [])) }
     {
-        let types = Vec::with_capacity(alloc, count)?;
-        let values = Vec::with_capacity(alloc, count)?;
+        let known = Known::with_room(alloc, count)?;
         let automatic = Vec::with_capacity(alloc, count)?;
         Ok(Progress {
             names,
-            known: Known { types, values },
+            known,
             automatic,
             nodes: 0,
             held: 0,
@@ -92,6 +94,7 @@ impl<'m, 'a> Progress<'m, 'a> {
         requires sound { IsTrue (is_sound (definition_view definition).ty) }
         requires fits { IfSome (definition_view definition).value
             (λ v. IsTrue (fits (definition_view definition).ty v)) }
+        requires length { definition.length ≡ length_beside definition.ty definition.value }
         requires nodes { definition.nodes ≡ self.nodes + tagging.nodes (definition_view definition).ty }
         requires few { definition.nodes ≤ tagging.most_nodes }
         requires held { definition.held ≡ self.held + held_by (definition_view definition) }
@@ -108,16 +111,11 @@ impl<'m, 'a> Progress<'m, 'a> {
             mut automatic,
             ..
         } = self;
-        let Known {
-            mut types,
-            mut values,
-        } = known;
-        types.push(definition.ty)?;
-        values.push(definition.value)?;
+        let more = known.with(definition.ty, definition.value, definition.length)?;
         automatic.push(definition.is_automatic)?;
         Ok(Progress {
             names,
-            known: Known { types, values },
+            known: more,
             automatic,
             nodes: definition.nodes,
             held: definition.held,

@@ -1,11 +1,12 @@
 //! What a written value and a written constraint are.
-ghost use Rattle.std.specs.Prelude.{IsTrue, IfOk};
+ghost use Rattle.std.specs.Prelude.{◌≡◌, IsTrue, IfOk};
 ghost use Rattle.guard_der.specs.Fits.{fits};
 ghost use Rattle.guard_der.specs.Sound.{is_sound, is_proper_constraint};
 ghost use Rattle.guard_model.specs.TypeView.{type_view, constraint_view};
 ghost use Rattle.guard_syntax.specs.SetViews as sets;
 ghost use Rattle.guard_syntax.specs.Views as values;
-ghost use Rattle.guard_values.specs.Views.{shared_view};
+ghost use Rattle.guard_values.specs.KeptLengths.{contents_length};
+ghost use Rattle.guard_values.specs.Views.{known_value_view};
 ghost use Rattle.guard_constraints.specs.Views.{visible_in};
 ghost use Rattle.guard_schema.specs.Faults.{named};
 ghost use Rattle.guard_schema.specs.Pairs.{AreBuilt};
@@ -15,11 +16,10 @@ ghost use Rattle.guard_schema.specs.Readings.{ReadsValue, ReadsMember, ReadsCons
 use crate::fault::SchemaFault;
 use guard_constraints::constraint;
 use guard_eval::member_of;
-use guard_model::{Cons, Ty, Value};
+use guard_model::{Cons, Ty};
 use guard_syntax::{ConsTree, ValueTree};
-use guard_values::{Scope, shared_value};
+use guard_values::{KnownValue, Scope, shared_value};
 use std::alloc::Global;
-use std::sync::Arc;
 
 /// The value that is written, a member of its type: of a DEFAULT, or of a value assignment.
 pub fn read_member(
@@ -27,17 +27,18 @@ pub fn read_member(
     scope: Scope,
     ty: &Ty,
     tree: &ValueTree,
-) -> Result<Arc<Value>, SchemaFault>
+) -> Result<KnownValue, SchemaFault>
     requires sound { IsTrue (is_sound (type_view ty.now)) }
     requires known { AreBuilt scope.known.now }
-    ensures read { Answers shared_view named result
+    ensures read { Answers known_value_view named result
         (ReadsMember (visible_in scope.entry) (type_view ty.now) (values.value_view tree.now)) }
-    ensures fits { IfOk result (λ v. IsTrue (fits (type_view ty.now) (shared_view v))) }
+    ensures fits { IfOk result (λ k. IsTrue (fits (type_view ty.now) (known_value_view k))) }
+    ensures counted { IfOk result (λ k. k.length ≡ contents_length (type_view ty.now) (known_value_view k)) }
 {
-    let value = read_value(alloc, scope, ty, tree)?;
-    let is_member = member_of(alloc, ty, &value)?;
+    let found = read_value(alloc, scope, ty, tree)?;
+    let is_member = member_of(alloc, ty, &found.value)?;
     if is_member {
-        Ok(value)
+        Ok(found)
     } else {
         Err(SchemaFault::DefaultOutside(tree.site))
     }
@@ -49,12 +50,13 @@ pub fn read_value(
     scope: Scope,
     ty: &Ty,
     tree: &ValueTree,
-) -> Result<Arc<Value>, SchemaFault>
+) -> Result<KnownValue, SchemaFault>
     requires sound { IsTrue (is_sound (type_view ty.now)) }
     requires known { AreBuilt scope.known.now }
-    ensures read { Answers shared_view named result
+    ensures read { Answers known_value_view named result
         (ReadsValue (visible_in scope.entry) (type_view ty.now) (values.value_view tree.now)) }
-    ensures fits { IfOk result (λ v. IsTrue (fits (type_view ty.now) (shared_view v))) }
+    ensures fits { IfOk result (λ k. IsTrue (fits (type_view ty.now) (known_value_view k))) }
+    ensures counted { IfOk result (λ k. k.length ≡ contents_length (type_view ty.now) (known_value_view k)) }
 {
     let Scope { names, known, id } = scope;
     Ok(shared_value(alloc, names, known, id, ty, tree)?)

@@ -100,7 +100,7 @@ module _ (k : Known) (names : Visible) (a : WrittenAssignment) (t : AbstractType
 
 module _ (p : Progress) (id : ℕ) where
   same : types_of (built_in p) ≡ map shared_type_view p.known.types.items
-  same = types_same p.known.types.items p.known.values.items p.even
+  same = types_same p.known.types.items p.known.values.items p.known.even
 
   -- its tags under the types before it are those where what is built of them is known
   under_built : (d : Definition) (answer : Outcome AbstractType) (surroundings : Surroundings)

@@ -70,7 +70,7 @@ module _ (p : Progress) where
 
   types_found : (place : Option ℕ) → placed_type p.known place ≡ type_alone (built_at (built_in p) place)
   types_found None = refl
-  types_found (Some place) = sym (type_there p.known.types.items p.known.values.items place p.even)
+  types_found (Some place) = sym (type_there p.known.types.items p.known.values.items place p.known.even)
 
   pub visible_same : (id : ℕ) (d : Definition) → Some d ≡ slice_get (definitions (modules_of p.names.now)) id
       → visible_at p.names.now p.known id ≡ visible (known_view p) d.home.name

@@ -1,17 +1,20 @@
-use Rattle.std.proofs.Common.{ℕ, ◌+◌, IsTrue, Option, Some, None, option_map, inl, sym, ap, ◌∙◌}
+use Rattle.std.proofs.Common.{◌≡◌, ℕ, ◌+◌, refl, IsTrue, Option, Some, None, option_map, inl, sym, ap, ◌∙◌}
 use Rattle.std.specs.Prelude.{IfSome}
 use Rattle.std.specs.Global.{Global}
 use Rattle.std.specs.declared.sync.Arc.{Arc}
 use Rattle.std.proofs.lemmas.Result.{err_from_is_err_and}
 use Rattle.guard_der.specs.Fits.{fits}
 use Rattle.guard_model.specs.AbstractType.{AbstractType}
-use Rattle.guard_model.specs.TypeView.{type_view}
+use Rattle.guard_model.specs.TypeView.{type_view, shared_type_view}
+use Rattle.guard_model.specs.declared.ty.Ty.{Ty}
 use Rattle.guard_model.specs.declared.value.Value.{Value}
 use Rattle.guard_syntax.specs.ModuleViews.{assignment_view}
 use Rattle.guard_syntax.specs.TypeViews as written
+use Rattle.guard_values.specs.KeptLengths.{length_beside}
 use Rattle.guard_values.specs.Views.{shared_view}
 use Rattle.guard_constraints.specs.Views.{visible_at}
 use Rattle.guard_schema.specs.Faults.{named}
+use Rattle.guard_schema.specs.Pairs.{length_of}
 use Rattle.guard_schema.specs.Views.{known_view}
 use Rattle.guard_schema.proofs.Filled.ByTrees.{type_filled}
 use Rattle.guard_schema.proofs.Built.Visible.{known_built}
@@ -59,7 +62,17 @@ value_fits t (Some v) h = h
 
 pub returns-clause-fits : goal.returns-clause-fits
 returns-clause-fits c = rw c.in_ok-shared.ensures.ok
-    (value_fits (type_view c.in_ok-ty.ty) c.in_ok-found.found.0 c.in_ok-found.ensures.fits)
+    (value_fits (type_view c.in_ok-ty.ty) c.in_ok-found.found.0.value c.in_ok-found.ensures.fits)
+
+length_kept : (t : Arc Ty Global) (v : Option (Arc Value Global)) → length_of (shared_type_view t) v ≡ length_beside t v
+length_kept t None = refl
+length_kept t (Some v) = refl
+
+pub returns-clause-length : goal.returns-clause-length
+returns-clause-length c =
+    let v = c.in_ok-found.found.0.value in
+    c.in_ok-found.ensures.length ∙ sym (ap (λ (t : Ty). length_of (type_view t) v) c.in_ok-shared.ensures.ok)
+    ∙ length_kept c.in_ok-shared.shared v
 
 pub returns-clause-held : goal.returns-clause-held
 returns-clause-held c = rw c.in_ok-shared.ensures.ok c.in_ok-found.ensures.held

@@ -14,14 +14,14 @@ returns-in_err-held-clause-built c =
     let p = err_from_is_err_and c.from_residual-in_err-held.result c.from_residual-in_err-held.ensures.1 in
     let progress = c.args.progress.now in
     rw (p.1, p.2) (limit_refuses (known_view progress) (visible_in c.args.scope) (assignment_view c.args.assignment.now)
-    (type_view c.args.ty.now) (option_map shared_view c.in_ok-value.value)
-    c.in_ok-value.ensures.read progress.held progress.holding
+    (type_view c.args.ty.now) (option_map shared_view c.in_ok-found.found.value)
+    c.in_ok-found.ensures.read progress.held progress.holding
     (named c.in_err-held.field-0.0) c.in_err-held.ensures.limit)
 
 pub returns-clause-built : goal.returns-clause-built
 returns-clause-built c =
     let progress = c.args.progress.now in
     limit_kept (known_view progress) (visible_in c.args.scope) (assignment_view c.args.assignment.now)
-    (type_view c.args.ty.now) (option_map shared_view c.in_ok-value.value)
-    c.in_ok-value.ensures.read progress.held progress.holding
+    (type_view c.args.ty.now) (option_map shared_view c.in_ok-found.found.value)
+    c.in_ok-found.ensures.read progress.held progress.holding
     c.in_ok-held.ensures.limit

@@ -1,9 +1,9 @@
-use Rattle.std.proofs.Common.{◌≡◌, ◌∷◌, [], ◌++◌, ◌+◌, List, length, map, sym, ap, ◌∙◌, IsTrue}
+use Rattle.std.proofs.Common.{◌≡◌, ◌∷◌, [], ◌++◌, ◌+◌, List, map, sym, ap, ◌∙◌, IsTrue}
 use Rattle.std.specs.Global.{Global}
 use Rattle.std.specs.declared.sync.Arc.{Arc}
 use Rattle.std.specs.Arc.{arc_value}
 use Rattle.std.specs.Prelude.{IfSome}
-use Rattle.std.proofs.lemmas.List.{length-append, map-append}
+use Rattle.std.proofs.lemmas.List.{map-append}
 use Rattle.std.proofs.lemmas.List.Elements.{All-same, All-append, All-cons, All-nil}
 use Rattle.guard_der.specs.Fits.{fits}
 use Rattle.guard_der.specs.Sound.{is_sound}
@@ -25,14 +25,12 @@ invariant_of-result c =
     let t = c.args.definition.ty in
     let v = c.args.definition.value in
     let b = built_view (arc_value t) v in
-    let types = c.in_ok-push.ensures.items in
-    let values = c.in_ok-push-2.ensures.items in
-    let all : paired c.push.new.self.items c.push-2.new.self.items ≡ paired ts vs ++ b ∷ [] =
-    ap (λ (xs : List (Arc Ty Global)). paired xs c.push-2.new.self.items) types ∙ ap (paired (ts ++ t ∷ [])) values
-    ∙ paired_more ts vs t v c.args.self.even in
+    let types = c.in_ok-more.ensures.types in
+    let more = c.in_ok-more.more in
+    let all : paired more.types.items more.values.items ≡ paired ts vs ++ b ∷ [] =
+    ap (λ (xs : List (Arc Ty Global)). paired xs more.values.items) types
+    ∙ ap (paired (ts ++ t ∷ [])) c.in_ok-more.ensures.values ∙ paired_more ts vs t v c.args.self.known.even in
     record {
-      even = ap length values ∙ length-append vs (v ∷ []) ∙ ap (λ n. n + 1) c.args.self.even
-          ∙ sym (ap length types ∙ length-append ts (t ∷ []));
       counted = c.requires.nodes ∙ ap (λ n. n + nodes (shared_type_view t)) c.args.self.counted
           ∙ sym (ap (λ (xs : List (Arc Ty Global)). nodes_of_all (map shared_type_view xs)) types
           ∙ ap nodes_of_all (map-append shared_type_view ts (t ∷ [])) ∙ nodes_more (map shared_type_view ts) (shared_type_view t));
@@ -54,6 +52,7 @@ invariant_of-result c =
 pub returns-clause-more : goal.returns-clause-more
 returns-clause-more c =
     let ts = c.args.self.known.types.items in
-    ap (λ (xs : List (Arc Ty Global)). paired xs c.push-2.new.self.items) c.in_ok-push.ensures.items
-    ∙ ap (paired (ts ++ c.args.definition.ty ∷ [])) c.in_ok-push-2.ensures.items
-    ∙ paired_more ts c.args.self.known.values.items c.args.definition.ty c.args.definition.value c.args.self.even
+    ap (λ (xs : List (Arc Ty Global)). paired xs c.in_ok-more.more.values.items) c.in_ok-more.ensures.types
+    ∙ ap (paired (ts ++ c.args.definition.ty ∷ [])) c.in_ok-more.ensures.values
+    ∙ paired_more ts c.args.self.known.values.items c.args.definition.ty c.args.definition.value
+    c.args.self.known.even

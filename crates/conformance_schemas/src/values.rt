@@ -6,7 +6,8 @@ ghost use Rattle.guard_model.specs.TypeView.{type_view};
 ghost use Rattle.guard_model.specs.ValueView.{value_view};
 ghost use Rattle.guard_der.specs.Fits.{fits};
 ghost use Rattle.guard_der.specs.Sound.{is_sound};
-ghost use Rattle.guard_values.specs.Views.{AreKnownFitting};
+ghost use Rattle.guard_values.specs.KeptLengths.{contents_length};
+ghost use Rattle.guard_values.specs.Views.{known_value_view, AreKnownFitting};
 
 use crate::encoding::decodes_to;
 use conformance_rows::{Layer, in_hexadecimal, not_read, text_of, unknown};
@@ -16,7 +17,7 @@ use guard_model::{Ty, Value};
 use guard_names::{Id, Names};
 use guard_schema::Schema;
 use guard_syntax::{Assignment, Module, ValueTree};
-use guard_values::{Known, ValueFault, shared_value, value};
+use guard_values::{Known, KnownValue, ValueFault, shared_value, value};
 use std::alloc::{AllocError, Global};
 use std::sync::Arc;
 
@@ -39,6 +40,14 @@ pub struct ValuesRows {
     counted: bool,
     /// Whether the row asks `value`; else it asks `shared_value`, as schemas do.
     unshared: bool,
+}
+
+/// What comes of a definition.
+enum Next {
+    /// The row goes on: what is known now.
+    Known(Known),
+    /// The answer to the row.
+    Answer(String),
 }
 
 impl ValuesRows {
@@ -72,14 +81,12 @@ impl ValuesRows {
 
     /// Values in their order, up to the one that is asked for.
     fn built(&self, alloc: Global, names: &Names, types: &Schema) -> Result<String, AllocError> {
-        let mut known = Known {
-            types: Vec::new(alloc),
-            values: Vec::new(alloc),
-        };
+        let mut known = Known::with_room(alloc, 0)?;
         for id in names.order() {
-            if let Some(answer) = self.next(alloc, names, types, &mut known, *id)? {
-                return Ok(answer);
-            }
+            known = match self.next(alloc, names, types, known, *id)? {
+                Next::Known(known) => known,
+                Next::Answer(answer) => return Ok(answer),
+            };
         }
         String::from_str(alloc, "no value")
     }
@@ -91,28 +98,52 @@ impl ValuesRows {
         alloc: Global,
         names: &Names,
         types: &Schema,
-        known: &mut Known,
+        known: Known,
         id: Id,
-    ) -> Result<Option<String>, AllocError> {
+    ) -> Result<Next, AllocError> {
         let Some((module, assignment)) = names.home(id) else {
-            return Ok(None);
+            return Ok(Next::Known(known));
         };
         let Some(tree) = &assignment.value else {
-            return Ok(None);
+            return Ok(Next::Known(known));
         };
         let name = type_name(alloc, module, assignment)?;
         let Some(ty) = types.ty("M", &name) else {
-            return Ok(Some(String::from_str(alloc, "no type")?));
+            return answered(alloc, "no type");
         };
-        let unshared = self.unshared && assignment.name == "v".as_bytes();
-        let found = denoted(alloc, names, known, id, ty, tree, unshared);
         if assignment.name == "v".as_bytes() {
-            return Ok(Some(self.shown(alloc, ty, found)?));
+            let found = self.asked(alloc, names, &known, id, ty, tree);
+            return Ok(Next::Answer(self.shown(alloc, ty, found)?));
         }
-        match found {
-            Some(Ok(value)) => keep(alloc, known, ty, value),
-            _ => Ok(Some(String::from_str(alloc, "a visible name has no value")?)),
+        match denoted(alloc, names, &known, id, ty, tree) {
+            Some(Ok(value)) => Ok(Next::Known(kept(alloc, known, ty, value)?)),
+            _ => answered(alloc, "a visible name has no value"),
         }
+    }
+
+    /// What `shared_value` answers, or `value` if the row asks that, where their premises hold.
+    fn asked(
+        &self,
+        alloc: Global,
+        names: &Names,
+        known: &Known,
+        id: Id,
+        ty: &Ty,
+        tree: &ValueTree,
+    ) -> Option<Result<Arc<Value>, ValueFault>>
+        ensures sound { IfSome result (λ r. IsTrue (is_sound (type_view ty.now))) }
+        ensures fits { IfSome result (λ r. IfOk r (λ v. IsTrue (fits (type_view ty.now) (value_view (arc_value v))))) }
+    {
+        if !self.unshared {
+            return match denoted(alloc, names, known, id, ty, tree)? {
+                Ok(found) => Some(Ok(found.value)),
+                Err(fault) => Some(Err(fault)),
+            };
+        }
+        if !is_lawful(alloc, ty) || !are_fitting(alloc, known) {
+            return None;
+        }
+        Some(own_value(alloc, names, known, id, ty, tree))
     }
 
     /// The octets of the value, or why there is none.
@@ -152,19 +183,18 @@ impl ValuesRows {
     }
 }
 
-/// Keeps a value and its type with those that are known.
-fn keep(
-    alloc: Global,
-    known: &mut Known,
-    ty: &Ty,
-    value: Arc<Value>,
-) -> Result<Option<String>, AllocError> {
+/// What is known, with one more value and its type.
+fn kept(alloc: Global, known: Known, ty: &Ty, value: KnownValue) -> Result<Known, AllocError>
+    requires counted { value.length ≡ contents_length (type_view ty.now) (known_value_view value) }
+{
     let Ok(ty) = ty.copy(alloc) else {
         return Err(AllocError);
     };
-    known.types.push(Arc::new(alloc, ty)?)?;
-    known.values.push(Some(value))?;
-    Ok(None)
+    known.with(Arc::new(alloc, ty)?, Some(value.value), value.length)
+}
+
+fn answered(alloc: Global, text: &str) -> Result<Next, AllocError> {
+    Ok(Next::Answer(String::from_str(alloc, text)?))
 }
 
 impl AsksNames for ValuesRows {
@@ -209,7 +239,7 @@ fn type_name(
     }
 }
 
-/// What `shared_value` answers, or `value`, where their premises hold.
+/// What `shared_value` answers, where its premises hold.
 fn denoted(
     alloc: Global,
     names: &Names,
@@ -217,16 +247,14 @@ fn denoted(
     id: Id,
     ty: &Ty,
     tree: &ValueTree,
-    unshared: bool,
-) -> Option<Result<Arc<Value>, ValueFault>>
+) -> Option<Result<KnownValue, ValueFault>>
     ensures sound { IfSome result (λ r. IsTrue (is_sound (type_view ty.now))) }
-    ensures fits { IfSome result (λ r. IfOk r (λ v. IsTrue (fits (type_view ty.now) (value_view (arc_value v))))) }
+    ensures fits { IfSome result (λ r. IfOk r (λ v. IsTrue (fits (type_view ty.now) (known_value_view v)))) }
+    ensures counted { IfSome result (λ r. IfOk r (λ v.
+        v.length ≡ contents_length (type_view ty.now) (known_value_view v))) }
 {
     if !is_lawful(alloc, ty) || !are_fitting(alloc, known) {
         return None;
-    }
-    if unshared {
-        return Some(own_value(alloc, names, known, id, ty, tree));
     }
     Some(shared_value(alloc, names, known, id, ty, tree))
 }

@@ -113,14 +113,11 @@ fn assigned(alloc: Global, names: &Names, ty: &Ty) -> Result<Arc<Value>, TextsFa
     let Some((_, assignment)) = names.home(id) else {
         return Err(no_value(alloc));
     };
-    let known = Known {
-        types: Vec::new(alloc),
-        values: Vec::new(alloc),
-    };
+    let known = Known::with_room(alloc, 0)?;
     match &assignment.value {
         Some(tree) if are_fitting(alloc, &known) => {
             match shared_value(alloc, names, &known, id, ty, tree) {
-                Ok(value) => Ok(value),
+                Ok(found) => Ok(found.value),
                 Err(fault) => Err(told(format!(in alloc; "{fault}"))),
             }
         }

@@ -47,7 +47,7 @@ impl Written for Value {
     }
 
     fn is_copied(&self, alloc: Global) -> Result<bool, AllocError> {
-        let Ok(copy) = self.copy(alloc) else {
+        let Ok(copy) = self.copy() else {
             return Err(AllocError);
         };
         let copied = format!(in alloc; "{copy:?}")?;

@@ -23,6 +23,7 @@ use itoa::Buffer;
 use json::{Token, Writer};
 use std::alloc::Global;
 use std::str::from_utf8;
+use std::sync::Arc;
 
 /// The text of a value of the type, in ASCII alone.
 pub fn value_json(alloc: Global, ty: &Ty, value: &Value) -> Result<Vec<u8>, OutOfMemory>
@@ -106,7 +107,7 @@ fn add_fields(
     alloc: Global,
     writer: &mut Writer,
     ty: Option<&Ty>,
-    fields: &[Option<Value>],
+    fields: &[Arc<Option<Value>>],
 ) -> Result<(), OutOfMemory>
     ensures tokens { OnOk result (writer.new.tokens ≡ writer.old.tokens
         ++ begin_object ∷ (members_json (option_map (λ ty. type_view ty.now) ty.entry) 0 (fields_view fields.now)
@@ -115,7 +116,7 @@ fn add_fields(
 {
     put(writer, Token::BeginObject)?;
     for (place, field) in fields.iter().enumerate() {
-        if let Some(value) = field {
+        if let Some(value) = field.as_ref() {
             add_member(alloc, writer, ty, place, value)?;
         }
     }

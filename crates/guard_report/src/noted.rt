@@ -19,6 +19,7 @@ use super::values::{add_part_name, add_value};
 use super::words::{add, add_number};
 use guard_model::{OutOfMemory, Ty, Value};
 use std::alloc::Global;
+use std::sync::Arc;
 
 /// Where a value is in the text, and where in the message.
 #[derive(Clone, Copy)]
@@ -81,7 +82,7 @@ fn add_field_lines(
     octets: &[u8],
     spot: Spot,
     ty: Option<&Ty>,
-    fields: &[Option<Value>],
+    fields: &[Arc<Option<Value>>],
 ) -> Result<(), OutOfMemory>
     ensures { let t = option_map (λ ty. type_view ty.now) ty.entry in
         OnOk result (text.new.items ≡ text.old.items ++ (codes "{" ++ lines_from spot.level true (note spot.line)
@@ -94,7 +95,7 @@ fn add_field_lines(
     let mut end = LineEnd::Note(spot.line);
     let mut is_first = true;
     for (place, field) in fields.iter().enumerate() {
-        if let Some(value) = field {
+        if let Some(value) = field.as_ref() {
             let at = component_place(octets, ty, place, value, next);
             add_before_line(text, level, is_first, end)?;
             let part = Spot {
@@ -200,11 +201,11 @@ fn is_on_one_line(value: &Value) -> bool
     }
 }
 
-fn are_all_absent(fields: &[Option<Value>]) -> bool
+fn are_all_absent(fields: &[Arc<Option<Value>>]) -> bool
     ensures { result ≡ none_there (fields_view fields.now) }
 {
     for field in fields {
-        if let Some(_) = field {
+        if let Some(_) = field.as_ref() {
             return false;
         }
     }

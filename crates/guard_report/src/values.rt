@@ -19,6 +19,7 @@ use super::words::{add, add_name, add_number};
 use guard_model::{CharKind, Kind, Named, OutOfMemory, Ty, Value};
 use itoa::Buffer;
 use std::alloc::Global;
+use std::sync::Arc;
 
 /// Appends the value in ASN.1 value notation, with the names that its type has, where one is known.
 #[cycle(values)]
@@ -56,7 +57,7 @@ fn add_fields(
     text: &mut Vec<u8>,
     layout: Layout,
     ty: Option<&Ty>,
-    fields: &[Option<Value>],
+    fields: &[Arc<Option<Value>>],
 ) -> Result<(), OutOfMemory>
     ensures { OnOk result (text.new.items ≡ text.old.items ++ in_braces layout
         (field_texts (inside layout) (option_map (λ ty. type_view ty.now) ty.entry) 0 (fields_view fields.now))) }
@@ -64,7 +65,7 @@ fn add_fields(
     add(text, b"{")?;
     let mut is_first = true;
     for (place, field) in fields.iter().enumerate() {
-        if let Some(value) = field {
+        if let Some(value) = field.as_ref() {
             add_before_part(text, layout.inside(), is_first)?;
             add_part(alloc, text, layout.inside(), ty, place, b" ", value)?;
             is_first = false;

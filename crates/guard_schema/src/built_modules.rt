@@ -80,6 +80,6 @@ impl<'m, 'a> BuiltModules<'m, 'a> {
     {
         let known = &self.schema.known;
         let shared = shared_value_in(alloc, &self.names, known, home.as_bytes(), ty, tree)?;
-        Ok(shared.copy()?)
+        Ok(shared.value.copy()?)
     }
 }

@@ -44,7 +44,7 @@ const MOST_HELD: usize = 100_000;
 
 /// The value that is assigned, where one is.
 #[derive(Drop)]
-pub struct Assigned {
+pub struct AssignedValue {
     pub value: Option<Arc<Value>>,
     /// How many octets the contents of its encoding are; None without a value, and where they are more than an encoding
     /// may have.
@@ -185,7 +185,7 @@ fn valued(
     scope: Scope,
     assignment: &Assignment,
     ty: &Ty,
-) -> Result<(Assigned, usize), SchemaFault>
+) -> Result<(AssignedValue, usize), SchemaFault>
     requires sound { IsTrue (is_sound (type_view ty.now)) }
     requires known { AreBuilt scope.known.now }
     ensures built { Answers (λ r. built_view ty.now r.0.value) named result (HasValue (known_view progress.now)
@@ -206,7 +206,7 @@ fn assigned(
     scope: Scope,
     ty: &Ty,
     value: &Option<Box<ValueTree>>,
-) -> Result<Assigned, SchemaFault>
+) -> Result<AssignedValue, SchemaFault>
     requires sound { IsTrue (is_sound (type_view ty.now)) }
     requires known { AreBuilt scope.known.now }
     ensures read { Answers (λ a. option_map shared_view a.value) named result
@@ -215,13 +215,13 @@ fn assigned(
     ensures length { IfOk result (λ a. a.length ≡ length_of (type_view ty.now) a.value) }
 {
     match value {
-        None => Ok(Assigned {
+        None => Ok(AssignedValue {
             value: None,
             length: None,
         }),
         Some(tree) => {
             let found = read_member(alloc, scope, ty, tree)?;
-            Ok(Assigned {
+            Ok(AssignedValue {
                 value: Some(found.value),
                 length: found.length,
             })

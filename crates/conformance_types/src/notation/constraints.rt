@@ -46,7 +46,8 @@ impl Words<'_> {
         let first = self.element(alloc, kind, depth)?;
         if self.take("EXCEPT") {
             let second = self.element(alloc, kind, depth)?;
-            return boxed(alloc, site, Rule::Minus(first, second));
+            let rule = Rule::Minus(shared(alloc, first)?, shared(alloc, second)?);
+            return boxed(alloc, site, rule);
         }
         if self.is_next("|") {
             let all = self.operands(alloc, kind, "|", first, depth)?;
@@ -68,7 +69,7 @@ impl Words<'_> {
         operator: &str,
         first: Box<Cons>,
         depth: u32,
-    ) -> Result<Vec<Cons>, Unread> {
+    ) -> Result<ArcSlice<Cons>, Unread> {
         let mut operands = Vec::new(alloc);
         operands.push(Box::into_inner(first))?;
         for _ in 0..u32::MAX {
@@ -78,7 +79,7 @@ impl Words<'_> {
             let operand = self.element(alloc, kind, depth)?;
             operands.push(Box::into_inner(operand))?;
         }
-        Ok(operands)
+        Ok(ArcSlice::from_vec(operands)?)
     }
 
     #[cycle(notation)]
@@ -99,16 +100,19 @@ impl Words<'_> {
         }
         if self.take("SIZE") {
             let size = Kind::Int(NamedList::shared(alloc, Vec::new(alloc))?);
-            return Ok(Rule::Size(self.constraint(alloc, &size, depth)?));
+            let constraint = self.constraint(alloc, &size, depth)?;
+            return Ok(Rule::Size(shared(alloc, constraint)?));
         }
         if self.take("ALL EXCEPT") {
-            return Ok(Rule::Other(self.element(alloc, kind, below(depth)?)?));
+            let constraint = self.element(alloc, kind, below(depth)?)?;
+            return Ok(Rule::Other(shared(alloc, constraint)?));
         }
         if self.take("WITH COMPONENTS") {
             return self.parts(alloc, components_of(kind), depth);
         }
         if self.take("WITH COMPONENT") {
-            return Ok(Rule::Each(self.constraint(alloc, element_of(kind), depth)?));
+            let constraint = self.constraint(alloc, element_of(kind), depth)?;
+            return Ok(Rule::Each(shared(alloc, constraint)?));
         }
         self.value_or_range(alloc, kind)
     }
@@ -122,7 +126,7 @@ impl Words<'_> {
         let mut parts = Vec::new(alloc);
         for _ in 0..u32::MAX {
             if self.take("}") {
-                return Ok(Rule::Parts(partial, parts));
+                return Ok(Rule::Parts(partial, ArcSlice::from_vec(parts)?));
             }
             self.part(alloc, comps, &mut parts, depth)?;
             self.take(",");
@@ -229,6 +233,10 @@ impl Words<'_> {
 
 fn boxed(alloc: Global, site: Site, rule: Rule) -> Result<Box<Cons>, Unread> {
     Ok(Box::new(alloc, Cons { site, rule })?)
+}
+
+fn shared(alloc: Global, constraint: Box<Cons>) -> Result<Arc<Cons>, Unread> {
+    Ok(Arc::new(alloc, Box::into_inner(constraint))?)
 }
 
 fn limit_of(word: &str, out: bool) -> Option<Limit> {

@@ -6,7 +6,7 @@ use crate::notation::words::Words;
 use guard_model::{Bits, Comp, Kind, Named, Presence, Ty, Value};
 use std::alloc::Global;
 use std::str;
-use std::sync::{ArcSlice, ArcStr};
+use std::sync::{Arc, ArcSlice, ArcStr};
 
 /// The value that a text writes in the notation of a type. It need not fit the type.
 pub fn value_of(alloc: Global, ty: &Ty, text: &str) -> Result<Box<Value>, Unread> {
@@ -42,21 +42,25 @@ impl Words<'_> {
 
     /// Components in their written order, in braces.
     #[cycle(values)]
-    fn fields(&mut self, alloc: Global, comps: &[Comp]) -> Result<Vec<Option<Value>>, Unread> {
+    fn fields(
+        &mut self,
+        alloc: Global,
+        comps: &[Comp],
+    ) -> Result<ArcSlice<Arc<Option<Value>>>, Unread> {
         let mut fields = Vec::new(alloc);
         self.expect("{")?;
         for comp in comps {
             let field = self.field(alloc, comp)?;
-            fields.push(field)?;
+            fields.push(Arc::new(alloc, field)?)?;
         }
         self.expect("}")?;
-        Ok(fields)
+        Ok(ArcSlice::from_vec(fields)?)
     }
 
     #[cycle(values)]
     fn field(&mut self, alloc: Global, comp: &Comp) -> Result<Option<Value>, Unread> {
         if self.front() != comp.name.as_str() {
-            return default_of(alloc, &comp.presence);
+            return default_of(&comp.presence);
         }
         self.word();
         let field = if self.take("ABSENT") {
@@ -70,12 +74,12 @@ impl Words<'_> {
 
     /// Elements in braces.
     #[cycle(values)]
-    fn items(&mut self, alloc: Global, kind: &Kind) -> Result<Vec<Value>, Unread> {
+    fn items(&mut self, alloc: Global, kind: &Kind) -> Result<ArcSlice<Value>, Unread> {
         let mut items = Vec::new(alloc);
         self.expect("{")?;
         for _ in 0..u32::MAX {
             if self.take("}") {
-                return Ok(items);
+                return Ok(ArcSlice::from_vec(items)?);
             }
             items.push(Box::into_inner(self.value(alloc, kind)?))?;
             self.take(",");
@@ -92,6 +96,7 @@ impl Words<'_> {
             if alternative.name.as_str() == name {
                 let place = u8::try_from(place)?;
                 let value = self.value(alloc, &alternative.ty.kind)?;
+                let value = Arc::new(alloc, Box::into_inner(value))?;
                 return Ok(Value::Chosen(place, value));
             }
         }
@@ -192,9 +197,9 @@ fn number_of(items: &[Named], name: &str) -> Result<i128, Unread> {
 }
 
 /// What a component that isn't written has as its value.
-fn default_of(alloc: Global, presence: &Presence) -> Result<Option<Value>, Unread> {
+fn default_of(presence: &Presence) -> Result<Option<Value>, Unread> {
     match presence {
-        Presence::Default(value) => Ok(Some(value.copy(alloc)?)),
+        Presence::Default(value) => Ok(Some(value.copy()?)),
         _ => Ok(None),
     }
 }

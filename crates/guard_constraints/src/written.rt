@@ -36,6 +36,7 @@ use guard_syntax::{
 use guard_values::{Known, Scope};
 use std::alloc::{AllocError, Global};
 use std::collections::BTreeSet;
+use std::sync::{Arc, ArcSlice};
 
 /// The constraint that a tree denotes on a type (X.680 49 to 51), written in the definition `id`: names mean what they
 /// mean in the module of that definition, as far as `known` has it.
@@ -129,7 +130,7 @@ pub enum Join {
 fn all_except(alloc: Global, site: Site, other: Cons) -> Result<Cons, AllocError>
     ensures { IfOk result (λ c. constraint_view c ≡ abstract.at site (abstract.all_except (constraint_view other))) }
 {
-    let other = Box::new(alloc, other)?;
+    let other = Arc::new(alloc, other)?;
     Ok(Cons {
         site,
         rule: Rule::Other(other),
@@ -152,7 +153,7 @@ fn joined(
         return Ok(first);
     }
     let all = with_first(alloc, first, others)?;
-    Ok(of_all(join, site, all))
+    of_all(join, site, all)
 }
 
 fn with_first(alloc: Global, first: Cons, others: Vec<Cons>) -> Result<Vec<Cons>, AllocError>
@@ -165,19 +166,20 @@ fn with_first(alloc: Global, first: Cons, others: Vec<Cons>) -> Result<Vec<Cons>
     Ok(all)
 }
 
-fn of_all(join: Join, site: Site, all: Vec<Cons>) -> Cons
-    ensures { constraint_view result
-        ≡ abstract.at site (reading.joined_by join (constraints_of (map constraint_view all.items))) }
+fn of_all(join: Join, site: Site, all: Vec<Cons>) -> Result<Cons, AllocError>
+    ensures { IfOk result (λ c. constraint_view c
+        ≡ abstract.at site (reading.joined_by join (constraints_of (map constraint_view all.items)))) }
 {
+    let all = ArcSlice::from_vec(all)?;
     match join {
-        Join::Union => Cons {
+        Join::Union => Ok(Cons {
             site,
             rule: Rule::Any(all),
-        },
-        Join::Intersection => Cons {
+        }),
+        Join::Intersection => Ok(Cons {
             site,
             rule: Rule::Both(all),
-        },
+        }),
     }
 }
 
@@ -284,8 +286,8 @@ fn except(alloc: Global, site: Site, all: Cons, less: Cons) -> Result<Cons, Allo
     ensures { IfOk result (λ c. constraint_view c
         ≡ abstract.at site (abstract.except (constraint_view all) (constraint_view less))) }
 {
-    let all = Box::new(alloc, all)?;
-    let less = Box::new(alloc, less)?;
+    let all = Arc::new(alloc, all)?;
+    let less = Arc::new(alloc, less)?;
     Ok(Cons {
         site,
         rule: Rule::Minus(all, less),
@@ -373,7 +375,7 @@ fn of_size(alloc: Global, site: Site, size: Cons, ty: &Ty) -> Result<Cons, ConsF
     if ty.kind.has_named_bits() {
         return Err(ConsFault::SizeOnNamedBits(site));
     }
-    let size = Box::new(alloc, size)?;
+    let size = Arc::new(alloc, size)?;
     Ok(Cons {
         site,
         rule: Rule::Size(size),
@@ -396,7 +398,7 @@ fn each(
         site (trees.with_component (views.constraint_view inner.now))) }
 {
     let element = element_type(ty, site)?;
-    let each = Box::new(alloc, on_type(alloc, scope, inner, element)?)?;
+    let each = Arc::new(alloc, on_type(alloc, scope, inner, element)?)?;
     Ok(Cons {
         site,
         rule: Rule::Each(each),
@@ -423,17 +425,18 @@ fn parts(
 {
     check_parts(listed, ty, site)?;
     let parts = each_part(alloc, scope, listed, ty)?;
-    Ok(with_components(site, partial, parts))
+    Ok(with_components(site, partial, parts)?)
 }
 
-fn with_components(site: Site, partial: bool, parts: Vec<Part>) -> Cons
-    ensures { constraint_view result
-        ≡ abstract.at site (abstract.with_components partial (parts_of (map part_view parts.items))) }
+fn with_components(site: Site, partial: bool, parts: Vec<Part>) -> Result<Cons, AllocError>
+    ensures { IfOk result (λ c. constraint_view c
+        ≡ abstract.at site (abstract.with_components partial (parts_of (map part_view parts.items)))) }
 {
-    Cons {
+    let parts = ArcSlice::from_vec(parts)?;
+    Ok(Cons {
         site,
         rule: Rule::Parts(partial, parts),
-    }
+    })
 }
 
 #[cycle(sets)]

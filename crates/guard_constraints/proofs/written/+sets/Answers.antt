@@ -149,7 +149,7 @@ parts-returns-in_err-parts t c =
 pub parts-returns : goal.parts-returns
 parts-returns t c =
     let e = parts_made (visible_in c.args.scope) (type_view c.args.ty.now) c.args.site c.args.partial c.args.listed.now (map part_view c.in_ok-parts.parts.items) c.in_ok-check_parts.ensures c.in_ok-parts.ensures in
-    rw (e, c.with_components.ensures) refl
+    rw (e, c.in_ok-with_components.ensures) refl
 
 pub each_part-loop-one-preserved : goal.each_part-loop-one-preserved
 each_part-loop-one-preserved t c =

@@ -28,5 +28,6 @@ pub fn written_value(
         (read_value (meaning_of scope.entry) (type_view ty.now) (trees.value_view tree.now)) }
 {
     let Scope { names, known, id } = scope;
-    Ok(shared_value(alloc, names, known, id, ty, tree)?)
+    let read = shared_value(alloc, names, known, id, ty, tree)?;
+    Ok(read.value)
 }

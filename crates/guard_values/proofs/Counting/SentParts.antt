@@ -95,7 +95,7 @@ pub has_view : (comps : List Comp) (fields : List Slot) → length fields ≡ le
 has_view [] [] e = tt
 has_view [] (f ∷ fields) e = absurd (omega (arith, e))
 has_view (c ∷ comps) [] e = absurd (omega (arith, e))
-has_view (c ∷ comps) (f ∷ fields) e = one_more (slot_view f) where
-  one_more : (o : Option AbstractValue) → HasFields (in_view (c ∷ comps)) (fields_of (o ∷ map slot_view fields))
-  one_more None = has_view comps fields (omega (arith, e))
-  one_more (Some v) = has_view comps fields (omega (arith, e))
+has_view (c ∷ comps) (f ∷ fields) e = one_more (slot_view f) (has_view comps fields (omega (arith, e))) where
+  one_more : (o : Option AbstractValue) → HasFields (in_view comps) (fields_view fields) → HasFields (in_view (c ∷ comps)) (fields_of (o ∷ map slot_view fields))
+  one_more None h = h
+  one_more (Some v) h = h

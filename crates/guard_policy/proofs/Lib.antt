@@ -12,6 +12,7 @@ pub mod OneReason
 -- ---- by the rules of a route
 pub mod RuleSlots
 pub mod PartyNames
+pub mod MessageNumbers
 pub mod RulesNamed
 pub mod Looks
 pub mod ByMarks

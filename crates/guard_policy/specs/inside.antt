@@ -1,5 +1,6 @@
 -- What only private contracts and proofs cite.
 pub mod Listings
+pub mod Numbers
 pub mod Answers
 pub mod Asked
 pub mod Applicable

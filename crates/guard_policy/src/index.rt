@@ -1,8 +1,9 @@
 //! Look-ups by the name of a message.
-ghost use Rattle.std.specs.Prelude.{◌≡◌, ◌+◌, map, option_map, string_bytes, IfOk};
-ghost use Rattle.guard_policy.specs.inside.Listings.{IsIndex, found_in, listed_view, numbers_for};
+ghost use Rattle.std.specs.Prelude.{◌≡◌, map, option_map, IfOk};
+ghost use Rattle.guard_policy.specs.inside.Listings.{IsIndex, found_in, listed_view};
 ghost use Rattle.guard_policy.specs.SaidView.{said_message_view, said_view};
 
+use super::numbered::Numbered;
 use super::policy::SaidRule;
 use super::route_octets::{NameOctets, OctetsOf};
 use super::said::SaidMessage;
@@ -33,11 +34,12 @@ impl Index {
     ) -> Result<Index, AllocError>
         ensures { IfOk result (IsIndex (map said_message_view messages.now) (map said_view rules.now)) }
     {
+        let numbered = Numbered::of(alloc, rules)?;
         let mut listed = IndexMap::new(alloc);
         for (place, message) in messages.iter().enumerate() {
             let name = message.name.as_bytes();
             if !listed.contains_key(OctetsOf { octets: name }) {
-                let rules = numbers_for(alloc, name, rules)?;
+                let rules = numbered.copy_of(alloc, message.name)?;
                 listed.insert(NameOctets::of_name(alloc, name)?, Listed { place, rules })?;
             }
         }
@@ -50,21 +52,4 @@ impl Index {
     {
         self.listed.get(OctetsOf { octets: name })
     }
-}
-
-/// The numbers of the rules that speak of the message of this name, in order.
-pub(crate) fn numbers_for(
-    alloc: Global,
-    name: &[u8],
-    rules: &[SaidRule],
-) -> Result<Vec<usize>, AllocError>
-    ensures { IfOk result (λ numbers. numbers.items ≡ numbers_for name.now 0 (map said_view rules.now)) }
-{
-    let mut numbers = Vec::new(alloc);
-    for (number, rule) in rules.iter().enumerate() {
-        if rule.message.as_bytes() == name {
-            numbers.push(number)?;
-        }
-    }
-    Ok(numbers)
 }

@@ -6,6 +6,7 @@
 //! | What is asked of them? | `policy.rt` | `specs/Consistency.antt` |
 //! | What is kept of them? | `kept.rt`, `tables.rt` | `specs/KeptView.antt`, `specs/inside/Keeping.antt` |
 //! | What does the name of a message lead to? | `index.rt` | `specs/inside/Listings.antt` |
+//! | Which rules speak of each message? | `numbered.rt` | `specs/inside/Numbers.antt` |
 //! | Who sends what to whom? | `route.rt` | `specs/Policies.antt`, `specs/PolicyView.antt` |
 //! | Which rules speak of a route? | `speaking.rt` | `specs/Decisions.antt` |
 //! | Which verdicts are there? | `verdict.rt` | `specs/Verdicts.antt` |
@@ -44,6 +45,7 @@ pub mod laws;
 mod leads;
 mod load;
 mod messages;
+mod numbered;
 mod passing;
 mod policy;
 mod reason;

@@ -84,7 +84,9 @@ impl Policy {
     }
 }
 
-/// Why a value of the declared type stays, by the slots of the types that have it; None where these don't tell it.
+/// Why a value of the declared type stays, by the slots of the types that have it; None where these don't tell it. A part
+/// of the look at a message, whose callers call nothing where a frame stays.
+#[inline(always)]
 pub(crate) fn told_by(rules: &RouteRules, numbers: &[usize], members: &Slots) -> Option<PlainReason>
     ensures { IfSome result (IsToldBy rules.now numbers.now members.now) }
 {

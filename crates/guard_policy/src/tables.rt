@@ -11,11 +11,12 @@ ghost use Rattle.guard_policy.specs.EntryFaults.{tables_fault};
 ghost use Rattle.guard_policy.specs.Consistency.{types_for};
 ghost use Rattle.guard_policy.specs.SaidView.{said_message_view, said_view};
 ghost use Rattle.guard_policy.specs.inside.Said.{rules_view};
+ghost use Rattle.guard_policy.specs.inside.Numbers.{AreNumbered};
 ghost use Rattle.guard_policy.specs.PolicyFaults.{bad_table};
 
 use super::fault::PolicyFault;
-use super::index::numbers_for;
 use super::kept::KeptMessage;
+use super::numbered::Numbered;
 use super::policy::SaidRule;
 use super::routing::Routing;
 use super::said::SaidMessage;
@@ -37,9 +38,10 @@ pub(crate) fn keep_messages(
         ≡ map (tabled (map said_view rules.now)) (map said_message_view messages.now)) }
     ensures routed { IfOk result (λ kept. All (IsRouted (map said_view rules.now)) kept.items) }
 {
+    let numbered = Numbered::of(alloc, rules)?;
     let mut kept = Vec::with_capacity(alloc, messages.len())?;
     for (index, message) in messages.iter().enumerate() {
-        let message = keep_message(alloc, index + 1, message, rules)?;
+        let message = keep_message(alloc, index + 1, message, &numbered, rules)?;
         kept.push(message)?;
     }
     Ok(kept)
@@ -50,8 +52,10 @@ fn keep_message(
     alloc: Global,
     number: usize,
     message: &SaidMessage,
+    numbered: &Numbered,
     rules: &[SaidRule],
 ) -> Result<KeptMessage, PolicyFault>
+    requires numbered { AreNumbered (map said_view rules.now) numbered.now }
     requires message_sound { IsTrue (is_sound (type_view message.now.ty.now)) }
     requires rules_sound { All (λ r. IsTrue (is_sound r.ty)) (map said_view rules.now) }
     ensures met { Meets (option_map (bad_table number)
@@ -61,9 +65,9 @@ fn keep_message(
         ≡ tabled (map said_view rules.now) (said_message_view message.now)) }
     ensures routed { IfOk result (IsRouted (map said_view rules.now)) }
 {
-    let types = types_for(alloc, message.name, rules)?;
+    let types = types_for(alloc, message.name, numbered, rules)?;
     match Table::compile(alloc, message.ty, &types) {
-        Ok(table) => Ok(keep_table(alloc, message, table, rules)?),
+        Ok(table) => Ok(keep_table(alloc, message, table, numbered, rules)?),
         Err(TableFault::OutOfMemory) => Err(PolicyFault::OutOfMemory),
         Err(fault) => Err(PolicyFault::Table(number, fault)),
     }
@@ -75,19 +79,21 @@ fn keep_table(
     alloc: Global,
     message: &SaidMessage,
     table: Table,
+    numbered: &Numbered,
     rules: &[SaidRule],
 ) -> Result<KeptMessage, AllocError>
+    requires numbered { AreNumbered (map said_view rules.now) numbered.now }
     requires types { table_types table ≡ type_view message.now.ty.now ∷ types_for (message.now.name.now)
         (map said_view rules.now) }
     ensures kept { IfOk result (λ kept. tabled_view kept
         ≡ tabled (map said_view rules.now) (said_message_view message.now)) }
     ensures routed { IfOk result (IsRouted (map said_view rules.now)) }
 {
-    let named = rules_named(alloc, message.name, rules)?;
+    let named = rules_named(alloc, message.name, numbered, rules)?;
     let routing = Routing::of(alloc, &named)?;
     let name = String::from_str(alloc, message.name)?;
     let home = String::from_str(alloc, message.home)?;
-    let numbers = numbers_for(alloc, message.name.as_bytes(), rules)?;
+    let numbers = numbered.copy_of(alloc, message.name)?;
     Ok(KeptMessage {
         name,
         home,
@@ -101,15 +107,16 @@ fn keep_table(
 fn types_for<'a>(
     alloc: Global,
     name: &str,
+    numbered: &Numbered,
     rules: &'a [SaidRule<'a>],
 ) -> Result<Vec<&'a Ty>, AllocError>
+    requires { AreNumbered (map said_view rules.now) numbered.now }
     ensures { IfOk result (λ types. types_view types.items ≡ types_for name.now (map said_view rules.now)) }
 {
-    let mut types = Vec::new(alloc);
-    for rule in rules {
-        if rule.message == name {
-            types.push(rule.ty)?;
-        }
+    let named = rules_named(alloc, name, numbered, rules)?;
+    let mut types = Vec::with_capacity(alloc, named.len())?;
+    for rule in named.iter() {
+        types.push(rule.ty)?;
     }
     Ok(types)
 }
@@ -118,13 +125,15 @@ fn types_for<'a>(
 fn rules_named<'a>(
     alloc: Global,
     name: &str,
+    numbered: &Numbered,
     rules: &'a [SaidRule<'a>],
 ) -> Result<Vec<&'a SaidRule<'a>>, AllocError>
+    requires { AreNumbered (map said_view rules.now) numbered.now }
     ensures { IfOk result (λ named. rules_view named.items ≡ rules_named name.now (map said_view rules.now)) }
 {
     let mut named = Vec::new(alloc);
-    for rule in rules {
-        if rule.message == name {
+    for number in numbered.rules(name) {
+        if let Some(rule) = rules.get(*number) {
             named.push(rule)?;
         }
     }

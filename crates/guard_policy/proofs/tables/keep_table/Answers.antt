@@ -19,6 +19,6 @@ of-requires c = record {
 pub returns-clause-routed : goal.returns-clause-routed
 returns-clause-routed c =
     routed_here (map said_view c.args.rules.now) c.args.message.now.name.now _ (type_view c.args.message.now.ty.now)
-    c.in_ok-name.ensures.ok (rw c.as_bytes.ensures.value at c.in_ok-numbers.ensures) c.requires.types
+    c.in_ok-name.ensures.ok (c.in_ok-numbers.ensures ∙ c.requires.numbered c.args.message.now.name.now) c.requires.types
     (subst (λ (rules : List AbstractRule). IsRouting rules c.in_ok-routing.routing)
     (ap (λ (named : List (Bor SaidRule)). rules_view named) c.deref.ensures.value ∙ c.in_ok-named.ensures) c.in_ok-routing.ensures)

@@ -1,8 +1,8 @@
 use Rattle.std.proofs.Common.{◌≡◌, ◌++◌, map, drop}
-use Rattle.guard_policy.specs.Routing.{rules_named}
 use Rattle.guard_policy.specs.SaidView.{said_view}
+use Rattle.guard_policy.specs.inside.Numbers.{picked}
 use Rattle.guard_policy.specs.inside.Said.{rules_view}
 use Rattle.guard_policy.proofs.tables.rules_named.Given as goal
 
-abbrev pub invariant-loop-rule : goal.invariant-loop-rule
-invariant-loop-rule l = rules_view l.named.items ++ rules_named l.name (map said_view (drop l.rule-index l.rules)) ≡ rules_named l.name (map said_view l.rules)
+abbrev pub invariant-loop-number : goal.invariant-loop-number
+invariant-loop-number l = rules_view l.named.items ++ picked (map said_view l.rules) (drop l.number-index l.number-items) ≡ picked (map said_view l.rules) l.number-items

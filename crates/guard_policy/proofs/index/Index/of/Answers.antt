@@ -24,7 +24,7 @@ loop-place-preserved c = λ name.
           let key = w.in_ok-of_name.field-0 in
           let l : Listed = record { place = n; rules = w.in_ok-rules.rules } in
           let named : key.octets.items ≡ m.name = w.in_ok-of_name.ensures ∙ c.as_bytes-name.ensures.value in
-          let numbered : w.in_ok-rules.rules.items ≡ numbers_for m.name 0 all = rw c.as_bytes-name.ensures.value at w.in_ok-rules.ensures in
+          let numbered : w.in_ok-rules.rules.items ≡ numbers_for m.name 0 all = w.in_ok-rules.ensures ∙ c.in_ok-numbered.ensures m.name in
           let absent : is_some (lookup (λ x. bytes_eq key.octets.items x.octets.items) c.loop-place.listed.entries) ≡ false =
           ap (λ (bytes : List ℕ). is_some (lookup (λ x. bytes_eq bytes x.octets.items) c.loop-place.listed.entries)) named ∙ sym tested ∙ w.if-not-contains_key.true in
           rw w.listed-is
@@ -34,7 +34,7 @@ loop-place-preserved c = λ name.
           let key = w.in_ok-of_name.field-0 in
           let l : Listed = record { place = n; rules = w.in_ok-rules.rules } in
           let named : key.octets.items ≡ m.name = w.in_ok-of_name.ensures ∙ c.as_bytes-name.ensures.value in
-          let numbered : w.in_ok-rules.rules.items ≡ numbers_for m.name 0 all = rw c.as_bytes-name.ensures.value at w.in_ok-rules.ensures in
+          let numbered : w.in_ok-rules.rules.items ≡ numbers_for m.name 0 all = w.in_ok-rules.ensures ∙ c.in_ok-numbered.ensures m.name in
           let absent : is_some (lookup (λ x. bytes_eq key.octets.items x.octets.items) c.loop-place.listed.entries) ≡ false =
           ap (λ (bytes : List ℕ). is_some (lookup (λ x. bytes_eq bytes x.octets.items) c.loop-place.listed.entries)) named ∙ sym tested ∙ w.if-not-contains_key.true in
           rw w.listed-is

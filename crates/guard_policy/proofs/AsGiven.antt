@@ -1,5 +1,6 @@
 -- What the octets of a route's names lead to decides of a message on the route.
 use Rattle.std.proofs.Common.{◌≡◌, ℕ, List, [], ◌∷◌, map, slice_get, Bool, true, false, ◌||◌, Option, Some, None, option_map, option_and_then, string_bytes, refl, ap, sym, ◌∙◌}
+use Rattle.std.specs.Arc.{arc_value}
 use Rattle.std.specs.List.{list_any, AllByRecursion}
 use Rattle.std.proofs.lemmas.List.Elements.{recursion_from_All}
 use Rattle.std.proofs.lemmas.Option.{same_Some, slice_get-map}
@@ -144,7 +145,7 @@ module _ (policy : Policy) (names : List ℕ) (lead : Lead) (found : found_lead 
     listed : listing (policy_view policy).messages (policy_view policy).rules route.message ≡ Some led.leads.listed
     listed = sym (policy.kept.indexed route.message) ∙ led.leads.found
 
-    typed : ◌≡◌ {A = Option (AbstractType × List ℕ)} (Some (declared_of m.table, led.leads.listed.numbers))
+    typed : ◌≡◌ {A = Option (AbstractType × List ℕ)} (Some (declared_of (arc_value m.table), led.leads.listed.numbers))
         (option_map (with_numbers (policy_view policy).rules route.message) (declared_type (policy_view policy) route.message))
     typed =
         sym (listed_type (policy_view policy).messages (policy_view policy).rules route.message led.leads.listed (Some (kept_message_view m)) listed

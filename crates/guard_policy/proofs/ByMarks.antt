@@ -1,5 +1,6 @@
 -- What the marks of a table say by a route's rules is what the rules say of the value.
 use Rattle.std.proofs.Common.{◌≡◌, ◌≢◌, ◌≤◌, ℕ, zero, suc, ◌+◌, List, length, [], ◌∷◌, map, slice_get, Bool, true, false, ◌&&◌, ◌||◌, not, cond, ◌↔◌, Option, None, Some, option_map, string_bytes, All, refl, ap, sym, ◌∙◌, subst, arith, inl, inr}
+use Rattle.std.specs.Arc.{arc_value}
 use Rattle.std.specs.Prelude.{IsTrue, bytes_eq}
 use Rattle.std.specs.List.{list_any, list_all}
 use Rattle.std.proofs.lemmas.Option.{same_Some, slice_get-map, slice_get_within, get_or_from_slice_get}
@@ -213,9 +214,9 @@ first_of_some test (r ∷ rs) e =
 -- ---- the message goes
 
 module _ (p : Kept) (policy : AbstractPolicy) (route : AbstractRoute) (octets : List ℕ) (m : KeptMessage) (marks : Marks) (v : AbstractValue)
-    (same_messages : policy.messages ≡ messages_kept p) (same_rules : policy.rules ≡ rules_kept p) (declared : declared_type policy route.message ≡ Some (declared_of m.table))
+    (same_messages : policy.messages ≡ messages_kept p) (same_rules : policy.rules ≡ rules_kept p) (declared : declared_type policy route.message ≡ Some (declared_of (arc_value m.table)))
     (routed : IsRouted (rules_kept p) m) (name : string_bytes m.name ≡ route.message)
-    (fitting : IsTrue (fits (declared_of m.table) v)) (encoded : der (declared_of m.table) v ≡ Some octets) (has_marks : HasMarks marks (table_types m.table) v) where
+    (fitting : IsTrue (fits (declared_of (arc_value m.table)) v)) (encoded : der (declared_of (arc_value m.table)) v ≡ Some octets) (has_marks : HasMarks marks (table_types (arc_value m.table)) v) where
   abbrev named : List AbstractRule
   named = rules_named (string_bytes m.name) (rules_kept p)
 
@@ -240,12 +241,12 @@ module _ (p : Kept) (policy : AbstractPolicy) (route : AbstractRoute) (octets : 
   denied : Says (map (answers Deny route v) named) (slots_of m.routing.denying)
   denied = answering Deny route v named m.routing m.routing.denying marks.members routed.routing routed.routing.denying shows
 
-  sound : IsTrue (is_sound (declared_of m.table))
+  sound : IsTrue (is_sound (declared_of (arc_value m.table)))
   sound =
-      declared_sound (messages_kept p) (rules_kept p) route.message (declared_of m.table) p.consistent
+      declared_sound (messages_kept p) (rules_kept p) route.message (declared_of (arc_value m.table)) p.consistent
       (ap (λ (ms : List AbstractMessage). declared_among ms route.message) (sym same_messages) ∙ declared)
 
-  inside : IsTrue (has marks.members 0) → is_member (declared_of m.table) v ≡ true
+  inside : IsTrue (has marks.members 0) → is_member (declared_of (arc_value m.table)) v ≡ true
   inside of_type = sym (has_marks 0) ∙ of_type
 
   undenied : common (rules_on m.routing route).denying marks.members ≡ none → list_all (λ r. not (denies r.rule v)) (route_rules policy route) ≡ true
@@ -279,17 +280,17 @@ module _ (p : Kept) (policy : AbstractPolicy) (route : AbstractRoute) (octets : 
     goes rule of_type (first, none_denies) =
         let rs = route_rules policy route in
         let is : first_allowing rs v ≡ Some rule = sym (first_allowed numbers listed) ∙ first in (
-          (declared_of m.table, v, declared, fitting, encoded, inside of_type, some_first (λ r. allows r v) rs rule is, undenied none_denies),
+          (declared_of (arc_value m.table), v, declared, fitting, encoded, inside of_type, some_first (λ r. allows r v) rs rule is, undenied none_denies),
           is,
         )
 
     only : Goes policy route octets → IsTrue (has marks.members 0) × (rule : ℕ) × IsLetBy (rules_on m.routing route) numbers marks.members rule
     only (u, w, declared_too, fitting_too, encoded_too, is_in_too, some, none_denies) =
         let rs = route_rules policy route in
-        let same : u ≡ declared_of m.table = same_Some _ _ (sym declared_too ∙ declared) in
-        let is_v : w ≡ v = one_encoding (declared_of m.table) w v octets sound (subst (λ (x : AbstractType). IsTrue (fits x w)) same fitting_too) fitting (subst (λ (x : AbstractType). der x w ≡ Some octets) same encoded_too) encoded in
+        let same : u ≡ declared_of (arc_value m.table) = same_Some _ _ (sym declared_too ∙ declared) in
+        let is_v : w ≡ v = one_encoding (declared_of (arc_value m.table)) w v octets sound (subst (λ (x : AbstractType). IsTrue (fits x w)) same fitting_too) fitting (subst (λ (x : AbstractType). der x w ≡ Some octets) same encoded_too) encoded in
         let first = first_of_some (λ r. allows r v) rs (subst (λ (x : AbstractValue). list_any (λ r. allows r.rule x) rs ≡ true) is_v some) in (
-          has_marks 0 ∙ subst (λ (x : AbstractValue). is_member (declared_of m.table) x ≡ true) is_v (subst (λ (x : AbstractType). is_member x w ≡ true) same is_in_too),
+          has_marks 0 ∙ subst (λ (x : AbstractValue). is_member (declared_of (arc_value m.table)) x ≡ true) is_v (subst (λ (x : AbstractType). is_member x w ≡ true) same is_in_too),
           first.0,
           (
             first_allowed numbers listed ∙ first.1,
@@ -337,19 +338,19 @@ routed_first messages rules name m routed first =
     )
 
 module _ (policy : Policy) (route : AbstractRoute) (octets numbers : List ℕ) (m : KeptMessage)
-    (listed : ◌≡◌ {A = Option (AbstractType × List ℕ)} (Some (declared_of m.table, numbers))
+    (listed : ◌≡◌ {A = Option (AbstractType × List ℕ)} (Some (declared_of (arc_value m.table), numbers))
     (option_map (with_numbers (policy_view policy).rules route.message) (declared_type (policy_view policy) route.message)))
     (first : IsFirst route.message policy.kept.messages.items m) where
-  declares : declared_type (policy_view policy) route.message ≡ Some (declared_of m.table)
-  declares = (declared_pair (policy_view policy).rules route.message (declared_type (policy_view policy) route.message) (declared_of m.table) numbers listed).0
+  declares : declared_type (policy_view policy) route.message ≡ Some (declared_of (arc_value m.table))
+  declares = (declared_pair (policy_view policy).rules route.message (declared_type (policy_view policy) route.message) (declared_of (arc_value m.table)) numbers listed).0
 
   routed : IsRouted (rules_kept policy.kept) m × (string_bytes m.name ≡ route.message)
   routed = routed_first policy.kept.messages.items (rules_kept policy.kept) route.message m policy.kept.routed first
 
   -- what goes is the encoding of a value of the message's type
-  encoded : Goes (policy_view policy) route octets → EncodeNothing m.table octets → ⊥
+  encoded : Goes (policy_view policy) route octets → EncodeNothing (arc_value m.table) octets → ⊥
   encoded g nothing =
-      let is : g.0 ≡ declared_of m.table = same_Some _ _ (sym g.2 ∙ declares) in
+      let is : g.0 ≡ declared_of (arc_value m.table) = same_Some _ _ (sym g.2 ∙ declares) in
       nothing g.1 (subst (λ (t : AbstractType). IsTrue (fits t g.1)) is g.3) (subst (λ (t : AbstractType). der t g.1 ≡ Some octets) is g.4)
 
   own_numbers : m.numbers.items ≡ numbers_for route.message 0 (policy_view policy).rules
@@ -367,27 +368,27 @@ module _ (policy : Policy) (route : AbstractRoute) (octets numbers : List ℕ) (
 
   -- so what the marks tell is the reason
   module _ (own : List ℕ) (are_own : own ≡ numbers_for route.message 0 (policy_view policy).rules) (rules : RouteRules) (marks : Marks) (are : rules ≡ rules_on m.routing route)
-      (v : AbstractValue) (fitting : IsTrue (fits (declared_of m.table) v)) (encoded : der (declared_of m.table) v ≡ Some octets) (has_marks : HasMarks marks (table_types m.table) v)
+      (v : AbstractValue) (fitting : IsTrue (fits (declared_of (arc_value m.table)) v)) (encoded : der (declared_of (arc_value m.table)) v ≡ Some octets) (has_marks : HasMarks marks (table_types (arc_value m.table)) v)
       (of_type : IsTrue (has marks.members 0)) where
     abbrev rs : List NumberedRule
     rs = route_rules (policy_view policy) route
 
-    is_of_type : is_member (declared_of m.table) v ≡ true
+    is_of_type : is_member (declared_of (arc_value m.table)) v ≡ true
     is_of_type = inside policy.kept (policy_view policy) route octets m marks v refl refl declares routed.0 routed.1 fitting encoded has_marks of_type
 
-    because : (w : AbstractVerdict) → judged (declared_of m.table) rs v ≡ w → IsReason (policy_view policy) route octets w
-    because w e = inr (declared_of m.table, declares, inr (v, fitting, encoded, sym e))
+    because : (w : AbstractVerdict) → judged (declared_of (arc_value m.table)) rs v ≡ w → IsReason (policy_view policy) route octets w
+    because w e = inr (declared_of (arc_value m.table), declares, inr (v, fitting, encoded, sym e))
 
-    undenied_so : common rules.denying marks.members ≡ none → judged (declared_of m.table) rs v ≡ by_allowing rs v
+    undenied_so : common rules.denying marks.members ≡ none → judged (declared_of (arc_value m.table)) rs v ≡ by_allowing rs v
     undenied_so none_denies =
-        judged_undenied (declared_of m.table) rs v fitting is_of_type
+        judged_undenied (declared_of (arc_value m.table)) rs v fitting is_of_type
         (undenied policy.kept (policy_view policy) route octets m marks v refl refl declares routed.0 routed.1 fitting encoded has_marks
         (ap (λ (r : RouteRules). common r.denying marks.members) (sym are) ∙ none_denies))
 
     told_by_them : (r : PlainReason) → IsToldBy rules own marks.members r → IsToldReason (policy_view policy) route octets (reason_view r)
     told_by_them plain.UnknownMessage told = absurd told
     told_by_them (plain.DeniedBy i) told = because (denied_by i)
-        (judged_denied (declared_of m.table) rs v i fitting is_of_type
+        (judged_denied (declared_of (arc_value m.table)) rs v i fitting is_of_type
         (sym (first_denied policy.kept (policy_view policy) route octets m marks v refl refl declares routed.0 routed.1 fitting encoded has_marks own are_own)
         ∙ ap (λ (r : RouteRules). first_in (common r.denying marks.members) 1 own) (sym are) ∙ told))
     told_by_them plain.NotAllowed (none_denies, some, none_allows) = (
@@ -401,7 +402,7 @@ module _ (policy : Policy) (route : AbstractRoute) (octets numbers : List ℕ) (
     )
     told_by_them plain.NoRule (none_denies, none_allows) = because no_rule (undenied_so none_denies ∙ nothing_allows rs v (unallowed_by rules are none_allows))
 
-  stays : (rules : RouteRules) (marks : Marks) → rules ≡ rules_on m.routing route → AreMarks m.table octets marks
+  stays : (rules : RouteRules) (marks : Marks) → rules ≡ rules_on m.routing route → AreMarks (arc_value m.table) octets marks
       → (IsTrue (has marks.members 0) → IsLetByNone rules m.numbers.items marks.members) → Goes (policy_view policy) route octets → ⊥
   stays rules marks are (v, fitting, encoded, has_marks) never goes_so =
       let by = only policy.kept (policy_view policy) route octets m marks v refl refl declares routed.0 routed.1 fitting encoded has_marks m.numbers.items own_numbers goes_so in

@@ -1,5 +1,6 @@
 -- What is kept of messages and rules represents them.
 use Rattle.std.proofs.Common.{◌≡◌, ℕ, zero, suc, ◌+◌, ◌≤◌, List, [], ◌∷◌, drop, map, slice_get, Bool, true, false, ◌||◌, cond, Option, Some, None, option_map, option_and_then, unwrap_or, string_bytes, count_by, All, refl, ap, sym, ◌∙◌, subst, arith}
+use Rattle.std.specs.Arc.{arc_value}
 use Rattle.std.specs.Prelude.{bytes_eq, nat_lt, IsTrue}
 use Rattle.std.specs.List.{list_any}
 use Rattle.std.proofs.lemmas.Bool.Decides.{nat_tests}
@@ -143,14 +144,14 @@ type_found messages all n r l ms there tables is =
     let parts = listed_parts messages all r.message l is in
     let message = first_named messages messages 0 l.place r.message refl parts.0 in
     let kept = tabled_there ms l.place (tabled all message.0) (ap (λ (ts : List Tabled). slice_get ts l.place) tables ∙ slice_get-map (tabled all) messages l.place ∙ ap (option_map (tabled all)) message.1) in
-    let types : rules_of kept.0.table ≡ types_for r.message all = ap (λ (t : Tabled). rest_of t.types) kept.2 ∙ ap (λ (name : List ℕ). types_for name all) message.2 in
+    let types : rules_of (arc_value kept.0.table) ≡ types_for r.message all = ap (λ (t : Tabled). rest_of t.types) kept.2 ∙ ap (λ (name : List ℕ). types_for name all) message.2 in
     let count = count_by (λ k. nat_lt k n) l.numbers in
     let from_first : 0 + n ≡ n = omega arith in
     let there_from_first : slice_get (types_for r.message all) count ≡ Some r.ty =
     subst (λ (ns : List ℕ). slice_get (types_for r.message all) (count_by (λ k. nat_lt k n) ns) ≡ Some r.ty) (sym parts.1)
     (subst (λ (m : ℕ). slice_get (types_for r.message all) (count_by (λ k. nat_lt k m) (numbers_for r.message 0 all)) ≡ Some r.ty) from_first
     (type_there all 0 n r r.message there ((bytes_eq-Decides r.message r.message).1 refl))) in
-    ap (λ (o : Option KeptMessage). option_and_then (λ (m : KeptMessage). slice_get (rules_of m.table) count) o) kept.1
+    ap (λ (o : Option KeptMessage). option_and_then (λ (m : KeptMessage). slice_get (rules_of (arc_value m.table)) count) o) kept.1
     ∙ ap (λ (ts : List AbstractType). slice_get ts count) types ∙ there_from_first
 
 as_said : (ms : List KeptMessage) (kept : KeptRule) (r : AbstractRule) → IsSaid r kept → found_type ms kept.ty ≡ Some r.ty → kept_rule_view ms kept ≡ r

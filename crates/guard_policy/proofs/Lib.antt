@@ -14,6 +14,7 @@ pub mod RuleSlots
 pub mod PartyNames
 pub mod MessageNumbers
 pub mod RulesNamed
+pub mod MadeTables
 pub mod Looks
 pub mod ByMarks
 pub mod GivenRoutes

@@ -1,12 +1,14 @@
 -- The rules that speak of a message, with their types.
 use Rattle.std.proofs.Common.{◌≡◌, ℕ, ◌≤◌, List, [], ◌∷◌, length, map, Bool, true, false, cond, Option, Some, None, string_bytes, refl, ap, sym, ◌∙◌, subst, arith}
+use Rattle.std.specs.Arc.{arc_value}
 use Rattle.std.specs.Prelude.{bytes_eq, nat_le}
 use Rattle.std.specs.Borrow.{Bor}
 use Rattle.std.proofs.lemmas.Bool.Decides.{nat_tests}
 use Rattle.std.proofs.lemmas.List.{length-map}
 use Rattle.guard_model.specs.AbstractType.{AbstractType}
 use Rattle.guard_reader.specs.Marking.{is_in}
-use Rattle.guard_tables.specs.Tables.{first_fault}
+use Rattle.guard_model.specs.declared.ty.Ty.{Ty}
+use Rattle.guard_tables.specs.Tables.{types_view, first_fault}
 use Rattle.guard_tables.specs.TableView.{declared_of, rules_of, table_types}
 use Rattle.guard_tables.specs.declared.fault.TableFault.{TableFault}
 use Rattle.guard_tables.specs.declared.fault.TableFault.TheVariants.{TooManyRules}
@@ -14,9 +16,10 @@ use Rattle.guard_tables.specs.declared.table.Table.{Table}
 use Rattle.guard_policy.specs.declared.kept.KeptMessage.{KeptMessage}
 use Rattle.guard_policy.specs.declared.policy.SaidRule.{SaidRule}
 use Rattle.guard_policy.specs.Consistency.{types_for}
-use Rattle.guard_policy.specs.Policies.{AbstractRule}
+use Rattle.guard_policy.specs.Policies.{AbstractMessage, AbstractRule}
 use Rattle.guard_policy.specs.SaidView.{said_view}
 use Rattle.guard_policy.specs.inside.Listings.{numbers_for}
+use Rattle.guard_policy.specs.inside.Keeping.{Tabled, tabled}
 use Rattle.guard_policy.specs.inside.Said.{rules_view}
 use Rattle.guard_policy.specs.Routing.{rules_named, IsRouting, IsRouted}
 
@@ -27,6 +30,13 @@ types_named name (r ∷ rs) =
       | true ↦ ap (λ (ts : List AbstractType). r.ty ∷ ts) (types_named name rs)
       | false ↦ types_named name rs
     ]
+
+-- of the rules that were gathered, as they are handed on
+pub types_given : (name : List ℕ) (rules : List AbstractRule) (named seen : List (Bor SaidRule)) (types given : List (Bor Ty)) → rules_view named ≡ rules_named name rules
+    → seen ≡ named → types_view types ≡ map (λ r. r.ty) (rules_view seen) → given ≡ types → types_view given ≡ types_for name rules
+types_given name rules named seen types given are same of_seen handed =
+    ap types_view handed ∙ of_seen ∙ ap (λ (rs : List (Bor SaidRule)). map (λ r. r.ty) (rules_view rs)) same
+    ∙ ap (λ (rs : List AbstractRule). map (λ r. r.ty) rs) are ∙ types_named name rules
 
 -- ---- how many there are
 
@@ -61,8 +71,12 @@ few_named rules name declared table named types is =
 
 -- ---- a message with its table and routing
 
+pub tabled_here : (rules : List AbstractRule) (m : AbstractMessage) (name home : List ℕ) (types : List AbstractType) → name ≡ m.name → home ≡ m.home
+    → types ≡ m.ty ∷ types_for m.name rules → ◌≡◌ {A = Tabled} (record { name = name; home = home; types = types }) (tabled rules m)
+tabled_here rules m name home types named at are = rw (named, at, are) refl
+
 pub routed_here : (rules : List AbstractRule) (name : List ℕ) (m : KeptMessage) (declared : AbstractType) → string_bytes m.name ≡ name
-    → m.numbers.items ≡ numbers_for name 0 rules → table_types m.table ≡ declared ∷ types_for name rules → IsRouting (rules_named name rules) m.routing → IsRouted rules m
+    → m.numbers.items ≡ numbers_for name 0 rules → table_types (arc_value m.table) ≡ declared ∷ types_for name rules → IsRouting (rules_named name rules) m.routing → IsRouted rules m
 routed_here rules name m declared named numbers types routing = record {
   numbers = numbers ∙ ap (λ (n : List ℕ). numbers_for n 0 rules) (sym named);
   types = λ v place. ap (λ (ts : List AbstractType). is_in (rest_of ts) v place) types ∙ ap (λ (n : List ℕ). is_in (types_for n rules) v place) (sym named);

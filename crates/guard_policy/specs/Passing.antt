@@ -1,5 +1,6 @@
 -- Whether a message's octets go under the rules of a route.
 use Rattle.std.specs.Prelude.{◌≡◌, ◌≢◌, ◌⊎◌, ℕ, suc, List, [], ◌∷◌, Option, Some, None, IsTrue, if◌then◌else◌}
+use Rattle.std.specs.Arc.{arc_value}
 use Rattle.guard_model.specs.AbstractValue.{AbstractValue}
 use Rattle.guard_der.specs.Der.{der}
 use Rattle.guard_der.specs.Fits.{fits}
@@ -54,13 +55,13 @@ IsToldBy rules numbers members plain.NoRule = (common rules.denying members ≡ 
 -- what is told of the octets of the message under these rules
 abbrev pub IsAnswer : KeptMessage → RouteRules → List ℕ → Passing → Type 0
 IsAnswer m rules octets (passing.Goes rule) =
-    (marks : Marks) × AreMarks m.table octets marks × IsTrue (has marks.members 0)
+    (marks : Marks) × AreMarks (arc_value m.table) octets marks × IsTrue (has marks.members 0)
     × IsLetBy rules m.numbers.items marks.members rule
 IsAnswer m rules octets (passing.Stopped (Some reason)) =
-    (marks : Marks) × AreMarks m.table octets marks × IsTrue (has marks.members 0)
+    (marks : Marks) × AreMarks (arc_value m.table) octets marks × IsTrue (has marks.members 0)
     × IsLetByNone rules m.numbers.items marks.members
     × IsToldBy rules m.numbers.items marks.members reason
 IsAnswer m rules octets (passing.Stopped None) =
-    EncodeNothing m.table octets
-    ⊎ ((marks : Marks) × AreMarks m.table octets marks
+    EncodeNothing (arc_value m.table) octets
+    ⊎ ((marks : Marks) × AreMarks (arc_value m.table) octets marks
     × (IsTrue (has marks.members 0) → IsLetByNone rules m.numbers.items marks.members))

@@ -1,6 +1,7 @@
 -- Which rules of a message speak of a route, as sets of the slots that their types have in the message's table. The
 -- first rule has slot 1, since slot 0 is that of the declared type.
 use Rattle.std.specs.Prelude.{◌≡◌, ℕ, suc, Bool, not, List, [], ◌∷◌, map, bytes_eq, string_bytes, unwrap_or, if◌then◌else◌}
+use Rattle.std.specs.Arc.{arc_value}
 use Rattle.std.specs.Map.{lookup}
 use Rattle.guard_model.specs.AbstractValue.{AbstractValue}
 use Rattle.guard_reader.specs.Marking.{is_in}
@@ -88,5 +89,5 @@ route_rules r route = record {
 pub record IsRouted (rules : List AbstractRule) (m : KeptMessage) : Type 0 where
   pub numbers : m.numbers.items ≡ numbers_for (string_bytes m.name) 0 rules
   pub types : (v : AbstractValue) (place : ℕ)
-      → is_in (rules_of m.table) v place ≡ is_in (types_for (string_bytes m.name) rules) v place
+      → is_in (rules_of (arc_value m.table)) v place ≡ is_in (types_for (string_bytes m.name) rules) v place
   pub routing : IsRouting (rules_named (string_bytes m.name) rules) m.routing

@@ -19,14 +19,16 @@ use super::said::SaidMessage;
 use guard_model::{OutOfMemory, Ty};
 use guard_tables::Table;
 use std::alloc::{AllocError, Global};
+use std::sync::Arc;
 
-/// A message, with the name of its declared type's module, the table of this type and those of its rules, how routes
-/// lead to these, and the numbers of these rules.
+/// A message, with the names of its declared type and of the module that assigns it, the table of this type and those of
+/// its rules, which messages with the same types share, how routes lead to these, and the numbers of these rules.
 #[derive(Drop)]
 pub(crate) struct KeptMessage {
     pub name: String,
     pub home: String,
-    pub table: Table,
+    pub type_name: String,
+    pub table: Arc<Table>,
     pub routing: Routing,
     pub numbers: Vec<usize>,
 }

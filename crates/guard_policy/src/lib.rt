@@ -4,7 +4,7 @@
 //! |---|---|---|
 //! | Which messages and rules has a policy? | `policy.rt` | `specs/Policies.antt`, `specs/PolicyView.antt` |
 //! | What is asked of them? | `policy.rt` | `specs/Consistency.antt` |
-//! | What is kept of them? | `kept.rt`, `tables.rt` | `specs/KeptView.antt`, `specs/inside/Keeping.antt` |
+//! | What is kept of them? | `kept.rt`, `tables.rt`, `made_tables.rt` | `specs/KeptView.antt`, `specs/inside/Keeping.antt` |
 //! | What does the name of a message lead to? | `index.rt` | `specs/inside/Listings.antt` |
 //! | Which rules speak of each message? | `numbered.rt` | `specs/inside/Numbers.antt` |
 //! | Who sends what to whom? | `route.rt` | `specs/Policies.antt`, `specs/PolicyView.antt` |
@@ -44,6 +44,7 @@ mod last_route;
 pub mod laws;
 mod leads;
 mod load;
+mod made_tables;
 mod messages;
 mod numbered;
 mod passing;

@@ -68,6 +68,12 @@ fn message_of<'a, S: Types>(
         return Err(PolicyFault::DuplicateName(entry));
     }
     let home = text_of(table, Key::Module);
+    let type_name = text_of(table, Key::TypeName);
     let ty = type_named(schema, entry, table)?;
-    Ok(SaidMessage { name, home, ty })
+    Ok(SaidMessage {
+        name,
+        home,
+        type_name,
+        ty,
+    })
 }

@@ -63,6 +63,7 @@ impl Policy {
     ghost use Rattle.guard_policy.specs.Policies.{rule_name_of, module_name};
     ghost use Rattle.guard_policy.specs.inside.Listings.{numbers_for};
     ghost use Rattle.guard_policy.specs.inside.Keeping.{AreDeclared, IsFirst};
+    ghost use Rattle.std.specs.Arc.{arc_value};
     ghost use Rattle.guard_tables.specs.TableView.{declared_of};
 
     /// A policy of messages and rules. Conditions: all types are sound, and the message that each rule speaks of is
@@ -134,6 +135,7 @@ impl Policy {
         Some(SaidMessage {
             name: &kept.name,
             home: &kept.home,
+            type_name: &kept.type_name,
             ty: kept.table.declared(),
         })
     }
@@ -160,7 +162,7 @@ impl Policy {
     /// The message of this name, and the numbers of the rules that speak of it; None where the policy declares no such
     /// message.
     pub(crate) fn found(&self, message: &[u8]) -> Option<(&KeptMessage, &[usize])>
-        ensures listed { option_map {U = AbstractType × List ℕ} (λ p. (declared_of p.0.now.table, p.1.now)) result
+        ensures listed { option_map {U = AbstractType × List ℕ} (λ p. (declared_of (arc_value p.0.now.table), p.1.now)) result
             ≡ option_map {U = AbstractType × List ℕ} (λ t. (t, numbers_for message.now 0 (policy_view self.now).rules))
             (declared_type (policy_view self.now) message.now) }
         ensures first { IfSome result (λ p. IsFirst message.now self.now.kept.messages.items p.0.now) }

@@ -6,5 +6,7 @@ use guard_model::Ty;
 pub struct SaidMessage<'a> {
     pub name: &'a str,
     pub home: &'a str,
+    /// The name of the declared type in this module.
+    pub(crate) type_name: &'a str,
     pub ty: &'a Ty,
 }

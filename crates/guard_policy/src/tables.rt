@@ -1,8 +1,7 @@
 //! The table of each message, made of its declared type and the types of its rules.
-ghost use Rattle.std.specs.Prelude.{◌≡◌, ◌∷◌, All, map, option_map, IfOk, IsTrue};
+ghost use Rattle.std.specs.Prelude.{◌≡◌, All, map, option_map, IfOk, IsTrue};
 ghost use Rattle.guard_der.specs.Sound.{is_sound};
 ghost use Rattle.guard_model.specs.TypeView.{type_view};
-ghost use Rattle.guard_tables.specs.TableView.{table_types};
 ghost use Rattle.guard_tables.specs.Tables.{types_view, first_fault};
 ghost use Rattle.guard_policy.specs.inside.Answers.{Meets};
 ghost use Rattle.guard_policy.specs.inside.Keeping.{tabled_view, tabled};
@@ -16,20 +15,20 @@ ghost use Rattle.guard_policy.specs.PolicyFaults.{bad_table};
 
 use super::fault::PolicyFault;
 use super::kept::KeptMessage;
+use super::made_tables::MadeTables;
 use super::numbered::Numbered;
 use super::policy::SaidRule;
 use super::routing::Routing;
 use super::said::SaidMessage;
 use guard_model::Ty;
-use guard_tables::{Table, TableFault};
 use std::alloc::{AllocError, Global};
 
-/// Each message with its table, or the fault Table of the first whose type and those of its rules make none. Condition:
-/// all types are sound.
-pub(crate) fn keep_messages(
+/// Each message with its table, or the fault Table of the first whose type and those of its rules make none. Messages
+/// whose types are the same, those of their rules among them, share a table. Condition: all types are sound.
+pub(crate) fn keep_messages<'a>(
     alloc: Global,
-    messages: &[SaidMessage],
-    rules: &[SaidRule],
+    messages: &'a [SaidMessage<'a>],
+    rules: &'a [SaidRule<'a>],
 ) -> Result<Vec<KeptMessage>, PolicyFault>
     requires messages_sound { All (λ m. IsTrue (is_sound m.ty)) (map said_message_view messages.now) }
     requires rules_sound { All (λ r. IsTrue (is_sound r.ty)) (map said_view rules.now) }
@@ -39,21 +38,24 @@ pub(crate) fn keep_messages(
     ensures routed { IfOk result (λ kept. All (IsRouted (map said_view rules.now)) kept.items) }
 {
     let numbered = Numbered::of(alloc, rules)?;
+    let mut made = MadeTables::none(alloc);
     let mut kept = Vec::with_capacity(alloc, messages.len())?;
     for (index, message) in messages.iter().enumerate() {
-        let message = keep_message(alloc, index + 1, message, &numbered, rules)?;
+        let message = keep_message(alloc, index + 1, message, &numbered, rules, &mut made)?;
         kept.push(message)?;
     }
     Ok(kept)
 }
 
-/// The message of this number with its table, or the fault of the table.
-fn keep_message(
+/// The message of this number with its table, which may be one that was made before, and with the routing and the
+/// numbers of its rules; or the fault of the table.
+fn keep_message<'a>(
     alloc: Global,
     number: usize,
-    message: &SaidMessage,
+    message: &SaidMessage<'a>,
     numbered: &Numbered,
-    rules: &[SaidRule],
+    rules: &'a [SaidRule<'a>],
+    made: &mut MadeTables<'a>,
 ) -> Result<KeptMessage, PolicyFault>
     requires numbered { AreNumbered (map said_view rules.now) numbered.now }
     requires message_sound { IsTrue (is_sound (type_view message.now.ty.now)) }
@@ -65,60 +67,50 @@ fn keep_message(
         ≡ tabled (map said_view rules.now) (said_message_view message.now)) }
     ensures routed { IfOk result (IsRouted (map said_view rules.now)) }
 {
-    let types = types_for(alloc, message.name, numbered, rules)?;
-    match Table::compile(alloc, message.ty, &types) {
-        Ok(table) => Ok(keep_table(alloc, message, table, numbered, rules)?),
-        Err(TableFault::OutOfMemory) => Err(PolicyFault::OutOfMemory),
-        Err(fault) => Err(PolicyFault::Table(number, fault)),
-    }
-}
-
-/// The message with this table, which is that of its type and those of its rules, and with the routing and the numbers
-/// of these.
-fn keep_table(
-    alloc: Global,
-    message: &SaidMessage,
-    table: Table,
-    numbered: &Numbered,
-    rules: &[SaidRule],
-) -> Result<KeptMessage, AllocError>
-    requires numbered { AreNumbered (map said_view rules.now) numbered.now }
-    requires types { table_types table ≡ type_view message.now.ty.now ∷ types_for (message.now.name.now)
-        (map said_view rules.now) }
-    ensures kept { IfOk result (λ kept. tabled_view kept
-        ≡ tabled (map said_view rules.now) (said_message_view message.now)) }
-    ensures routed { IfOk result (IsRouted (map said_view rules.now)) }
-{
     let named = rules_named(alloc, message.name, numbered, rules)?;
+    let types = types_of(alloc, &named)?;
+    let type_names = type_names(alloc, message, &named)?;
+    let table = made.table_of(alloc, number, type_names, message.ty, &types)?;
     let routing = Routing::of(alloc, &named)?;
     let name = String::from_str(alloc, message.name)?;
     let home = String::from_str(alloc, message.home)?;
+    let type_name = String::from_str(alloc, message.type_name)?;
     let numbers = numbered.copy_of(alloc, message.name)?;
     Ok(KeptMessage {
         name,
         home,
+        type_name,
         table,
         routing,
         numbers,
     })
 }
 
-/// The types of the rules of the message of this name, in order.
-fn types_for<'a>(
-    alloc: Global,
-    name: &str,
-    numbered: &Numbered,
-    rules: &'a [SaidRule<'a>],
-) -> Result<Vec<&'a Ty>, AllocError>
-    requires { AreNumbered (map said_view rules.now) numbered.now }
-    ensures { IfOk result (λ types. types_view types.items ≡ types_for name.now (map said_view rules.now)) }
+/// The types of the rules, in order.
+fn types_of<'a>(alloc: Global, rules: &[&SaidRule<'a>]) -> Result<Vec<&'a Ty>, AllocError>
+    ensures { IfOk result (λ types. types_view types.items ≡ map (λ r. r.ty) (rules_view rules.now)) }
 {
-    let named = rules_named(alloc, name, numbered, rules)?;
-    let mut types = Vec::with_capacity(alloc, named.len())?;
-    for rule in named.iter() {
+    let mut types = Vec::with_capacity(alloc, rules.len())?;
+    for rule in rules {
         types.push(rule.ty)?;
     }
     Ok(types)
+}
+
+/// The names of the types of the message and of its rules, each after that of its module.
+fn type_names<'a>(
+    alloc: Global,
+    message: &SaidMessage<'a>,
+    rules: &[&SaidRule<'a>],
+) -> Result<Vec<&'a str>, AllocError> {
+    let mut names = Vec::new(alloc);
+    names.push(message.home)?;
+    names.push(message.type_name)?;
+    for rule in rules {
+        names.push(rule.home)?;
+        names.push(rule.type_name)?;
+    }
+    Ok(names)
 }
 
 /// The rules of the message of this name, in order.

@@ -1,5 +1,6 @@
 -- How what a policy keeps comes of messages and rules.
 use Rattle.std.specs.Prelude.{◌≡◌, ℕ, List, ◌∷◌, All, map, string_bytes, bytes_eq, nat_lt, count_by, slice_get, Some, IsTrue}
+use Rattle.std.specs.Arc.{arc_value}
 use Rattle.std.specs.List.{list_any}
 use Rattle.guard_model.specs.AbstractType.{AbstractType}
 use Rattle.guard_tables.specs.TableView.{table_types}
@@ -18,7 +19,7 @@ pub record Tabled : Type 0 where
   pub types : List AbstractType
 
 abbrev pub tabled_view : KeptMessage → Tabled
-tabled_view m = record { name = string_bytes m.name; home = string_bytes m.home; types = table_types m.table }
+tabled_view m = record { name = string_bytes m.name; home = string_bytes m.home; types = table_types (arc_value m.table) }
 
 -- the message with the table of its type and those of its rules
 abbrev pub tabled : List AbstractRule → AbstractMessage → Tabled

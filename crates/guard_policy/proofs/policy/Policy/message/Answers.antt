@@ -14,5 +14,5 @@ returns-in_err-kept-clause-declared c =
 
 pub returns-clause-declared : goal.returns-clause-declared
 returns-clause-declared c =
-    rw (c.deref.ensures, c.deref-2.ensures, c.declared.ensures.declared)
+    rw (c.deref.ensures, c.deref-2.ensures, c.declared.ensures.declared, c.deref-4.ensures)
     (sym (message_first c.args.name.now c.args.self.now.kept.messages.items c.in_ok-kept.kept.now c.in_ok-kept.ensures.first))

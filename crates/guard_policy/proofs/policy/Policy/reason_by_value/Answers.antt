@@ -3,6 +3,7 @@ use Rattle.guard_model.specs.AbstractType.{AbstractType}
 use Rattle.guard_model.specs.TypeView.{type_view}
 use Rattle.guard_model.specs.ValueView.{value_view}
 use Rattle.guard_der.specs.Views.{breach_view}
+use Rattle.guard_tables.specs.TableView.{declared_of}
 use Rattle.guard_policy.specs.Policies.{AbstractPolicy, declared_type}
 use Rattle.guard_policy.specs.inside.Listings.{rules_at, heard, numbers_for}
 use Rattle.guard_policy.specs.PolicyView.{policy_view, route_view}
@@ -26,14 +27,14 @@ judge-requires-clause-rules_applicable c =
     let p = policy_view c.args.self.now in
     let route = route_view c.args.route.now in
     applicable_from_consistent p.messages p.rules route (type_view c.declared-ty.result.now) (value_view c.in-Ok.value) c.args.self.now.kept.consistent
-    (there p route.message _ _ c.in-Some.numbers.now c.declared-ty.ensures.declared c.in-Some.ensures.listed).0 c.in-Ok.ensures.decoded.0
+    (there p route.message _ _ c.in-Some.numbers.now (c.declared-ty.ensures.declared ∙ ap declared_of c.deref.ensures) c.in-Some.ensures.listed).0 c.in-Ok.ensures.decoded.0
 
 pub judge-requires-clause-unallowed : goal.judge-requires-clause-unallowed
 judge-requires-clause-unallowed c = λ is.
     let p = policy_view c.args.self.now in
     let route = route_view c.args.route.now in
     let t = type_view c.declared-ty.result.now in
-    let declared = there p route.message t _ c.in-Some.numbers.now c.declared-ty.ensures.declared c.in-Some.ensures.listed in
+    let declared = there p route.message t _ c.in-Some.numbers.now (c.declared-ty.ensures.declared ∙ ap declared_of c.deref.ensures) c.in-Some.ensures.listed in
     up_to_allowing p route c.args.octets.now t (value_view c.in-Ok.value) (heard route (rules_at p.rules c.in-Some.numbers.now)) c.args.self.now.kept.consistent
     declared.0 c.in-Ok.ensures.decoded.0 c.in-Ok.ensures.decoded.1 (heard_listed route p.rules c.in-Some.numbers.now declared.1) (c.requires is)
 
@@ -44,7 +45,7 @@ returns-in-Ok c =
     let t = type_view c.declared-ty.result.now in
     let v = value_view c.in-Ok.value in
     let numbers = c.in-Some.numbers.now in
-    let declared = there p route.message t _ numbers c.declared-ty.ensures.declared c.in-Some.ensures.listed in
+    let declared = there p route.message t _ numbers (c.declared-ty.ensures.declared ∙ ap declared_of c.deref.ensures) c.in-Some.ensures.listed in
     if_ok_map (λ x. verdict_view x ≡ judged t (heard route (rules_at p.rules numbers)) v) (λ x. IsReason p route c.args.octets.now (verdict_view x)) c.judge.result
     (λ x e. inr (
       t,
@@ -63,6 +64,6 @@ returns-in-Err-Breach c =
     let p = policy_view c.args.self.now in
     let route = route_view c.args.route.now in
     let t = type_view c.declared-ty.result.now in
-    let declared = there p route.message t _ c.in-Some.numbers.now c.declared-ty.ensures.declared c.in-Some.ensures.listed in
+    let declared = there p route.message t _ c.in-Some.numbers.now (c.declared-ty.ensures.declared ∙ ap declared_of c.deref.ensures) c.in-Some.ensures.listed in
     rw c.in-Err-Breach.field-0-is
     (inr (t, declared.0, inl (breach_view c.in-Err-Breach.breach, rw c.in-Err-Breach.field-0-is at c.in-Err-Breach.ensures.breach, refl)))

@@ -11,7 +11,7 @@ use Rattle.std.specs.contracts.impls.GlobalAllocator.TheImpl.{ghosts}
 use Rattle.std.specs.contracts.string.String as string
 use Rattle.std.specs.contracts.vec.Vec as vec
 use Rattle.std.proofs.option.Option.TheSendSync as options
-use Rattle.std.proofs.Crossing.{Vec-send, Vec-sync, frees, crosses}
+use Rattle.std.proofs.Crossing.{Arc-send, Arc-sync, Vec-send, Vec-sync, frees, crosses}
 use Rattle.std.proofs.Crossing as crossing
 use Rattle.std.proofs.string.String.TheSendSync as strings
 use Rattle.guard_model.specs.contracts.ty.Ty as ty
@@ -109,10 +109,10 @@ table_sync = declared_sync table.the_type (kept_types_sync, (nodes_sync, (slots.
 -- ---- policies
 
 message_send : IsSend message.the_row
-message_send = declared_send message.the_type (string_send, (string_send, (table_send, (routing.the_send, (search (sendable, crosses), tt)))))
+message_send = declared_send message.the_type (string_send, (string_send, (string_send, (Arc-send table.the_row table_send table_sync, (routing.the_send, (search (sendable, crosses), tt))))))
 
 message_sync : IsSync message.the_row
-message_sync = declared_sync message.the_type (string_sync, (string_sync, (table_sync, (routing.the_sync, (search (sendable, crosses), tt)))))
+message_sync = declared_sync message.the_type (string_sync, (string_sync, (string_sync, (Arc-sync table.the_row table_send table_sync, (routing.the_sync, (search (sendable, crosses), tt))))))
 
 kept_send : IsSend kept.the_row
 kept_send = declared_send kept.the_type (Vec-send message.the_row message_send, (Vec-send rule.the_row rules.the_send, (index.the_send, (leads.the_send, tt))))

@@ -1,0 +1,6 @@
+use Rattle.guard_model.proofs.ValueViews.{value_view_fields}
+use Rattle.guard_messages.proofs.value_json.+values.Goals as goal
+
+pub add_value-returns-in-Fields-clause-tokens : goal.add_value-returns-in-Fields-clause-tokens
+add_value-returns-in-Fields-clause-tokens t c =
+    rw (c.in-Fields.is, value_view_fields c.in-Fields.fields) (rw c.deref.ensures.value at c.add_fields.ensures.tokens)

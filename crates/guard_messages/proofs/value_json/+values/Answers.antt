@@ -3,4 +3,4 @@ use Rattle.guard_messages.proofs.value_json.+values.Goals as goal
 
 pub add_value-returns-in-Fields-clause-tokens : goal.add_value-returns-in-Fields-clause-tokens
 add_value-returns-in-Fields-clause-tokens t c =
-    rw (c.in-Fields.is, value_view_fields c.in-Fields.fields) (rw c.deref.ensures.value at c.add_fields.ensures.tokens)
+    rw (c.in-Fields.is, value_view_fields c.in-Fields.fields) (rw c.deref-in-Fields.ensures.value at c.add_fields.ensures.tokens)

@@ -190,7 +190,7 @@ fn kept(alloc: Global, known: Known, ty: &Ty, value: KnownValue) -> Result<Known
     let Ok(ty) = ty.copy(alloc) else {
         return Err(AllocError);
     };
-    known.with(Arc::new(alloc, ty)?, Some(value.value), value.length)
+    known.with(Arc::new(alloc, ty)?, Some(value.value), value.length, None)
 }
 
 fn answered(alloc: Global, text: &str) -> Result<Next, AllocError> {

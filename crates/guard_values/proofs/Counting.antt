@@ -4,3 +4,4 @@ pub mod SentParts
 pub mod CountedLists
 pub mod CountedValues
 pub mod KnownLengths
+pub mod KnownBounds

@@ -14,6 +14,7 @@ pub mod Conditions
 pub mod Faults
 pub mod FirstFault
 pub mod KeptLengths
+pub mod SingleValues
 pub mod Views
 -- ---- what only private contracts and proofs cite
 pub mod inside

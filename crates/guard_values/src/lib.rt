@@ -3,7 +3,7 @@
 //! | question | code | definition |
 //! |---|---|---|
 //! | Which value does a tree denote, and why none? | `values.rt` (`value`, `shared_value`, `shared_value_in`), `fault.rt` | `specs/Denotes.antt`, `specs/Conditions.antt` (what stands at a fault's site), `specs/Faults.antt`, `specs/FirstFault.antt` |
-//! | What do visible names mean where something is written? | `scope.rt` (`Known`, `Scope`, `ModuleScope`) | `specs/Views.antt`, `specs/KeptLengths.antt` (what is kept beside known values) |
+//! | What do visible names mean where something is written? | `scope.rt` (`Known`, `Scope`, `ModuleScope`) | `specs/Views.antt`, `specs/KeptLengths.antt` (what is kept beside known values), `specs/SingleValues.antt` (beside known types) |
 //! | How are trees read by their types? | `written.rt` | `specs/inside/Reading.antt` |
 //! | What do names in braces say for a BIT STRING, and where do its values end? | `named_bits.rt` | `specs/NamedBits.antt` |
 //! | What do forms without a value inside say? | `simple.rt`, `strings.rt` (`quoted`), `object_identifiers.rt`, `names.rt` | `specs/Simple.antt` |

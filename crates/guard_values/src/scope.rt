@@ -1,5 +1,5 @@
 //! Where something is written, and what visible names mean there.
-ghost use Rattle.std.specs.Prelude.{◌≡◌, ◌++◌, ◌∷◌, [], IfOk, length, option_map, option_and_then};
+ghost use Rattle.std.specs.Prelude.{◌≡◌, ◌++◌, ◌∷◌, [], IsTrue, IfOk, IfSome, length, option_map, option_and_then};
 ghost use Rattle.std.proofs.Props.{props};
 ghost use Rattle.std.specs.Arc.{arc_value};
 ghost use Rattle.guard_model.specs.TypeView.{shared_type_view, type_view};
@@ -7,6 +7,7 @@ ghost use Rattle.guard_model.specs.ValueView.{value_view};
 ghost use Rattle.guard_names.specs.NamesView.{order_of};
 ghost use Rattle.guard_names.specs.Places.{place_in};
 ghost use Rattle.guard_values.specs.KeptLengths.{contents_length, length_beside, lengths_beside};
+ghost use Rattle.guard_values.specs.SingleValues.{is_bounded, are_bounded};
 
 use guard_model::{Ty, Value};
 use guard_names::{Id, Names};
@@ -16,14 +17,18 @@ use std::sync::Arc;
 /// What is already built of the definitions, in the order in which each comes after those that it uses: `types` has the
 /// type of each, of a value its governor, and `values` beside it the value, or None for the definition of a type. Beside a
 /// value, `lengths` has how many octets the contents of its encoding are, so that no use of its name counts them anew; None
-/// where they are more than an encoding may have.
+/// where they are more than an encoding may have. Beside a type, `bounds` has a number of octets that the contents of no
+/// single value in its own constraints exceed, so that a use of its name under other tags needn't look at those values; None
+/// where no such number is known.
 #[derive(Drop)]
 pub struct Known {
     pub types: Vec<Arc<Ty>>,
     pub values: Vec<Option<Arc<Value>>>,
     pub lengths: Vec<Option<usize>>,
+    pub bounds: Vec<Option<usize>>,
     pub ghost even: { length values.items ≡ length types.items },
     pub ghost counted: { lengths.items ≡ lengths_beside types.items values.items },
+    pub ghost bounded: { IsTrue (are_bounded bounds.items types.items) } by { Prim.hlevel props },
 }
 
 /// A value, and how many octets the contents of its encoding are, the tags of its type aside; None where they are more
@@ -73,15 +78,18 @@ impl Known {
         let types = Vec::with_capacity(alloc, count)?;
         let values = Vec::with_capacity(alloc, count)?;
         let lengths = Vec::with_capacity(alloc, count)?;
+        let bounds = Vec::with_capacity(alloc, count)?;
         Ok(Known {
             types,
             values,
             lengths,
+            bounds,
         })
     }
 
-    /// With the next definition in the order: its type, of a value the governor; its value, if it is one's; and how many
-    /// octets the contents of its encoding are, or None. Fails only where memory runs out.
+    /// With the next definition in the order: its type, of a value the governor; its value, if it is one's; how many octets
+    /// the contents of its encoding are, or None; and a number of octets that the contents of no single value in the type's
+    /// own constraints exceed, or None. Fails only where memory runs out.
     ///
     /// It is taken and handed back by value, since one list longer than the others would break what holds of it.
     pub fn with(
@@ -89,8 +97,10 @@ impl Known {
         ty: Arc<Ty>,
         value: Option<Arc<Value>>,
         octets: Option<usize>,
+        bound: Option<usize>,
     ) -> Result<Known, AllocError>
-        requires { octets ≡ length_beside ty value }
+        requires counted { octets ≡ length_beside ty value }
+        requires bounded { IsTrue (is_bounded bound (shared_type_view ty)) }
         ensures types { IfOk result (λ k. k.types.items ≡ self.types.items ++ ty ∷ []) }
         ensures values { IfOk result (λ k. k.values.items ≡ self.values.items ++ value ∷ []) }
     {
@@ -98,15 +108,18 @@ impl Known {
             mut types,
             mut values,
             mut lengths,
+            mut bounds,
             ..
         } = self;
         types.push(ty)?;
         values.push(value)?;
         lengths.push(octets)?;
+        bounds.push(bound)?;
         Ok(Known {
             types,
             values,
             lengths,
+            bounds,
         })
     }
 
@@ -127,6 +140,14 @@ impl Known {
         ensures { option_map (λ ty. shared_type_view ty.now) result ≡ type_at self.now place }
     {
         self.types.get(place)
+    }
+
+    /// A number of octets that the contents of no single value exceed in the own constraints of the type that is known of
+    /// the definition at this place in the order, from 0. None where no such number is known.
+    pub fn bound_at(&self, place: usize) -> Option<usize>
+        ensures { IfSome (type_at self.now place) (λ t. IsTrue (is_bounded result t)) }
+    {
+        *self.bounds.get(place)?
     }
 }
 
@@ -155,6 +176,17 @@ impl<'s, 'm, 'a> Scope<'s, 'm, 'a> {
     {
         match self.place_named(name) {
             Some(place) => self.known.type_at(place),
+            None => None,
+        }
+    }
+
+    /// A number of octets that the contents of no single value exceed in the own constraints of the type that a name means
+    /// in the module of the definition. None where no such number is known.
+    pub fn bound_named(&self, name: &[u8]) -> Option<usize>
+        ensures { IfSome (types_of self.now name.now) (λ t. IsTrue (is_bounded result t)) }
+    {
+        match self.place_named(name) {
+            Some(place) => self.known.bound_at(place),
             None => None,
         }
     }

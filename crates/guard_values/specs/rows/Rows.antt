@@ -3,7 +3,7 @@ use Rattle.std.specs.Prelude.{◌≡◌, ℕ, pos, negsuc, Bool, true, false, Li
 use Rattle.guard_model.specs.declared.site.Site.{Site}
 use Rattle.guard_model.specs.declared.tag.Class.TheVariants.{Universal}
 use Rattle.guard_model.specs.AbstractType as type
-use Rattle.guard_model.specs.AbstractType.{AbstractType, NamedNumber, type_of}
+use Rattle.guard_model.specs.AbstractType.{AbstractType, Constraint, NamedNumber, type_of}
 use Rattle.guard_model.specs.AbstractValue as value
 use Rattle.guard_der.specs.Element.{element, identifier_octets, length_octets}
 use Rattle.guard_der.specs.Octets.{fewest, signed_octets}
@@ -15,6 +15,7 @@ use Rattle.guard_values.specs.Simple.{bits_value, text_value}
 use Rattle.guard_values.specs.NamedBits.{ones_at, places_named}
 use Rattle.guard_values.specs.declared.fault.ValueFault.TheVariants.{WrongNotation, UnknownName, TooLarge}
 use Rattle.guard_values.specs.Faults.{faults_of}
+use Rattle.guard_values.specs.SingleValues.{keeps_within}
 use Rattle.guard_values.specs.inside.Reading.{read, read_whole}
 
 -- one bit for OCTET STRING is filled with zero bits after that one
@@ -132,3 +133,20 @@ no_list : faults_of (λ name. None)
     (value_node here (written.list no_entries)) ≡ WrongNotation here ∷ []
 unfolding here
 no_list = refl
+
+-- ---- OCTET STRING ('00'H | '0102'H)
+
+octets : AbstractType
+octets =
+    let one : Constraint = type.at here (type.single_value (value.octet_string (0x00 ∷ []))) in
+    let other : Constraint = type.at here (type.single_value (value.octet_string (0x01 ∷ 0x02 ∷ []))) in
+    type_of [] type.octet_string (type.constraint (type.at here (type.union
+    (type.constraint one (type.constraint other type.no_constraints)))) type.no_constraints)
+
+two_at_most : keeps_within 2 octets ≡ true
+unfolding here octets
+two_at_most = refl
+
+more_than_one : keeps_within 1 octets ≡ false
+unfolding here octets
+more_than_one = refl

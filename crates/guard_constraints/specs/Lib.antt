@@ -12,6 +12,7 @@ pub mod Faults
 pub mod FirstFault
 -- ---- what the code's results and arguments mean
 pub mod Views
+pub mod Agreed
 -- ---- what only private contracts and proofs cite
 pub mod inside
 -- ---- worked examples

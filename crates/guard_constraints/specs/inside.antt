@@ -1,3 +1,2 @@
 -- What only private contracts and proofs cite.
 pub mod Reading
-pub mod Agreed

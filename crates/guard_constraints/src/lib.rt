@@ -13,6 +13,7 @@
 //! | what may be written inside FROM | `alphabets.rt`, `specs/PermittedAlphabets.antt` |
 //! | what may WITH COMPONENTS list | `listed_parts.rt`, `specs/ListedParts.antt` |
 //! | what do names mean | `specs/Visible.antt`, by `Scope` of `guard_values`; contained types: `contained_types.rt` |
+//! | which contained types were compared before | `specs/Agreed.antt` |
 //! | what does the code compute, step by step | `specs/inside/Reading.antt` |
 //! | which integers does a set hold | `IntSet` of `guard_integers` |
 #![tactic(auto)]

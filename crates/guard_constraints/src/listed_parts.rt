@@ -2,6 +2,8 @@
 ghost use Rattle.std.specs.Prelude.{◌≡◌, [], map, option_map, IsTrue, IfOk};
 ghost use Rattle.guard_model.specs.Answer.{Gives};
 ghost use Rattle.guard_model.specs.TypeView.{type_view, kind_view, component_view, presence_view};
+ghost use Rattle.guard_model.specs.TypeView.{constraint_view, part_view};
+ghost use Rattle.guard_syntax.specs.SetViews as views;
 ghost use Rattle.guard_der.specs.Fits.{may_be_absent};
 ghost use Rattle.guard_model.specs.Kinds.{kind_of};
 ghost use Rattle.guard_der.specs.Sound.{is_sound};
@@ -12,7 +14,7 @@ ghost use Rattle.guard_values.specs.Views.{located_view};
 ghost use Rattle.guard_constraints.specs.Views.{named, head_view};
 
 use crate::fault::ConsFault;
-use guard_model::{Comp, Kind, Presence, Site, Ty, Word};
+use guard_model::{Comp, Cons, Kind, Part, Presence, Site, Ty, Word};
 use guard_syntax::{ComponentConsTree, PresenceWord};
 
 /// The component or alternative with this name.
@@ -25,13 +27,25 @@ fn component_named<'a>(kind: &'a Kind, name: &[u8]) -> Option<&'a Comp>
 }
 
 /// The presence word, where there is one.
-pub fn word_of(presence: Option<PresenceWord>) -> Option<Word>
+fn word_of(presence: Option<PresenceWord>) -> Option<Word>
     ensures { result ≡ option_map listing.word_of presence }
 {
     match presence? {
         PresenceWord::Present => Some(Word::Present),
         PresenceWord::Absent => Some(Word::Absent),
         PresenceWord::Optional => Some(Word::Optional),
+    }
+}
+
+/// The part that is written so, of the component or alternative at this place, with the constraint in it.
+pub fn part_at(tree: &ComponentConsTree, place: u8, cons: Option<Cons>) -> Part
+    ensures { part_view result ≡ reading.one_part (views.part_view tree.now) place (option_map constraint_view cons) }
+{
+    Part {
+        site: tree.site,
+        at: place,
+        cons,
+        word: word_of(tree.presence),
     }
 }
 

@@ -1,5 +1,5 @@
 //! The constraint that a tree of the notation denotes on a type (X.680 49 to 51).
-ghost use Rattle.std.specs.Prelude.{◌≡◌, ◌∷◌, map, IsTrue, IfOk, IfErr, IfSome, None, Some, option_map};
+ghost use Rattle.std.specs.Prelude.{◌≡◌, ◌∷◌, map, IsTrue, IfOk, IfErr, IfSome, None, Some};
 ghost use Rattle.guard_model.specs.Answer.{Gives};
 ghost use Rattle.guard_model.specs.AbstractType as abstract;
 ghost use Rattle.guard_model.specs.AbstractType.{Constraint};
@@ -16,7 +16,7 @@ ghost use Rattle.guard_constraints.specs.Denotes.{Denotes};
 ghost use Rattle.guard_constraints.specs.Conditions.{IsConstraintFaultIn};
 ghost use Rattle.guard_constraints.specs.declared.fault.ConsFault.{ConsFault};
 ghost use Rattle.guard_constraints.specs.FirstFault.{IsFirstConstraintFault};
-ghost use Rattle.guard_constraints.specs.inside.Agreed.{AreAgreed};
+ghost use Rattle.guard_constraints.specs.Agreed.{AreAgreed};
 ghost use Rattle.guard_constraints.specs.inside.Reading as reading;
 ghost use Rattle.guard_constraints.specs.Views.{named, visible_at, visible_in, AreKnownSound};
 
@@ -24,7 +24,7 @@ use crate::alphabets::alphabet;
 use crate::contained_types::contained;
 use crate::fault::ConsFault;
 use crate::kinds::{element_type, size_type};
-use crate::listed_parts::{check_parts, located, word_of};
+use crate::listed_parts::{check_parts, located, part_at};
 use crate::range_ends::range;
 use crate::written_values::written_value;
 use guard_model::{Cons, Part, Rule, Site, Ty};
@@ -41,7 +41,11 @@ use std::sync::{Arc, ArcSlice};
 /// The constraint that a tree denotes on a type (X.680 49 to 51), written in the definition `id`: names mean what they
 /// mean in the module of that definition, as far as `known` has it.
 ///
-/// Conditions: the type and each type in `known` are sound, and each value in `known` is one of its governor's.
+/// `agreed` has places in `known` of types with the base of `ty`, none at first, and gets the places of those that are
+/// found to have it. Handed on to the other constraints on `ty`, it saves comparing a type that they contain again.
+///
+/// Conditions: the type and each type in `known` are sound, each value in `known` is one of its governor's, and the
+/// types at the places in `agreed` have the base of `ty`.
 ///
 /// Errors: one of C1 to C10, as `ConsFault` says of each. Its condition stands at its site, in some element of the
 /// tree, and the tree denotes nothing. Of several faults it is the first: an element's own C1 to C8 come before what is
@@ -54,10 +58,12 @@ pub fn constraint(
     id: Id,
     ty: &Ty,
     tree: &ConsTree,
+    agreed: &mut BTreeSet<usize>,
 ) -> Result<Cons, ConsFault>
     requires sound { IsTrue (is_sound (type_view ty.now)) }
     requires fitting { AreKnownFitting known.now }
     requires known { AreKnownSound known.now }
+    requires agreed { AreAgreed known.now (type_view ty.now) agreed.old }
     // The constraint is the one denoted, with the sites of its nodes, and it may be on the type.
     ensures denoted { IfOk result (λ c. Denotes (visible_at names.now known.now id) (type_view ty.now)
         (views.constraint_view tree.now) (constraint_view c)) }
@@ -71,21 +77,30 @@ pub fn constraint(
         (type_view ty.now) (views.constraint_view tree.now) f)) }
     ensures none { IfErr result (λ e. IfSome (named e) (λ f. (c : Constraint) →
         Denotes (visible_at names.now known.now id) (type_view ty.now) (views.constraint_view tree.now) c → ⊥)) }
+    // All places in `agreed` are still of such types, after an error too.
+    ensures agreed { AreAgreed known.now (type_view ty.now) agreed.new }
 {
-    on_type(alloc, Scope { names, known, id }, tree, ty)
+    on_type(alloc, Scope { names, known, id }, tree, ty, agreed)
 }
 
-/// A set in parentheses.
+/// A set in parentheses. What is agreed is of this type: for a part of it there is a set of its own.
 #[cycle(sets)]
 #[tactic(auto, unfolding(crate::specs::inside::Reading::read))]
-fn on_type(alloc: Global, scope: Scope, tree: &ConsTree, ty: &Ty) -> Result<Cons, ConsFault>
+fn on_type(
+    alloc: Global,
+    scope: Scope,
+    tree: &ConsTree,
+    ty: &Ty,
+    agreed: &mut BTreeSet<usize>,
+) -> Result<Cons, ConsFault>
     requires sound { IsTrue (is_sound (type_view ty.now)) }
     requires fitting { AreKnownFitting scope.known.now }
-    ensures { Gives constraint_view named result
+    requires agreed { AreAgreed scope.known.now (type_view ty.now) agreed.old }
+    ensures given { Gives constraint_view named result
         (reading.read (visible_in scope.entry) (type_view ty.now) (views.constraint_view tree.now)) }
+    ensures agreed { AreAgreed scope.entry.known.now (type_view ty.now) agreed.new }
 {
-    let mut agreed = BTreeSet::new(alloc);
-    set(alloc, scope, &tree.set, ty, &mut agreed)
+    set(alloc, scope, &tree.set, ty, agreed)
 }
 
 #[cycle(sets)]
@@ -364,7 +379,7 @@ fn size(
         site (trees.size (views.constraint_view inner.now))) }
 {
     let number = size_type(alloc, ty, site)?;
-    let size = on_type(alloc, scope, inner, &number)?;
+    let size = on_type(alloc, scope, inner, &number, &mut BTreeSet::new(alloc))?;
     of_size(alloc, site, size, ty)
 }
 
@@ -398,7 +413,8 @@ fn each(
         site (trees.with_component (views.constraint_view inner.now))) }
 {
     let element = element_type(ty, site)?;
-    let each = Arc::new(alloc, on_type(alloc, scope, inner, element)?)?;
+    let each = on_type(alloc, scope, inner, element, &mut BTreeSet::new(alloc))?;
+    let each = Arc::new(alloc, each)?;
     Ok(Cons {
         site,
         rule: Rule::Each(each),
@@ -471,19 +487,8 @@ fn part(alloc: Global, scope: Scope, tree: &ComponentConsTree, ty: &Ty) -> Resul
     match &tree.cons {
         None => Ok(part_at(tree, place, None)),
         Some(inner) => {
-            let cons = on_type(alloc, scope, inner, inside)?;
+            let cons = on_type(alloc, scope, inner, inside, &mut BTreeSet::new(alloc))?;
             Ok(part_at(tree, place, Some(cons)))
         }
-    }
-}
-
-fn part_at(tree: &ComponentConsTree, place: u8, cons: Option<Cons>) -> Part
-    ensures { part_view result ≡ reading.one_part (views.part_view tree.now) place (option_map constraint_view cons) }
-{
-    Part {
-        site: tree.site,
-        at: place,
-        cons,
-        word: word_of(tree.presence),
     }
 }

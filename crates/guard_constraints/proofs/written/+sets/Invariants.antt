@@ -4,7 +4,7 @@ use Rattle.guard_model.specs.TypeView.{type_view, constraint_view, part_view}
 use Rattle.guard_model.proofs.Loops.{with_front}
 use Rattle.guard_syntax.specs.SetViews as views
 use Rattle.guard_model.specs.Kinds.{kind_of}
-use Rattle.guard_constraints.specs.inside.Agreed.{AreAgreed}
+use Rattle.guard_constraints.specs.Agreed.{AreAgreed}
 use Rattle.guard_constraints.specs.inside.Reading.{joined_intersections, joined_differences, read_part}
 use Rattle.guard_constraints.specs.Views.{visible_in}
 use Rattle.guard_constraints.proofs.written.+sets.Given as goal

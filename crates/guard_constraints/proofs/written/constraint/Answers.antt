@@ -9,28 +9,28 @@ use Rattle.guard_constraints.proofs.written.constraint.Goals as goal
 pub returns-clause-denoted : goal.returns-clause-denoted
 returns-clause-denoted c =
     gives_denoted (visible_at c.args.names.now c.args.known.now c.args.id) (type_view c.args.ty.now) (views.constraint_view c.args.tree.now)
-    (visible_fit c.args.names.now c.args.known.now c.args.id c.requires.fitting) c.requires.sound c.on_type.result c.on_type.ensures
+    (visible_fit c.args.names.now c.args.known.now c.args.id c.requires.fitting) c.requires.sound c.on_type.result c.on_type.ensures.given
 
 pub returns-clause-proper : goal.returns-clause-proper
 returns-clause-proper c =
     gives_proper (visible_at c.args.names.now c.args.known.now c.args.id) (type_view c.args.ty.now) (views.constraint_view c.args.tree.now)
-    (visible_fit c.args.names.now c.args.known.now c.args.id c.requires.fitting) c.requires.sound (visible_sound c.args.names.now c.args.known.now c.args.id c.requires.known) c.on_type.result c.on_type.ensures
+    (visible_fit c.args.names.now c.args.known.now c.args.id c.requires.fitting) c.requires.sound (visible_sound c.args.names.now c.args.known.now c.args.id c.requires.known) c.on_type.result c.on_type.ensures.given
 
 pub returns-clause-faultless : goal.returns-clause-faultless
 returns-clause-faultless c =
     gives_faultless (visible_at c.args.names.now c.args.known.now c.args.id) (type_view c.args.ty.now) (views.constraint_view c.args.tree.now)
-    (visible_fit c.args.names.now c.args.known.now c.args.id c.requires.fitting) c.requires.sound c.on_type.result c.on_type.ensures
+    (visible_fit c.args.names.now c.args.known.now c.args.id c.requires.fitting) c.requires.sound c.on_type.result c.on_type.ensures.given
 
 pub returns-clause-holds : goal.returns-clause-holds
 returns-clause-holds c =
     gives_holding (visible_at c.args.names.now c.args.known.now c.args.id) (type_view c.args.ty.now) (views.constraint_view c.args.tree.now)
-    (visible_fit c.args.names.now c.args.known.now c.args.id c.requires.fitting) c.requires.sound c.on_type.result c.on_type.ensures
+    (visible_fit c.args.names.now c.args.known.now c.args.id c.requires.fitting) c.requires.sound c.on_type.result c.on_type.ensures.given
 
 pub returns-clause-first : goal.returns-clause-first
 returns-clause-first c =
     gives_first (visible_at c.args.names.now c.args.known.now c.args.id) (type_view c.args.ty.now) (views.constraint_view c.args.tree.now)
-    (visible_fit c.args.names.now c.args.known.now c.args.id c.requires.fitting) c.requires.sound c.on_type.result c.on_type.ensures
+    (visible_fit c.args.names.now c.args.known.now c.args.id c.requires.fitting) c.requires.sound c.on_type.result c.on_type.ensures.given
 
 pub returns-clause-none : goal.returns-clause-none
 returns-clause-none c =
-    gives_none (visible_at c.args.names.now c.args.known.now c.args.id) (type_view c.args.ty.now) (views.constraint_view c.args.tree.now) c.on_type.result c.on_type.ensures
+    gives_none (visible_at c.args.names.now c.args.known.now c.args.id) (type_view c.args.ty.now) (views.constraint_view c.args.tree.now) c.on_type.result c.on_type.ensures.given

@@ -21,7 +21,7 @@ not_some None false e = absurd cc
 not_some (Some w) true e = absurd cc
 not_some (Some w) false e = refl
 
-none_seen : (steps : List Step) (found : Option Site) → is_none found ≡ is_none (found_by steps found)
+pub none_seen : (steps : List Step) (found : Option Site) → is_none found ≡ is_none (found_by steps found)
 none_seen steps None = refl
 none_seen steps (Some site) = refl
 

@@ -16,7 +16,8 @@ pub mod Calls
 pub mod WholeSets
 pub mod Numbered
 pub mod RuleViews
-pub mod LongLists
+-- ---- many values together
+pub mod ManyValues
 -- ---- sound types
 pub mod Bases
 pub mod Soundness

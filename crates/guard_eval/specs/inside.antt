@@ -2,5 +2,6 @@
 pub mod Failures
 pub mod KnownCodes
 pub mod Windows
-pub mod LongLists
 pub mod NumberSets
+pub mod Together
+pub mod OwnAnswers

@@ -1,7 +1,6 @@
 //! The integers that a constraint allows, of any form and at any depth, as one set (X.680 51.4 and 51.5); and the items
 //! of an ENUMERATED type that it allows, as the set of their numbers.
 ghost use Rattle.std.specs.Prelude.{◌≡◌, ◌&&◌, ◌||◌, ℤ, map, IfOk, OnOk};
-ghost use Rattle.std.specs.Option.{is_none};
 ghost use Rattle.guard_integers.specs.Integers as integers;
 ghost use Rattle.guard_integers.specs.Integers.{some_holds};
 ghost use Rattle.guard_model.specs.AbstractValue as abstract;
@@ -12,9 +11,9 @@ ghost use Rattle.guard_model.specs.ValueView.{value_view};
 ghost use Rattle.guard_eval.specs.Elements.{is_above, is_under, is_between};
 ghost use Rattle.guard_eval.specs.Member.{holds, is_member};
 ghost use Rattle.guard_eval.specs.NumberSets.{HasNumbers};
-ghost use Rattle.guard_eval.specs.inside.Failures.{failure};
 ghost use Rattle.guard_eval.specs.inside.NumberSets.{begins, ends, value_of, is_of, allows, all_allow, some_allow, has};
 ghost use Rattle.guard_eval.specs.inside.NumberSets.{HoldsThose};
+ghost use Rattle.guard_eval.specs.inside.Together.{keeps_own};
 
 use guard_integers::IntSet;
 use guard_model::{Cons, Kind, Limit, OutOfMemory, Rule, Ty, Value};
@@ -23,8 +22,11 @@ use std::alloc::Global;
 /// The values that are known by their numbers.
 #[derive(Clone, Copy)]
 enum Numbered {
+    /// Those of any INTEGER, as the constraints of a sound type allow them.
     Integers,
-    /// Those of an ENUMERATED type.
+    /// Integers, as the walk over the constraints lets them by.
+    Walked,
+    /// The items of an ENUMERATED type, as the walk over the constraints lets them by.
     Items,
 }
 
@@ -45,12 +47,20 @@ pub fn numbers_of_type(alloc: Global, ty: &Ty) -> Result<IntSet, OutOfMemory>
     set_of_type(alloc, Numbered::Integers, ty)
 }
 
-/// The numbers of the items that violate nothing of the type, whatever kind it has. OutOfMemory is the only error.
-pub fn items_of_type(alloc: Global, ty: &Ty) -> Result<IntSet, OutOfMemory>
+/// The integers that keep the type's own constraints, whatever kind it has. OutOfMemory is the only error.
+pub fn own_integers(alloc: Global, ty: &Ty) -> Result<IntSet, OutOfMemory>
     ensures { IfOk result (λ set. (z : ℤ) → integers.holds set z
-        ≡ (fits_128_bits z && is_none (failure (type_view ty.now) (abstract.enumerated z)))) }
+        ≡ (fits_128_bits z && keeps_own (type_view ty.now) (abstract.integer z))) }
 {
-    set_of_type(alloc, Numbered::Items, ty)
+    set_of_all(alloc, Numbered::Walked, &ty.cons)
+}
+
+/// The numbers of the items that keep the type's own constraints, whatever kind it has. OutOfMemory is the only error.
+pub fn own_items(alloc: Global, ty: &Ty) -> Result<IntSet, OutOfMemory>
+    ensures { IfOk result (λ set. (z : ℤ) → integers.holds set z
+        ≡ (fits_128_bits z && keeps_own (type_view ty.now) (abstract.enumerated z))) }
+{
+    set_of_all(alloc, Numbered::Items, &ty.cons)
 }
 
 #[cycle(number_sets)]
@@ -115,6 +125,7 @@ fn is_of(of: Numbered, kind: &Kind) -> bool
 {
     match of {
         Numbered::Integers => kind.is_integer(),
+        Numbered::Walked => true,
         Numbered::Items => true,
     }
 }
@@ -143,6 +154,7 @@ fn number_alone(alloc: Global, of: Numbered, value: &Value) -> Result<IntSet, Ou
 {
     match (of, value) {
         (Numbered::Integers, Value::Int(number)) => IntSet::range(alloc, *number, *number),
+        (Numbered::Walked, Value::Int(number)) => IntSet::range(alloc, *number, *number),
         (Numbered::Items, Value::Enumerated(number)) => IntSet::range(alloc, *number, *number),
         _ => Ok(IntSet::none(alloc)),
     }
@@ -159,6 +171,7 @@ fn numbers_between(
 {
     match (of, lowest(low), highest(high)) {
         (Numbered::Integers, Some(low), Some(high)) => IntSet::range(alloc, low, high),
+        (Numbered::Walked, Some(low), Some(high)) => IntSet::range(alloc, low, high),
         _ => Ok(IntSet::none(alloc)),
     }
 }

@@ -79,7 +79,7 @@ fn failure_of_chosen(path: &mut Path, comps: &[Comp], at: u8, value: &Value) -> 
 
 /// The first constraint that an element of an OF type fails.
 #[cycle(search)]
-fn failure_of_items(path: &mut Path, ty: &Ty, items: &[Value]) -> Option<Site>
+pub fn failure_of_items(path: &mut Path, ty: &Ty, items: &[Value]) -> Option<Site>
     ensures { found_by path.new.items result ≡ failure_among (failure (type_view ty.now)) 0 (items_view items.now) }
 {
     for (index, item) in items.iter().enumerate() {

@@ -22,30 +22,36 @@ abbrev pub ends : Option ℤ → ℤ → Bool
 ends None z = false
 ends (Some high) z = int_le z high
 
--- ---- integers, of any INTEGER; and items, of which the walk says what allows them, whatever their type is
+-- ---- integers, of any INTEGER; and integers and items of which the walk says what allows them, whatever their type is
 
 abbrev pub value_of : Numbered → ℤ → AbstractValue
 value_of numbered.Integers z = value.integer z
+value_of numbered.Walked z = value.integer z
 value_of numbered.Items z = value.enumerated z
 
 abbrev pub is_of : Numbered → AbstractKind → Bool
 is_of numbered.Integers kind = is_integer kind
+is_of numbered.Walked kind = true
 is_of numbered.Items kind = true
 
 abbrev pub allows : Numbered → Constraint → AbstractKind → ℤ → Bool
 allows numbered.Integers c kind z = holds c kind (value.integer z)
+allows numbered.Walked c kind z = is_none (failure_by c kind (value.integer z))
 allows numbered.Items c kind z = is_none (failure_by c kind (value.enumerated z))
 
 abbrev pub all_allow : Numbered → Constraints → AbstractKind → ℤ → Bool
 all_allow numbered.Integers cs kind z = all_hold cs kind (value.integer z)
+all_allow numbered.Walked cs kind z = is_none (first_failure cs kind (value.integer z))
 all_allow numbered.Items cs kind z = is_none (first_failure cs kind (value.enumerated z))
 
 abbrev pub some_allow : Numbered → Constraints → AbstractKind → ℤ → Bool
 some_allow numbered.Integers cs kind z = some_hold cs kind (value.integer z)
+some_allow numbered.Walked cs kind z = some_allows cs kind (value.integer z)
 some_allow numbered.Items cs kind z = some_allows cs kind (value.enumerated z)
 
 abbrev pub has : Numbered → AbstractType → ℤ → Bool
 has numbered.Integers t z = is_member t (value.integer z)
+has numbered.Walked t z = is_none (failure t (value.integer z))
 has numbered.Items t z = is_none (failure t (value.enumerated z))
 
 -- the set holds the numbers of what is allowed, on whatever kind

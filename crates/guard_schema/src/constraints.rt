@@ -8,6 +8,7 @@ ghost use Rattle.guard_model.specs.Kinds.{kind_of};
 ghost use Rattle.guard_model.specs.TypeView.{type_view, kind_view, constraint_view, constraints_of};
 ghost use Rattle.guard_syntax.specs.SetViews as sets;
 ghost use Rattle.guard_syntax.specs.TypeViews as written;
+ghost use Rattle.guard_constraints.specs.Agreed.{AreAgreed};
 ghost use Rattle.guard_constraints.specs.Views.{visible_in};
 ghost use Rattle.guard_schema.specs.Faults.{named};
 ghost use Rattle.guard_schema.specs.Finishing.{with_constraint, AddsOne, Adds, Sizes};
@@ -27,6 +28,7 @@ use guard_model::{Cons, Kind, Rule, Site, Tag, Ty, are_same_tags};
 use guard_syntax::{BaseTree, ConsTree, OfConsTree, TypeTree};
 use guard_values::Scope;
 use std::alloc::{AllocError, Global};
+use std::collections::BTreeSet;
 use std::sync::Arc;
 
 /// The type that is written so, whose parts are finished, with its constraints: those that it has before those after
@@ -42,7 +44,8 @@ pub fn with_written(alloc: Global, scope: Scope, tree: &TypeTree, ty: Ty) -> Res
     with_constraints(alloc, scope, &tree.cons, before)
 }
 
-/// The type with these constraints, each on the type with those before it.
+/// The type with these constraints, each on the type with those before it. All have its base, so that a type which
+/// several of them contain is compared with it once.
 fn with_constraints(
     alloc: Global,
     scope: Scope,
@@ -56,21 +59,30 @@ fn with_constraints(
     ensures sound { IfOk result (λ t. IsTrue (is_sound (type_view t))) }
 {
     let mut constrained = ty;
+    let mut agreed = BTreeSet::new(alloc);
     for tree in trees {
-        constrained = with_constraint(alloc, scope, tree, constrained)?;
+        constrained = with_constraint(alloc, scope, tree, constrained, &mut agreed)?;
     }
     Ok(constrained)
 }
 
-/// The type with one constraint more.
-fn with_constraint(alloc: Global, scope: Scope, tree: &ConsTree, ty: Ty) -> Result<Ty, SchemaFault>
+/// The type with one constraint more. What has the base of the one has that of the other.
+fn with_constraint(
+    alloc: Global,
+    scope: Scope,
+    tree: &ConsTree,
+    ty: Ty,
+    agreed: &mut BTreeSet<usize>,
+) -> Result<Ty, SchemaFault>
     requires sound { IsTrue (is_sound (type_view ty)) }
     requires known { AreBuilt scope.known.now }
+    requires agreed { AreAgreed scope.known.now (type_view ty) agreed.old }
     ensures added { Answers type_view named result
         (AddsOne (visible_in scope.entry) (sets.constraint_view tree.now) (type_view ty)) }
     ensures sound { IfOk result (λ t. IsTrue (is_sound (type_view t))) }
+    ensures agreed { IfOk result (λ t. AreAgreed scope.entry.known.now (type_view t) agreed.new) }
 {
-    let cons = read_constraint(alloc, scope, &ty, tree)?;
+    let cons = read_constraint(alloc, scope, &ty, tree, agreed)?;
     Ok(with(ty, cons)?)
 }
 
@@ -151,7 +163,7 @@ fn by_one(alloc: Global, scope: Scope, before: &OfConsTree, ty: Ty) -> Result<Ty
     if before.size {
         sized(alloc, scope, before, ty)
     } else {
-        with_constraint(alloc, scope, &before.cons, ty)
+        with_constraint(alloc, scope, &before.cons, ty, &mut BTreeSet::new(alloc))
     }
 }
 
@@ -165,7 +177,8 @@ fn sized(alloc: Global, scope: Scope, before: &OfConsTree, ty: Ty) -> Result<Ty,
     ensures sound { IfOk result (λ t. IsTrue (is_sound (type_view t))) }
 {
     let number = Ty::integer(alloc)?;
-    let inner = read_constraint(alloc, scope, &number, &before.cons)?;
+    let mut agreed = BTreeSet::new(alloc);
+    let inner = read_constraint(alloc, scope, &number, &before.cons, &mut agreed)?;
     let cons = constraint_of_sizes(alloc, before.site, inner)?;
     Ok(with(ty, cons)?)
 }

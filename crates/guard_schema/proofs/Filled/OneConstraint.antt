@@ -1,11 +1,14 @@
 -- A sound type with one proper constraint more is sound.
-use Rattle.std.proofs.Common.{◌≡◌, refl, ◌∙◌, IsTrue, List}
+use Rattle.std.proofs.Common.{◌≡◌, ℕ, refl, ◌∙◌, IsTrue, List}
 use Rattle.std.proofs.lemmas.Bool.{and_parts, and_from}
+use Rattle.std.specs.BTreeSet.{BTreeSet}
 use Rattle.guard_model.specs.declared.tag.Tag.{Tag}
 use Rattle.guard_model.specs.AbstractType as type
 use Rattle.guard_model.specs.AbstractType.{AbstractType, AbstractKind, Constraint, Constraints, Element, Parts, type_of}
 use Rattle.guard_der.specs.Sound.{is_sound, is_proper, is_proper_element, is_proper_constraint, are_proper_constraints}
 use Rattle.guard_der.specs.Sound.{are_proper_parts}
+use Rattle.guard_values.specs.declared.scope.Known.{Known}
+use Rattle.guard_constraints.specs.Agreed.{AreAgreed}
 use Rattle.guard_schema.specs.Finishing.{add, with_constraint}
 
 -- what is proper on a type doesn't depend on its other constraints
@@ -56,3 +59,8 @@ sound_with (type_of tags kind cs) c h k =
     let p = and_parts _ _ h in
     let q = and_parts _ _ p.0 in
     and_from _ _ (and_from _ _ (proper_with (type_of tags kind cs) c q.0 k) q.1) p.1
+
+-- it has the base that the type has without it
+pub agreed_with : (known : Known) (t : AbstractType) (c : Constraint) (places : BTreeSet ℕ) → AreAgreed known t places
+    → AreAgreed known (with_constraint t c) places
+agreed_with known (type_of tags kind cs) c places agreed = agreed

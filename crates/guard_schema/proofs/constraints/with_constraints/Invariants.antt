@@ -1,6 +1,7 @@
 use Rattle.std.specs.Prelude.{IsTrue}
 use Rattle.guard_model.specs.TypeView.{type_view}
 use Rattle.guard_der.specs.Sound.{is_sound}
+use Rattle.guard_constraints.specs.Agreed.{AreAgreed}
 use Rattle.guard_constraints.specs.Views.{visible_in}
 use Rattle.guard_schema.proofs.Filled.Loops.{ConstraintsSoFar}
 use Rattle.guard_schema.proofs.constraints.with_constraints.Given as goal
@@ -9,4 +10,5 @@ abbrev pub invariant-loop-tree : goal.invariant-loop-tree
 invariant-loop-tree l = record {
   so_far : ConstraintsSoFar (visible_in l.scope) l.trees (type_view l.fn.ty) l.tree-index (type_view l.constrained);
   sound : IsTrue (is_sound (type_view l.constrained));
+  agreed : AreAgreed l.scope.known.now (type_view l.constrained) l.agreed;
 }

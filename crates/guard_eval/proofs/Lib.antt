@@ -18,6 +18,7 @@ pub mod Numbered
 pub mod RuleViews
 -- ---- many values together
 pub mod ManyValues
+pub mod Alternatives
 -- ---- sound types
 pub mod Bases
 pub mod Soundness

@@ -9,6 +9,7 @@
 //! | Which are members of a type? | `members.rt` (`member`, inside types `proper_member`) | `specs/Member.antt` |
 //! | How are they found where a value has many parts of one type? | `together.rt` (`member_of`), `columns.rt`, `free_types.rt` | `specs/Member.antt`, `specs/inside/Together.antt` |
 //! | What do a type's own constraints say of many values? | `own_answers.rt` | `specs/inside/OwnAnswers.antt` |
+//! | Which of a union's many single values may have a string? | `singles.rt` | `specs/inside/Failures.antt` |
 //! | Which integers does a constraint allow, as a set, and which items? | `number_sets.rt` | `specs/NumberSets.antt` |
 //! | Which constraint is failed first, and where? | `violation.rt` (`first_violation`) | `specs/Violations.antt` |
 //! | How are all of these found in one walk? | `search.rt` | `specs/inside/Failures.antt` |
@@ -25,6 +26,7 @@ mod number_sets;
 mod own_answers;
 mod presence;
 mod search;
+mod singles;
 mod together;
 mod violation;
 mod windows;

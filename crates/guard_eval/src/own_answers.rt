@@ -1,5 +1,5 @@
 //! The own constraints of a type, asked for many values: what they say of numbers is found out once as a set, and what
-//! they say of BOOLEAN and NULL once for each value that there is.
+//! they say of BOOLEAN and NULL once for each value that there is; a union's alternatives for a string are looked up.
 ghost use Rattle.std.specs.Prelude.{◌≡◌, IfOk};
 ghost use Rattle.std.specs.List.{list_all};
 ghost use Rattle.guard_model.specs.TypeView.{type_view};
@@ -9,6 +9,7 @@ ghost use Rattle.guard_eval.specs.inside.Together.{keeps_own, values_view};
 
 use crate::number_sets::{own_integers, own_items};
 use crate::search::first_failure;
+use crate::singles::{Alternatives, all_allow, alternatives_of_each};
 use guard_integers::IntSet;
 use guard_model::{Kind, OutOfMemory, Path, Ty, Value};
 use std::alloc::Global;
@@ -28,6 +29,8 @@ enum Known {
     Truths(bool, bool),
     /// Whether NULL keeps them.
     Null(bool),
+    /// Where the alternatives of each constraint are that may have a string.
+    Strings(Vec<Alternatives>),
 }
 
 /// Whether each of the values keeps the type's own constraints. Those of its parts aren't asked.
@@ -53,6 +56,9 @@ fn known_of(alloc: Global, ty: &Ty, count: usize) -> Result<Known, OutOfMemory>
             keeps_own(ty, &Value::Bool(false)),
         )),
         Kind::Null => Ok(Known::Null(keeps_own(ty, &Value::Null))),
+        Kind::Bits(_) => Ok(Known::Strings(alternatives_of_each(alloc, &ty.cons)?)),
+        Kind::Octets => Ok(Known::Strings(alternatives_of_each(alloc, &ty.cons)?)),
+        Kind::Chars(_) => Ok(Known::Strings(alternatives_of_each(alloc, &ty.cons)?)),
         _ => Ok(Known::Nothing),
     }
 }
@@ -80,6 +86,7 @@ fn is_kept(known: &Known, ty: &Ty, value: &Value) -> bool
         (Known::Truths(of_true, _), Value::Bool(true)) => *of_true,
         (Known::Truths(_, of_false), Value::Bool(false)) => *of_false,
         (Known::Null(kept), Value::Null) => *kept,
+        (Known::Strings(each), _) => all_allow(each, &ty.cons, &ty.kind, value),
         _ => keeps_own(ty, value),
     }
 }

@@ -20,3 +20,5 @@ IsKnown (known.Items set) t = HoldsOwn set (λ z. value.enumerated z) t
 IsKnown (known.Truths of_true of_false) t =
     (of_true ≡ keeps_own t (value.boolean true)) × (of_false ≡ keeps_own t (value.boolean false))
 IsKnown (known.Null kept) t = kept ≡ keeps_own t value.null
+-- what is found by them is asked
+IsKnown (known.Strings each) t = Unit {0}

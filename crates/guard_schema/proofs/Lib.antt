@@ -5,6 +5,8 @@ pub mod Turns
 pub mod OneAnswer
 -- ---- texts and their modules
 pub mod Modules
+-- ---- how many octets single values have at most
+pub mod Bounds
 -- ---- definitions: what is filled into their types, and how each is built
 pub mod Filled
 pub mod Built

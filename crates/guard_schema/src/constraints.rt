@@ -17,13 +17,14 @@ ghost use Rattle.guard_schema.specs.LongValues.{first_long};
 ghost use Rattle.guard_schema.specs.Readings.{HasShortValues};
 ghost use Rattle.guard_schema.specs.inside.InTurn.{ConstrainsWritten};
 ghost use Rattle.guard_schema.specs.Pairs.{AreBuilt};
-ghost use Rattle.guard_schema.specs.inside.Ready.{IsPart, IsWrittenPart, IsShortAsMeant, tags_on};
+ghost use Rattle.guard_schema.specs.inside.Ready.{IsPart, IsWrittenPart, IsAsMeant, IsKnownShort, tags_on};
 ghost use Rattle.guard_schema.specs.Outcomes.{Answers, Is, Then};
 ghost use Rattle.guard_schema.specs.Views.{before_view};
 
 use crate::fault::SchemaFault;
 use crate::long_values::check_values;
 use crate::readings::read_constraint;
+use crate::value_bounds::has_room;
 use guard_model::{Cons, Kind, Rule, Site, Tag, Ty, are_same_tags};
 use guard_syntax::{BaseTree, ConsTree, OfConsTree, TypeTree};
 use guard_values::Scope;
@@ -128,17 +129,28 @@ fn constrained_before(
     }
 }
 
-/// The type of this name under these tags, where the values in its constraints are short enough. Under the tags that
-/// the name means they are, so those aren't looked at again.
+/// The type of this name under these tags, where the values in its constraints are short enough. They aren't looked at
+/// again where it is known of them without.
 fn with_short_values(alloc: Global, scope: Scope, name: &[u8], ty: Ty) -> Result<Ty, SchemaFault>
-    requires meant { IsShortAsMeant (visible_in scope) name.now (type_view ty) }
+    requires meant { IsAsMeant (visible_in scope) name.now (type_view ty) }
     ensures passed { Answers type_view named result (Then (HasShortValues (type_view ty)) (λ _. Is (type_view ty))) }
     ensures short { IfOk result (λ _. first_long (type_view ty) ≡ None) }
 {
-    if !are_tags_of(scope, name, &ty.tags) {
+    if !are_known_short(scope, name, &ty.tags) {
         check_values(alloc, &ty)?;
     }
     Ok(ty)
+}
+
+/// Whether the values in the constraints of the type that a name means are known to be short enough under these tags.
+/// They are under its own tags, and where there is room for as many octets as none of them exceeds.
+fn are_known_short(scope: Scope, name: &[u8], tags: &[Tag]) -> bool
+    ensures { IsTrue result → IsKnownShort (visible_in scope.entry) name.now tags.now }
+{
+    if are_tags_of(scope, name, tags) {
+        return true;
+    }
+    has_room(tags, scope.bound_named(name))
 }
 
 /// Whether the type that a name means has these tags.

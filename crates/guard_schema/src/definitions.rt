@@ -5,6 +5,7 @@ ghost use Rattle.guard_der.specs.Fits.{fits};
 ghost use Rattle.guard_der.specs.Sound.{is_sound};
 ghost use Rattle.guard_model.specs.TypeView.{shared_type_view, type_view};
 ghost use Rattle.guard_values.specs.KeptLengths.{length_beside};
+ghost use Rattle.guard_values.specs.SingleValues.{is_bounded};
 ghost use Rattle.guard_values.specs.Views.{shared_view};
 ghost use Rattle.guard_names.specs.NamesView.{modules_of, order_of};
 ghost use Rattle.guard_syntax.specs.ModuleViews.{perhaps_value_view, assignment_view};
@@ -30,6 +31,7 @@ use crate::fault::SchemaFault;
 use crate::finishing::finished;
 use crate::progress::{Definition, Progress};
 use crate::readings::read_member;
+use crate::value_bounds::bound_of;
 use guard_model::{Site, Ty, Value};
 use guard_names::{Id, Names};
 use guard_syntax::{Assignment, ValueTree};
@@ -82,6 +84,7 @@ fn built(alloc: Global, progress: &Progress, id: Id) -> Result<Definition, Schem
     ensures sound { IfOk result (λ d. IsTrue (is_sound (definition_view d).ty)) }
     ensures fits { IfOk result (λ d. IfSome (definition_view d).value (λ v. IsTrue (fits (definition_view d).ty v))) }
     ensures length { IfOk result (λ d. d.length ≡ length_beside d.ty d.value) }
+    ensures bound { IfOk result (λ d. IsTrue (is_bounded d.bound (shared_type_view d.ty))) }
     ensures nodes { IfOk result (λ d. (d.nodes ≡ progress.now.nodes + tagging.nodes (definition_view d).ty)
         × (d.nodes ≤ tagging.most_nodes)) }
     ensures held { IfOk result (λ d. (d.held ≡ progress.now.held + held_by (definition_view d))
@@ -134,6 +137,7 @@ fn completed(
     ensures sound { IfOk result (λ d. IsTrue (is_sound (definition_view d).ty)) }
     ensures fits { IfOk result (λ d. IfSome (definition_view d).value (λ v. IsTrue (fits (definition_view d).ty v))) }
     ensures length { IfOk result (λ d. d.length ≡ length_beside d.ty d.value) }
+    ensures bound { IfOk result (λ d. IsTrue (is_bounded d.bound (shared_type_view d.ty))) }
     ensures nodes { IfOk result (λ d. (d.nodes ≡ progress.now.nodes + tagging.nodes (definition_view d).ty)
         × (d.nodes ≤ tagging.most_nodes)) }
     ensures held { IfOk result (λ d. (d.held ≡ progress.now.held + held_by (definition_view d))
@@ -153,11 +157,13 @@ fn completed(
     let ty = finished(alloc, scope, &assignment.ty, bare)?;
     let found = valued(alloc, progress, scope, assignment, &ty)?;
     let (assigned, held) = found;
+    let bound = bound_of(&ty);
     let shared = Arc::new(alloc, ty)?;
     Ok(Definition {
         ty: shared,
         value: assigned.value,
         length: assigned.length,
+        bound,
         is_automatic,
         nodes,
         held,

@@ -5,6 +5,7 @@ ghost use Rattle.guard_der.specs.Fits.{fits};
 ghost use Rattle.guard_der.specs.Sound.{is_sound};
 ghost use Rattle.guard_model.specs.TypeView.{shared_type_view};
 ghost use Rattle.guard_values.specs.KeptLengths.{length_beside};
+ghost use Rattle.guard_values.specs.SingleValues.{is_bounded};
 ghost use Rattle.guard_tagging.specs.Surroundings.{nodes_of_all};
 ghost use Rattle.guard_tagging.specs.Faults as tagging;
 ghost use Rattle.guard_schema.specs.Counting.{all_held, held_by, most_held};
@@ -27,6 +28,9 @@ pub struct Definition {
     /// How many octets the contents of its encoding are; None without a value, and where they are more than an encoding
     /// may have.
     pub length: Option<usize>,
+    /// A number of octets that the contents of no single value in the type's own constraints exceed; None where none is
+    /// known.
+    pub bound: Option<usize>,
     /// Whether the type's list of components or alternatives was tagged automatically, where there is one.
     pub is_automatic: bool,
     /// How many types this definition and those before it are made of.
@@ -95,6 +99,7 @@ impl<'m, 'a> Progress<'m, 'a> {
         requires fits { IfSome (definition_view definition).value
             (λ v. IsTrue (fits (definition_view definition).ty v)) }
         requires length { definition.length ≡ length_beside definition.ty definition.value }
+        requires bound { IsTrue (is_bounded definition.bound (shared_type_view definition.ty)) }
         requires nodes { definition.nodes ≡ self.nodes + tagging.nodes (definition_view definition).ty }
         requires few { definition.nodes ≤ tagging.most_nodes }
         requires held { definition.held ≡ self.held + held_by (definition_view definition) }
@@ -111,7 +116,12 @@ impl<'m, 'a> Progress<'m, 'a> {
             mut automatic,
             ..
         } = self;
-        let more = known.with(definition.ty, definition.value, definition.length)?;
+        let more = known.with(
+            definition.ty,
+            definition.value,
+            definition.length,
+            definition.bound,
+        )?;
         automatic.push(definition.is_automatic)?;
         Ok(Progress {
             names,

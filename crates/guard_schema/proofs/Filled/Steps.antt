@@ -1,6 +1,6 @@
 -- Types that are finished step by step.
 use Rattle.std.proofs.Common.{◌≡◌, ℕ, List, [], map, length, Option, Some, None, Result, Ok, Err, inl, inr, refl, sym}
-use Rattle.std.proofs.Common.{ap, subst, ◌∙◌}
+use Rattle.std.proofs.Common.{ap, subst, ◌∙◌, ◌⊎◌}
 use Rattle.std.specs.Global.{Box, Vec}
 use Rattle.std.specs.Arc.{arc_str_bytes}
 use Rattle.guard_model.proofs.Components.{component_count_view}
@@ -51,7 +51,9 @@ use Rattle.guard_schema.specs.inside.InTurn.{ElementInTurn, PartsInTurn, OneInTu
 use Rattle.guard_schema.specs.inside.InTurn.{FromBaseInTurn, EntryInTurn, ListInTurn, ChoiceInTurn, FillsInTurn}
 use Rattle.guard_schema.specs.inside.InTurn.{OthersInTurn}
 use Rattle.guard_schema.specs.inside.Ready.{tags_on, listed, IsReady, IsReadyBase, IsPart, IsWrittenPart}
-use Rattle.guard_schema.specs.inside.Ready.{IsShortAsMeant}
+use Rattle.guard_schema.specs.inside.Bounds.{HasRoom}
+use Rattle.guard_schema.specs.inside.Ready.{IsAsMeant, IsKnownShort}
+use Rattle.guard_schema.proofs.Bounds.Short.{short_again}
 use Rattle.guard_schema.proofs.Filled.Lists.{listed_of}
 use Rattle.guard_schema.specs.declared.finishing.Filling as code
 use Rattle.guard_schema.specs.Views.{filling_view}
@@ -106,11 +108,12 @@ constraints_there ty found expected h e =
     ap first_long (type_view_is ty) ∙ ap (λ (t : AbstractType). long_in_all t all) (sym (type_view_is ty))
     ∙ sym h ∙ e
 
--- under the tags that the name means its values are short
-pub short_as_meant : (names : Visible) (name : List ℕ) (ty : Ty) → IsShortAsMeant names name (type_view ty)
-    → (tags : List Tag) → tags ≡ (out-Ty ty).tags.items
-    → (u : AbstractType) × (names.types name ≡ Some u) × (tags ≡ tags_on u) → first_long (type_view ty) ≡ None
-short_as_meant names name ty h tags is (u, there, same) = h u there (ap tags_on (type_view_is ty) ∙ sym is ∙ same)
+-- under the tags that the name means, and where tags leave room, its values are short
+pub short_as_meant : (names : Visible) (name : List ℕ) (ty : Ty) → IsAsMeant names name (type_view ty)
+    → (tags : List Tag) → tags ≡ (out-Ty ty).tags.items → IsKnownShort names name tags → first_long (type_view ty) ≡ None
+short_as_meant names name ty (u, there, kind, cons, short) tags is known =
+    short_again (type_view ty) u kind cons short
+    (subst (λ (ts : List Tag). (ts ≡ tags_on u) ⊎ HasRoom ts u) (is ∙ sym (ap tags_on (type_view_is ty))) (known u there))
 
 -- ---- its parts, and then its constraints
 

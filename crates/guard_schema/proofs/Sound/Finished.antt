@@ -3,7 +3,6 @@ use Rattle.std.proofs.Common.{◌≡◌, inl, inr, ℕ, Bool, true, false, ◌&&
 use Rattle.std.proofs.Common.{refl, sym, ap, subst, ◌∙◌}
 use Rattle.std.specs.Prelude.{nat_le}
 use Rattle.std.proofs.lemmas.Bool.{and_parts, and_from}
-use Rattle.std.proofs.lemmas.Option.{same_Some}
 use Rattle.guard_model.proofs.Results.{same_Ok}
 use Rattle.guard_model.specs.declared.tag.Tag.{Tag}
 use Rattle.guard_model.specs.AbstractType as type
@@ -35,12 +34,12 @@ use Rattle.guard_constraints.proofs.Denoted.ProperConstraints.{proper}
 use Rattle.guard_constraints.proofs.Denoted.SoundParts.{size_sound}
 use Rattle.guard_constraints.proofs.Denoted.WrittenValues.{denoted_fits, sound_proper}
 use Rattle.guard_schema.specs.Faults.{Outcome}
-use Rattle.guard_schema.specs.LongValues.{long_in_all, first_long}
+use Rattle.guard_schema.specs.LongValues.{long_in_all}
 use Rattle.guard_schema.specs.Finishing.{with_constraint, put_before, AddsOne, Adds, ConstrainsByOne}
 use Rattle.guard_schema.specs.Finishing.{ConstrainsElements}
 use Rattle.guard_schema.specs.Finishing.{ConstrainsBefore, FillsPresence, FinishesComponent, Finishes, FinishesKind}
 use Rattle.guard_schema.specs.Finishing.{Fills, FillsFrom, FillsFromBase, FillsOthers}
-use Rattle.guard_schema.specs.inside.Ready.{tags_on, constraints_on, is_shaped, are_shaped, IsFresh, IsMadeUp, IsMadeUpBase}
+use Rattle.guard_schema.specs.inside.Ready.{constraints_on, is_shaped, are_shaped, IsFresh, IsMadeUp, IsMadeUpBase}
 use Rattle.guard_schema.specs.inside.Ready.{AreMadeUp, IsPutIn, IsPutInBase, AreMadeUpOthers, IsReady, IsPart}
 use Rattle.guard_schema.proofs.OneAnswer.Steps.{one_structure, one_choice, one_element, one_join}
 use Rattle.guard_schema.proofs.Filled.OneConstraint.{sound_with}
@@ -257,17 +256,6 @@ module _ (names : Visible) (fit : AreFitting names.values)
           (subst (λ (x : AbstractKind). IsTrue (are_proper_constraints cons (type_of us x uc))) (sym a)
           (subst (λ (x : Constraints). IsTrue (are_proper_constraints x (type_of us uk uc))) (sym b) old)) short
 
-  -- under its own tags a type that a name means has no long value
-  meant_short : (name : List ℕ) (ts : List Tag) (kind : AbstractKind) (cons : Constraints) (u v : AbstractType)
-      → names.types name ≡ Some u → kind ≡ kind_of u → cons ≡ constraints_on u → names.types name ≡ Some v
-      → ts ≡ tags_on v → first_long (type_of ts kind cons) ≡ None
-  meant_short name ts kind cons (type_of us uk uc) v is e f here same =
-      let tags : ts ≡ us = same ∙ ap tags_on (same_Some v (type_of us uk uc) (sym here ∙ is)) in
-      subst (λ (x : AbstractKind). first_long (type_of ts x cons) ≡ None) (sym e)
-      (subst (λ (x : Constraints). first_long (type_of ts uk x) ≡ None) (sym f)
-      (subst (λ (x : List Tag). first_long (type_of x uk uc) ≡ None) (sym tags)
-      (sound_short (type_of us uk uc) (sound name (type_of us uk uc) is))))
-
   -- ---- types
 
   mutual
@@ -336,7 +324,7 @@ module _ (names : Visible) (fit : AreFitting names.values)
     kind_part (named_type site name) ts kind k cons (tagged, (u, there, a, b)) shaped e =
         subst (λ (x : AbstractKind). IsPart names (named_type site name) (type_of ts x cons)) (sym (same_Ok k kind e)) (
           λ short. named_sound name ts kind cons u there a b tagged shaped short,
-          λ v here same. meant_short name ts kind cons u v there a b here same,
+          (u, there, a, b, sound_short u (sound name u there)),
         )
 
     list_proper : (cs : WrittenComponents) (bare parts : Components) → AreMadeUp names cs bare

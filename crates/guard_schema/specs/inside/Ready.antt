@@ -1,6 +1,6 @@
 -- What the code knows of a bare type before it is finished: the written type has it by its tags, so it is of the kind
 -- that is written, and its parts are those that are written; tags tell these apart, and no limit is broken.
-use Rattle.std.specs.Prelude.{◌≡◌, ℕ, Bool, true, ◌&&◌, List, [], ◌∷◌, ◌++◌, Some, None, IsTrue, nat_le}
+use Rattle.std.specs.Prelude.{◌≡◌, ℕ, Bool, true, ◌&&◌, List, [], ◌∷◌, ◌++◌, Some, None, IsTrue, nat_le, ◌⊎◌}
 use Rattle.guard_model.specs.declared.tag.Tag.{Tag}
 use Rattle.guard_model.specs.AbstractType as type
 use Rattle.guard_model.specs.AbstractType.{AbstractType, AbstractKind, Components, Constraints, type_of}
@@ -20,6 +20,7 @@ use Rattle.guard_syntax.specs.Trees.{WrittenComponentForm, named, components_of_
 use Rattle.guard_tagging.specs.Types.{structure_kind, of_kind, presence_of, parts_of, join}
 use Rattle.guard_constraints.specs.Visible.{Visible}
 use Rattle.guard_schema.specs.LongValues.{first_long}
+use Rattle.guard_schema.specs.inside.Bounds.{HasRoom}
 
 -- ---- a type by itself
 
@@ -160,9 +161,14 @@ module _ (names : Visible) where
 -- ---- with its parts finished, before its constraints
 
 module _ (names : Visible) where
-  -- of a type that a name means: the values in its constraints are short enough under its own tags
-  abbrev pub IsShortAsMeant : List ℕ → AbstractType → Type 0
-  IsShortAsMeant name t = (u : AbstractType) → names.types name ≡ Some u → tags_on t ≡ tags_on u → first_long t ≡ None
+  -- of a type that a name means, whose own constraints have no long value under its tags
+  abbrev pub IsAsMeant : List ℕ → AbstractType → Type 0
+  IsAsMeant name t = (u : AbstractType) × (names.types name ≡ Some u) × (kind_of t ≡ kind_of u)
+      × (constraints_on t ≡ constraints_on u) × (first_long u ≡ None)
+
+  -- these tags are those of the type that a name means, or leave room for each value of its constraints
+  abbrev pub IsKnownShort : List ℕ → List Tag → Type 0
+  IsKnownShort name tags = (u : AbstractType) → names.types name ≡ Some u → (tags ≡ tags_on u) ⊎ HasRoom tags u
 
   -- The type is sound, but for long values in the constraints of a type that is referred to; an OF type can have SIZE.
   abbrev pub IsPart : WrittenBase → AbstractType → Type 0
@@ -173,7 +179,7 @@ module _ (names : Visible) where
   IsPart (structure k cs) t = IsTrue (is_sound t)
   IsPart (choice others) t = IsTrue (is_sound t)
   IsPart (of_type k c u) t = IsTrue (is_sound t) × IsTrue (takes_size (kind_of t))
-  IsPart (named_type site name) t = (first_long t ≡ None → IsTrue (is_sound t)) × IsShortAsMeant name t
+  IsPart (named_type site name) t = (first_long t ≡ None → IsTrue (is_sound t)) × IsAsMeant name t
 
   abbrev pub IsWrittenPart : WrittenType → AbstractType → Type 0
   IsWrittenPart (type_node site tags base cs) t = IsPart base t

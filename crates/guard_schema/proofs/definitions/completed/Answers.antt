@@ -85,3 +85,6 @@ returns-clause-nodes c =
     let same = finished_nodes names tree bare (type_view c.in_ok-ty.ty)
     (type_filled names tree bare c.requires.ready.0 _ (rw c.deref.ensures at c.in_ok-ty.ensures.finished)) in
     rw c.in_ok-shared.ensures.ok (c.requires.nodes ∙ ap (λ (n : ℕ). c.args.progress.now.nodes + n) (sym same), c.requires.few)
+
+pub returns-clause-bound : goal.returns-clause-bound
+returns-clause-bound c = rw c.in_ok-shared.ensures.ok c.bound_of-bound.ensures

@@ -3,4 +3,3 @@ pub mod Headers
 pub mod Simple
 pub mod Parts
 pub mod Short
-pub mod Loops

@@ -30,7 +30,7 @@ use Rattle.guard_schema.proofs.Turns.Loops.{split}
 
 -- ---- where the value fits
 
-pub unless : (fit within : Bool) → (IsTrue fit → IsTrue within) → IsTrue (not fit || within)
+unless : (fit within : Bool) → (IsTrue fit → IsTrue within) → IsTrue (not fit || within)
 unless true within h = h refl
 unless false within h = refl
 
@@ -39,11 +39,8 @@ held true within h fits = h
 held false within h fits = absurd cc
 
 -- a fact that takes another one
-pub from_other : (n : ℕ) (fit other : Bool) (x : Option (List ℕ)) → (IsTrue fit → IsTrue other) → IsBound n other x → IsBound n fit x
+from_other : (n : ℕ) (fit other : Bool) (x : Option (List ℕ)) → (IsTrue fit → IsTrue other) → IsBound n other x → IsBound n fit x
 from_other n fit other x only h m le = unless fit (are_within m x) (λ f. held other (are_within m x) (h m le) (only f))
-
-pub more_room : (n k : ℕ) (fit : Bool) (x : Option (List ℕ)) → n ≤ k → IsBound n fit x → IsBound k fit x
-more_room n k fit x le h m far = h m (omega (arith, le, far))
 
 -- ---- as lengths
 
@@ -65,7 +62,7 @@ within_of (Some os) n m le h = counted (nat_le (length os) longest_encoding) os 
 
 -- ---- in tags
 
-pub in_its_tags : (tags : List Tag) (kind : AbstractKind) (cons : Constraints) (v : AbstractValue) (n k : ℕ) → n ≤ longest_encoding → Bounds n kind v
+in_its_tags : (tags : List Tag) (kind : AbstractKind) (cons : Constraints) (v : AbstractValue) (n k : ℕ) → n ≤ longest_encoding → Bounds n kind v
     → length_in tags (Some n) ≡ Some k → BoundsEncoding k (type_of tags kind cons) v
 in_its_tags tags kind cons v n k low bound e m le =
     let octets = contents_octets kind v in
@@ -78,7 +75,7 @@ in_its_tags tags kind cons v n k low bound e m le =
 
 -- ---- components
 
-pub no_fields : BoundsFields 0 type.no_components value.no_fields
+no_fields : BoundsFields 0 type.no_components value.no_fields
 no_fields m le = le-leb 0 m le
 
 both_within : (left_out : Bool) (tag : Tag) (os : Option (List ℕ)) (ps : Option (List Part)) (a b m : ℕ) → a + b ≤ m

@@ -1,15 +1,18 @@
 -- Many values of one type, asked together: their parts at one place are a column, and all their elements are asked at once.
 use Rattle.std.specs.Prelude.{ℕ, suc, nat_eq, Bool, true, false, ◌&&◌, List, [], ◌∷◌, ◌++◌, map, Option, Some, None, if◌then◌else◌}
 use Rattle.std.specs.Borrow.{Bor}
+use Rattle.std.specs.List.{list_all}
 use Rattle.std.specs.Option.{is_none}
 use Rattle.guard_model.specs.AbstractType as type
-use Rattle.guard_model.specs.AbstractType.{AbstractType, AbstractKind, Components, Constraints, type_of, no_components, component, no_constraints, constraint}
+use Rattle.guard_model.specs.AbstractType.{AbstractType, AbstractKind, Components, Constraint, Constraints, type_of, no_components, component, no_constraints, constraint}
 use Rattle.guard_model.specs.AbstractValue as value
 use Rattle.guard_model.specs.AbstractValue.{AbstractValue, Items}
 use Rattle.guard_model.specs.ValueView.{value_view}
+use Rattle.guard_model.specs.TypeView.{constraint_view}
+use Rattle.guard_model.specs.declared.ty.Cons.{Cons}
 use Rattle.guard_model.specs.declared.value.Value.{Value}
 use Rattle.guard_eval.specs.Presence.{field_at, if_there}
-use Rattle.guard_eval.specs.inside.Failures.{failure, failure_inside, first_failure}
+use Rattle.guard_eval.specs.inside.Failures.{failure, failure_by, failure_inside, first_failure}
 
 abbrev pub values_view : List (Bor Value) → List AbstractValue
 values_view values = map (λ v. value_view v.now) values
@@ -24,6 +27,17 @@ keeps_own (type_of tags kind cons) v = is_none (first_failure cons kind v)
 
 abbrev pub keeps_inside : AbstractKind → AbstractValue → Bool
 keeps_inside kind v = is_none (failure_inside kind v)
+
+-- ---- of one value and constraints that are gathered: the walk finds nothing that it fails of one, of all
+
+abbrev pub gathered_view : List (Bor Cons) → List Constraint
+gathered_view cons = map (λ c. constraint_view c.now) cons
+
+abbrev pub passes : AbstractKind → AbstractValue → Constraint → Bool
+passes kind v c = is_none (failure_by c kind v)
+
+abbrev pub passes_all : List Constraint → AbstractKind → AbstractValue → Bool
+passes_all cs kind v = list_all (passes kind v) cs
 
 -- ---- the column at a place: the components there that aren't absent, or the alternatives there that are chosen
 

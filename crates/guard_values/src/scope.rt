@@ -15,11 +15,11 @@ use std::alloc::{AllocError, Global};
 use std::sync::Arc;
 
 /// What is already built of the definitions, in the order in which each comes after those that it uses: `types` has the
-/// type of each, of a value its governor, and `values` beside it the value, or None for the definition of a type. Beside a
-/// value, `lengths` has how many octets the contents of its encoding are, so that no use of its name counts them anew; None
-/// where they are more than an encoding may have. Beside a type, `bounds` has a number of octets that the contents of no
-/// single value in its own constraints exceed, so that a use of its name under other tags needn't look at those values; None
-/// where no such number is known.
+/// type of each, of a value its governor, and `values` beside it the value, or None for the definition of a type.
+/// Beside a value, `lengths` has how many octets the contents of its encoding are, so that no use of its name counts
+/// them anew; None where they are more than an encoding may have. Beside a type, `bounds` has a number of octets that
+/// the contents of no single value in its own constraints exceed, so that a use of its name under other tags needn't
+/// look at those values; None where no such number is known.
 #[derive(Drop)]
 pub struct Known {
     pub types: Vec<Arc<Ty>>,
@@ -87,9 +87,9 @@ impl Known {
         })
     }
 
-    /// With the next definition in the order: its type, of a value the governor; its value, if it is one's; how many octets
-    /// the contents of its encoding are, or None; and a number of octets that the contents of no single value in the type's
-    /// own constraints exceed, or None. Fails only where memory runs out.
+    /// With the next definition in the order: its type, of a value the governor; its value, if it is one's; how many
+    /// octets the contents of its encoding are, or None; and a number of octets that the contents of no single value in
+    /// the type's own constraints exceed, or None. Fails only where memory runs out.
     ///
     /// It is taken and handed back by value, since one list longer than the others would break what holds of it.
     pub fn with(
@@ -142,8 +142,8 @@ impl Known {
         self.types.get(place)
     }
 
-    /// A number of octets that the contents of no single value exceed in the own constraints of the type that is known of
-    /// the definition at this place in the order, from 0. None where no such number is known.
+    /// A number of octets that the contents of no single value exceed in the own constraints of the type that is known
+    /// of the definition at this place in the order, from 0. None where no such number is known.
     pub fn bound_at(&self, place: usize) -> Option<usize>
         ensures { IfSome (type_at self.now place) (λ t. IsTrue (is_bounded result t)) }
     {
@@ -180,8 +180,8 @@ impl<'s, 'm, 'a> Scope<'s, 'm, 'a> {
         }
     }
 
-    /// A number of octets that the contents of no single value exceed in the own constraints of the type that a name means
-    /// in the module of the definition. None where no such number is known.
+    /// A number of octets that the contents of no single value exceed in the own constraints of the type that a name
+    /// means in the module of the definition. None where no such number is known.
     pub fn bound_named(&self, name: &[u8]) -> Option<usize>
         ensures { IfSome (types_of self.now name.now) (λ t. IsTrue (is_bounded result t)) }
     {

@@ -1,7 +1,7 @@
 //! Tries the calls on types and values that no text gives, on rows in the files of `data/`: tags, types that aren't
 //! sound, tags that clash, values that don't fit or are longer than a text, members of types whose defaults are none,
-//! and lists and texts on both sides of the length from which on members are found another way. How they are written
-//! there is said in `notation.rt`. Whatever a text can say is tried in `conformance`.
+//! and lists, texts and constraints on both sides of the number from which on members are found another way. How they
+//! are written there is said in `notation.rt`. Whatever a text can say is tried in `conformance`.
 //!
 //! | rows | what answers them |
 //! |---|---|
@@ -10,7 +10,7 @@
 //! | `tagcheck/clashes` | `clashes.rt` |
 //! | `der/sound_types`, `der/fitting_values` | `sound_types.rt`, `fitting.rt` |
 //! | `der/long_values` | `encoding.rt` |
-//! | `eval/outside_defaults`, `eval/long_lists`, `eval/long_texts` | `members.rt` |
+//! | `eval/outside_defaults`, `eval/long_lists`, `eval/long_texts`, `eval/many_constraints` | `members.rt` |
 #![tactic(auto)]
 
 mod alike;
@@ -70,6 +70,7 @@ fn try_values<R: Files + Print + AllocGlobal>(rt: &R, tally: &mut Tally) -> io::
             "eval/outside_defaults.rows",
             "eval/long_lists.rows",
             "eval/long_texts.rows",
+            "eval/many_constraints.rows",
         ],
     )
 }

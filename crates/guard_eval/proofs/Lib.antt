@@ -16,9 +16,13 @@ pub mod Calls
 pub mod WholeSets
 pub mod Numbered
 pub mod RuleViews
+-- ---- what many strings are asked for
+pub mod StringAnswers
 -- ---- many values together
 pub mod ManyValues
 pub mod Alternatives
+pub mod PartsTogether
+pub mod Gathering
 -- ---- sound types
 pub mod Bases
 pub mod Soundness

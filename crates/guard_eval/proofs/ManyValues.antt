@@ -35,7 +35,7 @@ use Rattle.guard_eval.proofs.Walk.{walked, seen_clear}
 
 -- ---- tests of all
 
-all_alike : {X : Type 0} (p q : X → Bool) → ((x : X) → p x ≡ q x) → (xs : List X) → list_all p xs ≡ list_all q xs
+pub all_alike : {X : Type 0} (p q : X → Bool) → ((x : X) → p x ≡ q x) → (xs : List X) → list_all p xs ≡ list_all q xs
 all_alike p q same [] = refl
 all_alike p q same (x ∷ xs) = ap (λ (b : Bool). b && list_all p xs) (same x) ∙ ap (λ (b : Bool). q x && b) (all_alike p q same xs)
 
@@ -45,7 +45,7 @@ four true false true d = refl
 four true false false d = refl
 four false b c d = refl
 
-all_both : {X : Type 0} (p q : X → Bool) (xs : List X) → list_all (λ x. p x && q x) xs ≡ (list_all p xs && list_all q xs)
+pub all_both : {X : Type 0} (p q : X → Bool) (xs : List X) → list_all (λ x. p x && q x) xs ≡ (list_all p xs && list_all q xs)
 all_both p q [] = refl
 all_both p q (x ∷ xs) = ap (λ (b : Bool). (p x && q x) && b) (all_both p q xs) ∙ four (p x) (q x) (list_all p xs) (list_all q xs)
 
@@ -211,7 +211,7 @@ all_choices cs vs = sym (all_alike (keeps_inside (type.choice cs)) (parts_keep t
 
 -- ---- columns
 
-with_part_all : (p : AbstractValue → Bool) (o : Option AbstractValue) (vs : List AbstractValue) → list_all p (with_part o vs) ≡ (if_there p o && list_all p vs)
+pub with_part_all : (p : AbstractValue → Bool) (o : Option AbstractValue) (vs : List AbstractValue) → list_all p (with_part o vs) ≡ (if_there p o && list_all p vs)
 with_part_all p None vs = refl
 with_part_all p (Some v) vs = refl
 
@@ -237,22 +237,22 @@ parts_end of_choice comps i le vs =
 
 -- ---- elements
 
-among_keeps : (t : AbstractType) (i : ℕ) (vs : Items) → is_none (failure_among (failure t) i vs) ≡ list_all (keeps t) (listed vs)
-among_keeps t i value.no_items = refl
-among_keeps t i (value.item v vs) =
-    clear_either (under (Element i) (failure t v)) (failure_among (failure t) (suc i) vs)
-    ∙ ap (λ (b : Bool). b && is_none (failure_among (failure t) (suc i) vs)) (clear_under (Element i) (failure t v)) ∙ ap (λ (b : Bool). keeps t v && b) (among_keeps t (suc i) vs)
+pub among_all : (find : AbstractValue → Option AbstractViolation) (i : ℕ) (vs : Items) → is_none (failure_among find i vs) ≡ list_all (λ v. is_none (find v)) (listed vs)
+among_all find i value.no_items = refl
+among_all find i (value.item v vs) =
+    clear_either (under (Element i) (find v)) (failure_among find (suc i) vs)
+    ∙ ap (λ (b : Bool). b && is_none (failure_among find (suc i) vs)) (clear_under (Element i) (find v)) ∙ ap (λ (b : Bool). is_none (find v) && b) (among_all find (suc i) vs)
 
-elements_all : (p : AbstractValue → Bool) (vs : List AbstractValue) → list_all p (elements_of vs) ≡ list_all (λ v. list_all p (elements_in v)) vs
+pub elements_all : (p : AbstractValue → Bool) (vs : List AbstractValue) → list_all p (elements_of vs) ≡ list_all (λ v. list_all p (elements_in v)) vs
 elements_all p [] = refl
 elements_all p (v ∷ vs) = list_all-append p (elements_in v) (elements_of vs) ∙ ap (λ (b : Bool). list_all p (elements_in v) && b) (elements_all p vs)
 
 sequence_of_keeps : (t : AbstractType) (v : AbstractValue) → list_all (keeps t) (elements_in v) ≡ keeps_inside (type.sequence_of t) v
-sequence_of_keeps t (value.items vs) = sym (among_keeps t 0 vs)
+sequence_of_keeps t (value.items vs) = sym (among_all (failure t) 0 vs)
 sequence_of_keeps t v = refl
 
 set_of_keeps : (t : AbstractType) (v : AbstractValue) → list_all (keeps t) (elements_in v) ≡ keeps_inside (type.set_of t) v
-set_of_keeps t (value.items vs) = sym (among_keeps t 0 vs)
+set_of_keeps t (value.items vs) = sym (among_all (failure t) 0 vs)
 set_of_keeps t v = refl
 
 pub all_sequences_of : (t : AbstractType) (vs : List AbstractValue) → list_all (keeps t) (elements_of vs) ≡ list_all (keeps_inside (type.sequence_of t)) vs
@@ -279,7 +279,7 @@ item_elements items = sym (ap elements_in (value_view_items items) ∙ listed_is
 
 pub items_walked : (t : AbstractType) (items : List Value) (v : AbstractValue) → map value_view items ≡ elements_in v → is_none (failure_among (failure t) 0 (items_view items)) ≡ list_all (keeps t) (elements_in v)
 items_walked t items v is =
-    among_keeps t 0 (items_view items) ∙ ap (list_all (keeps t)) (listed_is (map value_view items) ∙ is)
+    among_all (failure t) 0 (items_view items) ∙ ap (list_all (keeps t)) (listed_is (map value_view items) ∙ is)
 
 -- ---- one value of a sound type
 

@@ -18,7 +18,7 @@ use Rattle.guard_eval.specs.Member.{all_hold, is_member}
 abbrev pub rest_of : List Cons → Constraints
 rest_of cs = constraints_of (map constraint_view cs)
 
-and_true : (a : Bool) → (a && true) ≡ a
+pub and_true : (a : Bool) → (a && true) ≡ a
 and_true true = refl
 and_true false = refl
 
@@ -35,16 +35,19 @@ none_of true true h rest = refl
 none_of false true true rest = refl
 none_of false true false rest = refl
 
+pub none_more : (a a2 g r f h rest before total : Bool) → a2 ≡ (a || g) → g ≡ (f && not r) → r ≡ (f && h) → before ≡ (h && rest) → (f && (not a && before)) ≡ total → (f && (not a2 && rest)) ≡ total
+none_more a a2 g r f h rest before total added left_out allowed first so_far =
+    ap (λ (b : Bool). f && (not b && rest)) added ∙ ap (λ (b : Bool). f && (not (a || b) && rest)) left_out ∙ ap (λ (b : Bool). f && (not (a || (f && not b)) && rest)) allowed
+    ∙ none_of a f h rest ∙ ap (λ (b : Bool). f && (not a && b)) (sym first) ∙ so_far
+
 -- of a test of constraints that goes through them one by one
 pub all_more : (all : Constraints → Bool) (one : Constraint → Bool) → ((c : Constraint) (cs : Constraints) → all (constraint c cs) ≡ (one c && all cs))
     → (cs : List Cons) (i : ℕ) (c : Cons) (a a2 g r f total : Bool) → i < length cs → c ≡ get_or cs i c
     → a2 ≡ (a || g) → g ≡ (f && not r) → r ≡ (f && one (constraint_view c))
     → (f && (not a && all (rest_of (drop i cs)))) ≡ total → (f && (not a2 && all (rest_of (drop (i + 1) cs)))) ≡ total
 all_more all one next cs i c a a2 g r f total lt is added left_out allowed so_far =
-    let rest = all (rest_of (drop (i + 1) cs)) in
-    let first = at_drop_more (λ (ds : List Cons). all (rest_of ds)) cs i c lt ∙ ap (λ (d : Cons). all (rest_of (d ∷ drop (i + 1) cs))) (sym is) ∙ next (constraint_view c) (rest_of (drop (i + 1) cs)) in
-    ap (λ (b : Bool). f && (not b && rest)) added ∙ ap (λ (b : Bool). f && (not (a || b) && rest)) left_out ∙ ap (λ (b : Bool). f && (not (a || (f && not b)) && rest)) allowed
-    ∙ none_of a f (one (constraint_view c)) rest ∙ ap (λ (b : Bool). f && (not a && b)) (sym first) ∙ so_far
+    none_more a a2 g r f (one (constraint_view c)) (all (rest_of (drop (i + 1) cs))) _ total added left_out allowed
+    (at_drop_more (λ (ds : List Cons). all (rest_of ds)) cs i c lt ∙ ap (λ (d : Cons). all (rest_of (d ∷ drop (i + 1) cs))) (sym is) ∙ next (constraint_view c) (rest_of (drop (i + 1) cs))) so_far
 
 pub all_done : (all : Constraints → Bool) → all no_constraints ≡ true → (cs : List Cons) (i : ℕ) (a f total : Bool) → length cs ≤ i → (f && (not a && all (rest_of (drop i cs)))) ≡ total → (f && not a) ≡ total
 all_done all none cs i a f total ends so_far =

@@ -1,7 +1,11 @@
 -- What only private contracts and proofs cite.
+pub mod Characters
 pub mod Failures
 pub mod KnownCodes
 pub mod Windows
 pub mod NumberSets
 pub mod Together
 pub mod OwnAnswers
+pub mod Gathered
+pub mod PartsTogether
+pub mod StringAnswers

@@ -1,6 +1,7 @@
 //! The parts of many values at one place, and the elements of many lists.
 ghost use Rattle.std.specs.Prelude.{◌≡◌, ◌++◌, IfOk, OnOk, option_map, map};
 ghost use Rattle.guard_model.specs.ValueView.{value_view};
+ghost use Rattle.guard_eval.specs.inside.Gathered.{parts_at};
 ghost use Rattle.guard_eval.specs.inside.Together.{part_of, column, elements_in, elements_of, values_view};
 
 use crate::presence::part_at;
@@ -19,6 +20,23 @@ pub fn column<'a>(
     let mut parts = Vec::new(alloc);
     for value in values {
         if let Some(part) = part_of(of_choice, value, place) {
+            parts.push(part)?;
+        }
+    }
+    Ok(parts)
+}
+
+/// The parts of the values at this place that are there, be they components or chosen alternatives.
+pub fn parts_at<'a>(
+    alloc: Global,
+    place: usize,
+    values: &[&'a Value],
+) -> Result<Vec<&'a Value>, OutOfMemory>
+    ensures { IfOk result (λ parts. values_view parts.items ≡ parts_at place (values_view values.now)) }
+{
+    let mut parts = Vec::new(alloc);
+    for value in values {
+        if let Some(part) = part_at(value, place) {
             parts.push(part)?;
         }
     }

@@ -1,8 +1,9 @@
 //! Sets of values by a number, a size or characters.
-ghost use Rattle.std.specs.Prelude.{◌≡◌, length, pos, chars, option_map};
+ghost use Rattle.std.specs.Prelude.{◌≡◌, length, pos, chars, count_by, option_map};
 ghost use Rattle.std.specs.List.{list_all};
 ghost use Rattle.guard_model.specs.ValueView.{value_view};
 ghost use Rattle.guard_eval.specs.Elements.{is_above, is_under, is_between, size_of, is_in_some, is_spelled_in};
+ghost use Rattle.guard_eval.specs.inside.Characters.{begins_one};
 ghost use Rattle.guard_eval.specs.inside.KnownCodes.{AreKnown};
 
 use crate::windows::{are_permitted_by_windows, mark};
@@ -67,7 +68,20 @@ pub fn size_of(value: &Value) -> Option<i128>
 fn count_characters(text: &str) -> usize
     ensures { result ≡ length (chars text.now) }
 {
-    text.chars().count()
+    count_beginnings(text.as_bytes())
+}
+
+/// How many of the octets begin a character: this needs no decoding.
+fn count_beginnings(octets: &[u8]) -> usize
+    ensures { result ≡ count_by begins_one octets.now }
+{
+    let mut count = 0;
+    for octet in octets {
+        if *octet < 128 || 192 <= *octet {
+            count += 1;
+        }
+    }
+    count
 }
 
 /// Whether the value is a string all of whose characters are in one of the ranges (X.680 51.7).

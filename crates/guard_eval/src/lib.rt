@@ -8,8 +8,10 @@
 //! | What does a constraint allow? | `members.rt` (`holds`, inside types `holds_on_kind`) | `specs/Member.antt` |
 //! | Which are members of a type? | `members.rt` (`member`, inside types `proper_member`) | `specs/Member.antt` |
 //! | How are they found where a value has many parts of one type? | `together.rt` (`member_of`), `columns.rt`, `free_types.rt` | `specs/Member.antt`, `specs/inside/Together.antt` |
-//! | What do a type's own constraints say of many values? | `own_answers.rt` | `specs/inside/OwnAnswers.antt` |
-//! | Which of a union's many single values may have a string? | `singles.rt` | `specs/inside/Failures.antt` |
+//! | What do constraints that must all be passed say of many values? | `own_answers.rt`, `gathered.rt` | `specs/inside/OwnAnswers.antt`, `specs/inside/Gathered.antt` |
+//! | What do many WITH COMPONENTS say together of a value's parts? | `parts_together.rt` | `specs/inside/PartsTogether.antt` |
+//! | What do gathered constraints say of many strings? | `string_answers.rt` | `specs/inside/StringAnswers.antt` |
+//! | Which of a union's many single values may have a value? | `singles.rt`, `value_keys.rt` | `specs/inside/Failures.antt` |
 //! | Which integers does a constraint allow, as a set, and which items? | `number_sets.rt` | `specs/NumberSets.antt` |
 //! | Which constraint is failed first, and where? | `violation.rt` (`first_violation`) | `specs/Violations.antt` |
 //! | How are all of these found in one walk? | `search.rt` | `specs/inside/Failures.antt` |
@@ -20,14 +22,18 @@ mod columns;
 mod elements;
 mod found;
 mod free_types;
+mod gathered;
 pub mod laws;
 mod members;
 mod number_sets;
 mod own_answers;
+mod parts_together;
 mod presence;
 mod search;
 mod singles;
+mod string_answers;
 mod together;
+mod value_keys;
 mod violation;
 mod windows;
 

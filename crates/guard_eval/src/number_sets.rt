@@ -1,9 +1,12 @@
 //! The integers that a constraint allows, of any form and at any depth, as one set (X.680 51.4 and 51.5); and the items
 //! of an ENUMERATED type that it allows, as the set of their numbers.
 ghost use Rattle.std.specs.Prelude.{◌≡◌, ◌&&◌, ◌||◌, ℤ, map, IfOk, OnOk};
+ghost use Rattle.std.specs.List.{list_all};
 ghost use Rattle.guard_integers.specs.Integers as integers;
 ghost use Rattle.guard_integers.specs.Integers.{some_holds};
+ghost use Rattle.guard_model.specs.AbstractType.{AbstractKind};
 ghost use Rattle.guard_model.specs.AbstractValue as abstract;
+ghost use Rattle.guard_model.specs.AbstractValue.{AbstractValue};
 ghost use Rattle.guard_model.specs.TypeView.{type_view, kind_view, constraint_view, constraints_of};
 ghost use Rattle.guard_model.specs.Limits.{fits_128_bits};
 ghost use Rattle.guard_model.specs.Same.{same};
@@ -13,7 +16,8 @@ ghost use Rattle.guard_eval.specs.Member.{holds, is_member};
 ghost use Rattle.guard_eval.specs.NumberSets.{HasNumbers};
 ghost use Rattle.guard_eval.specs.inside.NumberSets.{begins, ends, value_of, is_of, allows, all_allow, some_allow, has};
 ghost use Rattle.guard_eval.specs.inside.NumberSets.{HoldsThose};
-ghost use Rattle.guard_eval.specs.inside.Together.{keeps_own};
+ghost use Rattle.guard_eval.specs.inside.StringAnswers.{is_sized_in, is_sized_by_all};
+ghost use Rattle.guard_eval.specs.inside.Together.{gathered_view, passes_all};
 
 use guard_integers::IntSet;
 use guard_model::{Cons, Kind, Limit, OutOfMemory, Rule, Ty, Value};
@@ -47,20 +51,37 @@ pub fn numbers_of_type(alloc: Global, ty: &Ty) -> Result<IntSet, OutOfMemory>
     set_of_type(alloc, Numbered::Integers, ty)
 }
 
-/// The integers that keep the type's own constraints, whatever kind it has. OutOfMemory is the only error.
-pub fn own_integers(alloc: Global, ty: &Ty) -> Result<IntSet, OutOfMemory>
-    ensures { IfOk result (λ set. (z : ℤ) → integers.holds set z
-        ≡ (fits_128_bits z && keeps_own (type_view ty.now) (abstract.integer z))) }
+/// The integers that pass all of the constraints, on whatever kind. OutOfMemory is the only error.
+pub fn own_integers(alloc: Global, cons: &[&Cons]) -> Result<IntSet, OutOfMemory>
+    ensures { IfOk result (λ set. (kind : AbstractKind) → (z : ℤ) → integers.holds set z
+        ≡ (fits_128_bits z && passes_all (gathered_view cons.now) kind (abstract.integer z))) }
 {
-    set_of_all(alloc, Numbered::Walked, &ty.cons)
+    set_of_gathered(alloc, Numbered::Walked, cons)
 }
 
-/// The numbers of the items that keep the type's own constraints, whatever kind it has. OutOfMemory is the only error.
-pub fn own_items(alloc: Global, ty: &Ty) -> Result<IntSet, OutOfMemory>
-    ensures { IfOk result (λ set. (z : ℤ) → integers.holds set z
-        ≡ (fits_128_bits z && keeps_own (type_view ty.now) (abstract.enumerated z))) }
+/// The numbers of the items that pass all of the constraints, on whatever kind. OutOfMemory is the only error.
+pub fn own_items(alloc: Global, cons: &[&Cons]) -> Result<IntSet, OutOfMemory>
+    ensures { IfOk result (λ set. (kind : AbstractKind) → (z : ℤ) → integers.holds set z
+        ≡ (fits_128_bits z && passes_all (gathered_view cons.now) kind (abstract.enumerated z))) }
 {
-    set_of_all(alloc, Numbered::Items, &ty.cons)
+    set_of_gathered(alloc, Numbered::Items, cons)
+}
+
+/// What all of these allow, found as `set_of_all` finds it.
+fn set_of_gathered(
+    alloc: Global,
+    of: Numbered,
+    constraints: &[&Cons],
+) -> Result<IntSet, OutOfMemory>
+    ensures { IfOk result (λ set. HoldsThose of set
+        (λ kind z. list_all (λ c. allows of c kind z) (gathered_view constraints.now))) }
+{
+    let mut left_out = Vec::new(alloc);
+    for (count, constraint) in constraints.iter().enumerate() {
+        let numbers = set_of(alloc, of, constraint)?;
+        keep(alloc, &mut left_out, numbers.complement(alloc)?, count)?;
+    }
+    IntSet::union_of(alloc, &left_out)?.complement(alloc)
 }
 
 #[cycle(number_sets)]
@@ -198,4 +219,18 @@ fn highest(limit: Limit) -> Option<i128>
         Limit::Past(number) if number == i128::MIN => None,
         Limit::Past(number) => Some(number - 1),
     }
+}
+
+// ---- sizes
+
+/// The sizes that all of these allow, of the constraints of SIZE; None where there is none. OutOfMemory is the only
+/// error.
+pub fn sizes_of_all(alloc: Global, sizes: &[&Cons]) -> Result<Option<IntSet>, OutOfMemory>
+    ensures { IfOk result (λ set. (kind : AbstractKind) (v : AbstractValue) →
+        is_sized_in set v ≡ is_sized_by_all (gathered_view sizes.now) kind v) }
+{
+    if sizes.is_empty() {
+        return Ok(None);
+    }
+    Ok(Some(own_integers(alloc, sizes)?))
 }

@@ -1,12 +1,16 @@
-//! Unions of many single values, asked for many strings: the one alternative that may allow a string is found by the
-//! string's octets. What is found is asked, so nothing rests on how it is found.
-ghost use Rattle.std.specs.Prelude.{◌≡◌, IsTrue, map};
+//! Unions of many single values, asked for many values: the alternatives that may allow a value are found by its key, a
+//! string's by its octets. What is found is asked, so nothing rests on how it is found.
+ghost use Rattle.std.specs.Prelude.{◌≡◌, IsTrue, map, pos, option_map};
 ghost use Rattle.std.specs.Option.{is_none};
 ghost use Rattle.guard_model.specs.TypeView.{kind_view, constraint_view, constraints_of};
 ghost use Rattle.guard_model.specs.ValueView.{value_view};
+ghost use Rattle.guard_eval.specs.Elements.{size_of};
 ghost use Rattle.guard_eval.specs.inside.Failures.{failure_by, first_failure, some_allows};
+ghost use Rattle.guard_eval.specs.inside.StringAnswers.{is_sized_by};
 
+use crate::elements::size_of;
 use crate::search::failure_by;
+use crate::value_keys::key_of;
 use guard_model::{Cons, Kind, OutOfMemory, Path, Rule, Value};
 use std::alloc::Global;
 use std::collections::BTreeMap;
@@ -14,11 +18,11 @@ use std::collections::BTreeMap;
 /// From so many alternatives on, finding one costs less than asking each.
 const MANY: usize = 256;
 
-/// The places of a union's alternatives: those of single values by their octets, and those of the others. Where a
+/// The places of a union's alternatives: those of single values by their keys, and those of the others. Where a
 /// constraint is no union of many, there are none.
 #[derive(Drop)]
 pub struct Alternatives {
-    singles: BTreeMap<Vec<u8>, usize>,
+    singles: BTreeMap<Vec<u8>, Vec<usize>>,
     others: Vec<usize>,
 }
 
@@ -34,7 +38,8 @@ pub fn alternatives_of_each(
     Ok(each)
 }
 
-fn alternatives_of(alloc: Global, cons: &Cons) -> Result<Alternatives, OutOfMemory> {
+/// The places of the constraint's alternatives, if it is a union of many.
+pub fn alternatives_of(alloc: Global, cons: &Cons) -> Result<Alternatives, OutOfMemory> {
     let mut alternatives = Alternatives {
         singles: BTreeMap::new(alloc),
         others: Vec::new(alloc),
@@ -43,7 +48,7 @@ fn alternatives_of(alloc: Global, cons: &Cons) -> Result<Alternatives, OutOfMemo
         && list.len() >= MANY
     {
         for (place, one) in list.iter().enumerate() {
-            add(alloc, &mut alternatives, place, one)?;
+            add(alloc, &mut alternatives, list, place, one)?;
         }
     }
     Ok(alternatives)
@@ -52,35 +57,81 @@ fn alternatives_of(alloc: Global, cons: &Cons) -> Result<Alternatives, OutOfMemo
 fn add(
     alloc: Global,
     alternatives: &mut Alternatives,
+    list: &[Cons],
     place: usize,
     one: &Cons,
 ) -> Result<(), OutOfMemory> {
-    match single_octets(one) {
-        Some(octets) => add_single(alloc, alternatives, place, octets),
-        None => Ok(alternatives.others.push(place)?),
+    match &one.rule {
+        Rule::One(value) => match octets_of(value) {
+            Some(octets) => add_string(alloc, alternatives, place, octets),
+            None => add_single(alloc, alternatives, list, place, value),
+        },
+        _ => Ok(alternatives.others.push(place)?),
     }
 }
 
 /// Values may be shared, so the octets of one that was there before aren't copied again.
-fn add_single(
+fn add_string(
     alloc: Global,
     alternatives: &mut Alternatives,
     place: usize,
     octets: &[u8],
 ) -> Result<(), OutOfMemory> {
-    if !alternatives.singles.contains_key(octets) {
-        alternatives
-            .singles
-            .insert(Vec::from_slice(alloc, octets)?, place)?;
+    if alternatives.singles.contains_key(octets) {
+        return Ok(());
     }
+    add_first(alloc, alternatives, place, octets)
+}
+
+/// A value that is the same as the last one with its key isn't added again.
+fn add_single(
+    alloc: Global,
+    alternatives: &mut Alternatives,
+    list: &[Cons],
+    place: usize,
+    value: &Value,
+) -> Result<(), OutOfMemory> {
+    let key = key_of(value);
+    match alternatives.singles.get_mut(key.as_slice()) {
+        Some(places) => {
+            if !is_last(list, places, value) {
+                places.push(place)?;
+            }
+            Ok(())
+        }
+        None => add_first(alloc, alternatives, place, key.as_slice()),
+    }
+}
+
+fn add_first(
+    alloc: Global,
+    alternatives: &mut Alternatives,
+    place: usize,
+    key: &[u8],
+) -> Result<(), OutOfMemory> {
+    let mut places = Vec::new(alloc);
+    places.push(place)?;
+    alternatives
+        .singles
+        .insert(Vec::from_slice(alloc, key)?, places)?;
     Ok(())
 }
 
-/// The octets of the single value, if it is a string.
-fn single_octets(cons: &Cons) -> Option<&[u8]> {
+/// Whether the single value at the last of the places is the same as this one.
+fn is_last(list: &[Cons], places: &[usize], value: &Value) -> bool {
+    let Some(last) = places.last() else {
+        return false;
+    };
+    match list.get(*last) {
+        Some(one) => is_single(one, value),
+        None => false,
+    }
+}
+
+fn is_single(cons: &Cons, value: &Value) -> bool {
     match &cons.rule {
-        Rule::One(value) => octets_of(value),
-        _ => None,
+        Rule::One(single) => single.same(value),
+        _ => false,
     }
 }
 
@@ -91,6 +142,14 @@ fn octets_of(value: &Value) -> Option<&[u8]> {
         Value::Octets(octets) => Some(octets),
         Value::Chars(text) => Some(text.as_bytes()),
         _ => None,
+    }
+}
+
+/// The places of the single values with the value's key.
+fn places_of<'a>(alternatives: &'a Alternatives, value: &Value) -> Option<&'a Vec<usize>> {
+    match octets_of(value) {
+        Some(octets) => alternatives.singles.get(octets),
+        None => alternatives.singles.get(key_of(value).as_slice()),
     }
 }
 
@@ -107,31 +166,72 @@ pub fn all_allow(each: &[Alternatives], cons: &[Cons], kind: &Kind, value: &Valu
     true
 }
 
-/// Whether the constraint has the value: asked of the alternatives that are found, and then of the whole.
-fn allows(alternatives: Option<&Alternatives>, cons: &Cons, kind: &Kind, value: &Value) -> bool
+/// Whether the constraint has the value: a union is asked for the alternatives that are found, and then for all.
+pub fn allows(alternatives: Option<&Alternatives>, cons: &Cons, kind: &Kind, value: &Value) -> bool
     ensures { result ≡ is_none (failure_by (constraint_view cons.now) (kind_view kind.now) (value_view value.now)) }
 {
-    if let (Rule::Any(list), Some(alternatives)) = (&cons.rule, alternatives)
-        && some_found_allows(alternatives, list, kind, value)
-    {
-        return true;
+    match (&cons.rule, alternatives) {
+        (Rule::Any(list), Some(alternatives)) => union_allows(alternatives, list, kind, value),
+        _ => failure_by(&mut Path::new(), cons, kind, value).is_none(),
     }
-    failure_by(&mut Path::new(), cons, kind, value).is_none()
 }
 
-/// True where the single value with the same octets has the value, or an alternative that is no single value.
-fn some_found_allows(alternatives: &Alternatives, list: &[Cons], kind: &Kind, value: &Value) -> bool
+/// Whether an alternative has the value, whose size is found once.
+fn union_allows(alternatives: &Alternatives, list: &[Cons], kind: &Kind, value: &Value) -> bool
+    ensures { result
+        ≡ some_allows (constraints_of (map constraint_view list.now)) (kind_view kind.now) (value_view value.now) }
+{
+    let size = size_of(value);
+    some_found_allows(alternatives, list, size, kind, value) || some_allows(list, size, kind, value)
+}
+
+fn some_allows(list: &[Cons], size: Option<i128>, kind: &Kind, value: &Value) -> bool
+    requires { size ≡ option_map pos (size_of (value_view value.now)) }
+    ensures { result
+        ≡ some_allows (constraints_of (map constraint_view list.now)) (kind_view kind.now) (value_view value.now) }
+{
+    for one in list {
+        if one_allows(one, size, kind, value) {
+            return true;
+        }
+    }
+    false
+}
+
+/// True where a single value with the same key has the value, or an alternative that is no single value.
+fn some_found_allows(
+    alternatives: &Alternatives,
+    list: &[Cons],
+    size: Option<i128>,
+    kind: &Kind,
+    value: &Value,
+) -> bool
+    requires { size ≡ option_map pos (size_of (value_view value.now)) }
     ensures { IsTrue result → IsTrue (some_allows (constraints_of (map constraint_view list.now)) (kind_view kind.now)
         (value_view value.now)) }
 {
-    if let Some(octets) = octets_of(value)
-        && let Some(place) = alternatives.singles.get(octets)
-        && allows_at(list, *place, kind, value)
+    if let Some(places) = places_of(alternatives, value)
+        && some_at_allows(list, places, size, kind, value)
     {
         return true;
     }
-    for place in &alternatives.others {
-        if allows_at(list, *place, kind, value) {
+    some_at_allows(list, &alternatives.others, size, kind, value)
+}
+
+/// Whether an alternative at one of these places has the value.
+fn some_at_allows(
+    list: &[Cons],
+    places: &[usize],
+    size: Option<i128>,
+    kind: &Kind,
+    value: &Value,
+) -> bool
+    requires { size ≡ option_map pos (size_of (value_view value.now)) }
+    ensures { IsTrue result → IsTrue (some_allows (constraints_of (map constraint_view list.now)) (kind_view kind.now)
+        (value_view value.now)) }
+{
+    for place in places {
+        if allows_at(list, *place, size, kind, value) {
             return true;
         }
     }
@@ -139,12 +239,35 @@ fn some_found_allows(alternatives: &Alternatives, list: &[Cons], kind: &Kind, va
 }
 
 /// Whether the alternative at this place has the value.
-fn allows_at(list: &[Cons], place: usize, kind: &Kind, value: &Value) -> bool
+fn allows_at(list: &[Cons], place: usize, size: Option<i128>, kind: &Kind, value: &Value) -> bool
+    requires { size ≡ option_map pos (size_of (value_view value.now)) }
     ensures { IsTrue result → IsTrue (some_allows (constraints_of (map constraint_view list.now)) (kind_view kind.now)
         (value_view value.now)) }
 {
     match list.get(place) {
-        Some(one) => failure_by(&mut Path::new(), one, kind, value).is_none(),
+        Some(one) => one_allows(one, size, kind, value),
+        None => false,
+    }
+}
+
+/// Whether the constraint has the value, which has this size.
+fn one_allows(one: &Cons, size: Option<i128>, kind: &Kind, value: &Value) -> bool
+    requires { size ≡ option_map pos (size_of (value_view value.now)) }
+    ensures { result ≡ is_none (failure_by (constraint_view one.now) (kind_view kind.now) (value_view value.now)) }
+{
+    match &one.rule {
+        Rule::Size(sizes) => is_sized(sizes, size, kind, value),
+        _ => failure_by(&mut Path::new(), one, kind, value).is_none(),
+    }
+}
+
+/// Whether the constraint has the size of the value, as a number.
+fn is_sized(sizes: &Cons, size: Option<i128>, kind: &Kind, value: &Value) -> bool
+    requires { size ≡ option_map pos (size_of (value_view value.now)) }
+    ensures { result ≡ is_sized_by (kind_view kind.now) (value_view value.now) (constraint_view sizes.now) }
+{
+    match size {
+        Some(size) => failure_by(&mut Path::new(), sizes, kind, &Value::Int(size)).is_none(),
         None => false,
     }
 }

@@ -1,0 +1,23 @@
+use Rattle.std.proofs.Common.{ℕ, List, Vec, Bor, Global, ap, ◌∙◌}
+use Rattle.guard_model.specs.TypeView.{kind_view}
+use Rattle.guard_model.specs.declared.ty.Cons.{Cons}
+use Rattle.guard_eval.specs.inside.Together.{gathered_view}
+use Rattle.guard_eval.specs.inside.StringAnswers.{is_sized_by_all}
+use Rattle.guard_eval.proofs.StringAnswers.{more_sizes, more_others, none_more}
+use Rattle.guard_eval.proofs.string_answers.known_of_strings.Goals as goal
+use Rattle.guard_eval.proofs.string_answers.known_of_strings.Goals.{in-Some+in_ok-push-in-Some, in-None+in_ok-push-in-None+in_ok-alternatives_of-in-None+in_ok-push-in-None-2}
+
+pub loop-place-preserved : goal.loop-place-preserved
+loop-place-preserved c = elim c.match-size_in.branch [
+  | in-Some+in_ok-push-in-Some w ↦
+      more_sizes c.args.cons.now c.loop-place.place c.index-cons-place.result c.size_in.result w.in-Some.size c.loop-place.sizes.items c.match-size_in.sizes.items c.loop-place.others.items c.match-size_in.others.items
+      c.loop-place-test.true c.index-cons-place.is c.size_in.ensures w.in-Some.is (ap (λ (x : Vec (Bor Cons) Global). x.items) w.sizes-is ∙ w.in_ok-push-in-Some.ensures.items) (ap (λ (x : Vec ℕ Global). x.items) w.others-is) c.loop-place.invariant
+  | in-None+in_ok-push-in-None+in_ok-alternatives_of-in-None+in_ok-push-in-None-2 w ↦
+      more_others c.args.cons.now c.loop-place.place c.index-cons-place.result c.loop-place.sizes.items c.match-size_in.sizes.items c.loop-place.others.items c.match-size_in.others.items
+      c.loop-place-test.true c.index-cons-place.is (ap (λ (x : Vec (Bor Cons) Global). x.items) w.sizes-is) (ap (λ (x : Vec ℕ Global). x.items) w.others-is ∙ w.in_ok-push-in-None.ensures.items) c.loop-place.invariant
+]
+
+pub returns : goal.returns
+returns c = λ v.
+    none_more c.args.cons.now c.loop-place.place c.loop-place.sizes.items c.loop-place.others.items (kind_view c.args.kind.now) v _ c.loop-place-test.false
+    (c.in_ok-sizes_of_all.ensures (kind_view c.args.kind.now) v ∙ ap (λ (ss : List (Bor Cons)). is_sized_by_all (gathered_view ss) (kind_view c.args.kind.now) v) c.deref.ensures.value) c.loop-place.invariant

@@ -75,6 +75,15 @@ pub fn elements_of<'a>(alloc: Global, values: &[&'a Value]) -> Result<Vec<&'a Va
     Ok(elements)
 }
 
+/// The elements of one list, each by a reference.
+pub fn elements_in<'a>(alloc: Global, items: &'a [Value]) -> Result<Vec<&'a Value>, OutOfMemory>
+    ensures { IfOk result (λ elements. values_view elements.items ≡ map value_view items.now) }
+{
+    let mut elements = Vec::new(alloc);
+    add_items(&mut elements, items)?;
+    Ok(elements)
+}
+
 fn add_items<'a>(elements: &mut Vec<&'a Value>, items: &'a [Value]) -> Result<(), OutOfMemory>
     ensures { OnOk result (values_view elements.new.items
         ≡ values_view elements.old.items ++ map value_view items.now) }

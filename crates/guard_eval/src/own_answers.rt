@@ -15,8 +15,9 @@ ghost use Rattle.guard_eval.specs.inside.Gathered.{passes_gathered};
 ghost use Rattle.guard_eval.specs.inside.PartsTogether.{meets, are_within};
 ghost use Rattle.guard_eval.specs.inside.OwnAnswers.{IsKnown};
 ghost use Rattle.guard_eval.specs.inside.Together.{keeps_own, values_view, gathered_view, passes, passes_all, elements_of};
+ghost use Rattle.guard_eval.specs.inside.Together.{elements_in};
 
-use crate::columns::{count_elements, elements_of, items_in, parts_at};
+use crate::columns::{count_elements, elements_in, elements_of, items_in, parts_at};
 use crate::gathered::{Gathered, Listing, gather, gather_own};
 use crate::number_sets::{own_integers, own_items};
 use crate::parts_together::{PartDemands, PlaceDemand, add_parts, all_are_placed, no_demands};
@@ -166,7 +167,7 @@ fn all_have_passing_elements(
 }
 
 /// Whether the elements of all values pass all of the constraints. Where they are too many to be gathered, they are
-/// asked one by one.
+/// asked list by list.
 #[cycle(own_answers)]
 fn all_elements_pass(
     alloc: Global,
@@ -178,9 +179,47 @@ fn all_elements_pass(
         (elements_of (values_view values.now))) }
 {
     if count_elements(values) > MOST {
-        return Ok(elements_pass_one_by_one(cons, kind, values));
+        return lists_pass(alloc, cons, kind, values);
     }
     let elements = elements_of(alloc, values)?;
+    all_pass(alloc, cons, kind, &elements)
+}
+
+#[cycle(own_answers)]
+fn lists_pass(
+    alloc: Global,
+    cons: &[&Cons],
+    kind: &Kind,
+    values: &[&Value],
+) -> Result<bool, OutOfMemory>
+    ensures { IfOk result (λ b. b ≡ list_all (passes_all (gathered_view cons.now) (kind_view kind.now))
+        (elements_of (values_view values.now))) }
+{
+    for value in values {
+        if !list_passes(alloc, cons, kind, value)? {
+            return Ok(false);
+        }
+    }
+    Ok(true)
+}
+
+/// Whether the elements of the value pass all of the constraints. Those of a list that is itself too long are asked one
+/// by one.
+#[cycle(own_answers)]
+fn list_passes(
+    alloc: Global,
+    cons: &[&Cons],
+    kind: &Kind,
+    value: &Value,
+) -> Result<bool, OutOfMemory>
+    ensures { IfOk result (λ b. b ≡ list_all (passes_all (gathered_view cons.now) (kind_view kind.now))
+        (elements_in (value_view value.now))) }
+{
+    let items = items_in(value);
+    if items.len() > MOST {
+        return Ok(items_pass(cons, kind, items));
+    }
+    let elements = elements_in(alloc, items)?;
     all_pass(alloc, cons, kind, &elements)
 }
 

@@ -10,7 +10,7 @@ ghost use Rattle.guard_eval.specs.Member.{is_member};
 ghost use Rattle.guard_eval.specs.inside.Together.{keeps, keeps_inside, parts_keep, values_view, column, elements_of};
 ghost use Rattle.guard_eval.specs.inside.Together.{elements_in};
 
-use crate::columns::{column, count_elements, elements_of, items_in, part_of};
+use crate::columns::{column, count_elements, elements_in, elements_of, items_in, part_of};
 use crate::free_types::is_free;
 use crate::own_answers::all_keep_own;
 use crate::search::failure_of_items;
@@ -100,8 +100,8 @@ fn column_keeps(
     all_keep(alloc, ty, &parts)
 }
 
-/// Whether the elements of all values keep their type. Where they are too many to be gathered, they are asked one by
-/// one.
+/// Whether the elements of all values keep their type. Where they are too many to be gathered, they are asked list by
+/// list.
 #[cycle(together)]
 fn all_keep_elements(alloc: Global, ty: &Ty, values: &[&Value]) -> Result<bool, OutOfMemory>
     ensures { IfOk result (λ b. b ≡ list_all (keeps (type_view ty.now)) (elements_of (values_view values.now))) }
@@ -111,21 +111,36 @@ fn all_keep_elements(alloc: Global, ty: &Ty, values: &[&Value]) -> Result<bool, 
         return Ok(true);
     }
     if count > MOST {
-        return Ok(elements_keep_one_by_one(ty, values));
+        return lists_keep(alloc, ty, values);
     }
     let elements = elements_of(alloc, values)?;
     all_keep(alloc, ty, &elements)
 }
 
-fn elements_keep_one_by_one(ty: &Ty, values: &[&Value]) -> bool
-    ensures { result ≡ list_all (keeps (type_view ty.now)) (elements_of (values_view values.now)) }
+#[cycle(together)]
+fn lists_keep(alloc: Global, ty: &Ty, values: &[&Value]) -> Result<bool, OutOfMemory>
+    ensures { IfOk result (λ b. b ≡ list_all (keeps (type_view ty.now)) (elements_of (values_view values.now))) }
 {
     for value in values {
-        if !elements_keep(ty, value) {
-            return false;
+        if !list_keeps(alloc, ty, value)? {
+            return Ok(false);
         }
     }
-    true
+    Ok(true)
+}
+
+/// Whether the elements of the value keep the type. Those of a list that is itself too long are asked by the walk that
+/// finds the first failure.
+#[cycle(together)]
+fn list_keeps(alloc: Global, ty: &Ty, value: &Value) -> Result<bool, OutOfMemory>
+    ensures { IfOk result (λ b. b ≡ list_all (keeps (type_view ty.now)) (elements_in (value_view value.now))) }
+{
+    let items = items_in(value);
+    if items.len() > MOST {
+        return Ok(elements_keep(ty, value));
+    }
+    let elements = elements_in(alloc, items)?;
+    all_keep(alloc, ty, &elements)
 }
 
 /// Whether each element of the value keeps the type, asked by the walk that finds the first failure.

@@ -132,7 +132,7 @@ fn all_pass_gathered(
     ensures { IfOk result
         (λ b. b ≡ list_all (passes_gathered gathered.now (kind_view kind.now)) (values_view values.now)) }
 {
-    let known = known_of(alloc, &gathered.of_values, kind, values.len())?;
+    let known = known_of(alloc, &gathered.of_values, kind, values)?;
     if !all_are_passing(&known, &gathered.of_values, kind, values) {
         return Ok(false);
     }
@@ -372,10 +372,16 @@ fn is_list(value: &Value) -> bool
 
 // ---- what is known beforehand
 
-/// What is found out beforehand for so many values.
-fn known_of(alloc: Global, cons: &[&Cons], kind: &Kind, count: usize) -> Result<Known, OutOfMemory>
+/// What is found out beforehand for these values.
+fn known_of(
+    alloc: Global,
+    cons: &[&Cons],
+    kind: &Kind,
+    values: &[&Value],
+) -> Result<Known, OutOfMemory>
     ensures { IfOk result (λ known. IsKnown known (gathered_view cons.now) (kind_view kind.now)) }
 {
+    let count = values.len();
     if questions_of_all(cons).saturating_mul(count) < MANY {
         return Ok(Known::Nothing);
     }
@@ -389,7 +395,7 @@ fn known_of(alloc: Global, cons: &[&Cons], kind: &Kind, count: usize) -> Result<
             passes_all(cons, kind, &Value::Bool(false)),
         )),
         Kind::Null => Ok(Known::Null(passes_all(cons, kind, &Value::Null))),
-        _ => Ok(Known::Found(known_of_strings(alloc, cons, kind)?)),
+        _ => Ok(Known::Found(known_of_strings(alloc, cons, kind, values)?)),
     }
 }
 

@@ -1,11 +1,12 @@
-//! Unions of many single values, asked for many values: the alternatives that may allow a value are found by its key, a
-//! string's by its octets. What is found is asked, so nothing rests on how it is found.
+//! Unions of many alternatives, asked for many values: the single values that may be the same as a value are found by its
+//! key, a string's by its octets, and a SIZE by the value's size. What is found is asked, so nothing rests on how it is
+//! found.
 ghost use Rattle.std.specs.Prelude.{◌≡◌, IsTrue, map, pos, option_map};
 ghost use Rattle.std.specs.Option.{is_none};
 ghost use Rattle.guard_model.specs.TypeView.{kind_view, constraint_view, constraints_of};
 ghost use Rattle.guard_model.specs.ValueView.{value_view};
 ghost use Rattle.guard_eval.specs.Elements.{size_of};
-ghost use Rattle.guard_eval.specs.inside.Failures.{failure_by, first_failure, some_allows};
+ghost use Rattle.guard_eval.specs.inside.Failures.{failure_by, some_allows};
 ghost use Rattle.guard_eval.specs.inside.StringAnswers.{is_sized_by};
 
 use crate::elements::size_of;
@@ -18,30 +19,29 @@ use std::collections::BTreeMap;
 /// From so many alternatives on, finding one costs less than asking each.
 const MANY: usize = 256;
 
-/// The places of a union's alternatives: those of single values by their keys, and those of the others. Where a
-/// constraint is no union of many, there are none.
+/// The places of a union's alternatives: those of single values by their keys, those of SIZE, and those of the others.
+/// Where a constraint is no union of many, there are none.
 #[derive(Drop)]
 pub struct Alternatives {
     singles: BTreeMap<Vec<u8>, Vec<usize>>,
+    sized: Vec<usize>,
+    /// Of each size looked for beforehand, the place of the first SIZE that has it; one past the end where none has it.
+    sizes: BTreeMap<i128, usize>,
     others: Vec<usize>,
 }
 
-/// The alternatives of each of the constraints, in order.
-pub fn alternatives_of_each(
+/// The places of the constraint's alternatives, if it is a union of many. Of SIZE, those that have the sizes of these
+/// values are looked for, as alternatives on the kind.
+pub fn alternatives_of(
     alloc: Global,
-    cons: &[Cons],
-) -> Result<Vec<Alternatives>, OutOfMemory> {
-    let mut each = Vec::new(alloc);
-    for one in cons {
-        each.push(alternatives_of(alloc, one)?)?;
-    }
-    Ok(each)
-}
-
-/// The places of the constraint's alternatives, if it is a union of many.
-pub fn alternatives_of(alloc: Global, cons: &Cons) -> Result<Alternatives, OutOfMemory> {
+    cons: &Cons,
+    kind: &Kind,
+    values: &[&Value],
+) -> Result<Alternatives, OutOfMemory> {
     let mut alternatives = Alternatives {
         singles: BTreeMap::new(alloc),
+        sized: Vec::new(alloc),
+        sizes: BTreeMap::new(alloc),
         others: Vec::new(alloc),
     };
     if let Rule::Any(list) = &cons.rule
@@ -50,8 +50,61 @@ pub fn alternatives_of(alloc: Global, cons: &Cons) -> Result<Alternatives, OutOf
         for (place, one) in list.iter().enumerate() {
             add(alloc, &mut alternatives, list, place, one)?;
         }
+        add_sizes(&mut alternatives, list, kind, values)?;
     }
     Ok(alternatives)
+}
+
+/// Values of many different sizes make a long text, so few sizes are looked for.
+fn add_sizes(
+    alternatives: &mut Alternatives,
+    list: &[Cons],
+    kind: &Kind,
+    values: &[&Value],
+) -> Result<(), OutOfMemory> {
+    if alternatives.sized.is_empty() {
+        return Ok(());
+    }
+    for value in values {
+        add_size(alternatives, list, kind, value)?;
+    }
+    Ok(())
+}
+
+fn add_size(
+    alternatives: &mut Alternatives,
+    list: &[Cons],
+    kind: &Kind,
+    value: &Value,
+) -> Result<(), OutOfMemory> {
+    let size = size_of(value);
+    let Some(number) = size else {
+        return Ok(());
+    };
+    if alternatives.sizes.contains_key(&number) {
+        return Ok(());
+    }
+    let place = first_that_allows(list, &alternatives.sized, size, kind, value);
+    alternatives.sizes.insert(number, place)?;
+    Ok(())
+}
+
+/// The first of the places at which an alternative has the value; one past the end of the list where there is none.
+fn first_that_allows(
+    list: &[Cons],
+    places: &[usize],
+    size: Option<i128>,
+    kind: &Kind,
+    value: &Value,
+) -> usize
+    requires { size ≡ option_map pos (size_of (value_view value.now)) }
+{
+    for at in places {
+        if allows_at(list, *at, size, kind, value) {
+            return *at;
+        }
+    }
+    list.len()
 }
 
 fn add(
@@ -66,6 +119,7 @@ fn add(
             Some(octets) => add_string(alloc, alternatives, place, octets),
             None => add_single(alloc, alternatives, list, place, value),
         },
+        Rule::Size(_) => Ok(alternatives.sized.push(place)?),
         _ => Ok(alternatives.others.push(place)?),
     }
 }
@@ -153,17 +207,12 @@ fn places_of<'a>(alternatives: &'a Alternatives, value: &Value) -> Option<&'a Ve
     }
 }
 
-/// Whether all of the constraints have the value.
-pub fn all_allow(each: &[Alternatives], cons: &[Cons], kind: &Kind, value: &Value) -> bool
-    ensures { result ≡ is_none (first_failure (constraints_of (map constraint_view cons.now)) (kind_view kind.now)
-        (value_view value.now)) }
-{
-    for (place, one) in cons.iter().enumerate() {
-        if !allows(each.get(place), one, kind, value) {
-            return false;
-        }
+/// The place found beforehand for this size.
+fn place_of_size(alternatives: &Alternatives, size: Option<i128>) -> Option<usize> {
+    match size {
+        Some(size) => alternatives.sizes.get(&size).copied(),
+        None => None,
     }
-    true
 }
 
 /// Whether the constraint has the value: a union is asked for the alternatives that are found, and then for all.
@@ -198,7 +247,8 @@ fn some_allows(list: &[Cons], size: Option<i128>, kind: &Kind, value: &Value) ->
     false
 }
 
-/// True where a single value with the same key has the value, or an alternative that is no single value.
+/// True where a single value with the same key has the value, the SIZE that was found for its size, or an alternative
+/// that is neither.
 fn some_found_allows(
     alternatives: &Alternatives,
     list: &[Cons],
@@ -212,6 +262,11 @@ fn some_found_allows(
 {
     if let Some(places) = places_of(alternatives, value)
         && some_at_allows(list, places, size, kind, value)
+    {
+        return true;
+    }
+    if let Some(place) = place_of_size(alternatives, size)
+        && allows_at(list, place, size, kind, value)
     {
         return true;
     }

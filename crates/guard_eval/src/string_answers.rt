@@ -24,12 +24,13 @@ pub struct StringAnswers {
     each: Vec<Alternatives>,
 }
 
-/// What is found out beforehand of these constraints, for values of any kind; it pays for strings. OutOfMemory is the
-/// only error.
+/// What is found out beforehand of these constraints, for values of any kind; it pays for strings. The values are those
+/// that will be asked: what is found of their sizes helps no others. OutOfMemory is the only error.
 pub fn known_of_strings(
     alloc: Global,
     cons: &[&Cons],
     kind: &Kind,
+    values: &[&Value],
 ) -> Result<StringAnswers, OutOfMemory>
     ensures { IfOk result (λ answers. IsKnownOfStrings answers (gathered_view cons.now) (kind_view kind.now)) }
 {
@@ -41,7 +42,7 @@ pub fn known_of_strings(
             Some(size) => sizes.push(size)?,
             None => {
                 others.push(place)?;
-                each.push(alternatives_of(alloc, one)?)?;
+                each.push(alternatives_of(alloc, one, kind, values)?)?;
             }
         }
     }

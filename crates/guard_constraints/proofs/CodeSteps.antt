@@ -7,3 +7,4 @@ pub mod KeptTrees
 pub mod JoinedConstraints
 pub mod AlphabetForms
 pub mod AgreedPlaces
+pub mod NotedBounds

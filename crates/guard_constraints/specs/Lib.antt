@@ -12,7 +12,7 @@ pub mod Faults
 pub mod FirstFault
 -- ---- what the code's results and arguments mean
 pub mod Views
-pub mod Agreed
+pub mod Noted
 -- ---- what only private contracts and proofs cite
 pub mod inside
 -- ---- worked examples

@@ -1,2 +1,3 @@
 -- What only private contracts and proofs cite.
 pub mod Reading
+pub mod Bounds

@@ -4,7 +4,7 @@ ghost use Rattle.guard_model.specs.Answer.{Gives};
 ghost use Rattle.guard_model.specs.TypeView.{type_view, constraint_view};
 ghost use Rattle.guard_values.specs.Views.{type_at};
 ghost use Rattle.guard_constraints.specs.Visible.{has_base_of};
-ghost use Rattle.guard_constraints.specs.Agreed.{AreAgreed};
+ghost use Rattle.guard_constraints.specs.Noted.{AreAgreed};
 ghost use Rattle.guard_constraints.specs.inside.Reading.{read_contained};
 ghost use Rattle.guard_constraints.specs.Views.{named, visible_in};
 

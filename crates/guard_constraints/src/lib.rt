@@ -13,7 +13,7 @@
 //! | what may be written inside FROM | `alphabets.rt`, `specs/PermittedAlphabets.antt` |
 //! | what may WITH COMPONENTS list | `listed_parts.rt`, `specs/ListedParts.antt` |
 //! | what do names mean | `specs/Visible.antt`, by `Scope` of `guard_values`; contained types: `contained_types.rt` |
-//! | which contained types were compared before | `specs/Agreed.antt` |
+//! | what is noted for the constraints that follow, and for references | `noted.rt`, `specs/Noted.antt` |
 //! | what does the code compute, step by step | `specs/inside/Reading.antt` |
 //! | which integers does a set hold | `IntSet` of `guard_integers` |
 #![tactic(auto)]
@@ -21,13 +21,16 @@
 mod alphabets;
 mod contained_types;
 mod fault;
+mod joining;
 mod kinds;
 pub mod laws;
 mod listed_parts;
+mod noted;
 mod range_ends;
 mod written;
 mod written_values;
 
 pub use fault::ConsFault;
 pub use guard_integers::IntSet;
+pub use noted::Noted;
 pub use written::constraint;

@@ -85,7 +85,7 @@ fn number_at(alloc: Global, scope: Scope, end: &EndTree, ty: &Ty) -> Result<i128
     ensures { Gives (λ n. n) named result (read_end (meaning_of scope.entry) (type_view ty.now) (end_view end.now)) }
 {
     let number = written_value(alloc, scope, &value_of_end(end), ty)?;
-    integer_in(end.site, &number)
+    integer_in(end.site, &number.value)
 }
 
 /// The integer that a value of INTEGER is.

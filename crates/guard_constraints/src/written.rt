@@ -10,24 +10,28 @@ ghost use Rattle.guard_syntax.specs.Trees as trees;
 ghost use Rattle.guard_syntax.specs.SetViews as views;
 ghost use Rattle.guard_syntax.specs.Views as values;
 ghost use Rattle.guard_model.specs.Kinds.{kind_of};
-ghost use Rattle.guard_values.specs.Views.{AreKnownFitting};
+ghost use Rattle.guard_values.specs.SingleValues.{is_bounded};
+ghost use Rattle.guard_values.specs.Views.{shared_view, AreKnownFitting};
 ghost use Rattle.guard_constraints.specs.Denotes as denotes;
 ghost use Rattle.guard_constraints.specs.Denotes.{Denotes};
 ghost use Rattle.guard_constraints.specs.Conditions.{IsConstraintFaultIn};
 ghost use Rattle.guard_constraints.specs.declared.fault.ConsFault.{ConsFault};
 ghost use Rattle.guard_constraints.specs.FirstFault.{IsFirstConstraintFault};
-ghost use Rattle.guard_constraints.specs.Agreed.{AreAgreed};
+ghost use Rattle.guard_constraints.specs.Noted.{AreAgreed, with_constraint};
+ghost use Rattle.guard_constraints.specs.inside.Bounds.{Grows, bounds, bounds_all};
 ghost use Rattle.guard_constraints.specs.inside.Reading as reading;
 ghost use Rattle.guard_constraints.specs.Views.{named, visible_at, visible_in, AreKnownSound};
 
 use crate::alphabets::alphabet;
 use crate::contained_types::contained;
 use crate::fault::ConsFault;
+use crate::joining::{Join, all_except, except, joined};
 use crate::kinds::{element_type, size_type};
 use crate::listed_parts::{check_parts, located, part_at};
+use crate::noted::{Noted, raise};
 use crate::range_ends::range;
 use crate::written_values::written_value;
-use guard_model::{Cons, Part, Rule, Site, Ty};
+use guard_model::{Cons, Part, Rule, Site, Ty, Value};
 use guard_names::{Id, Names};
 use guard_syntax::{
     ComponentConsTree, ConsTree, DifferenceTree, ElementForm, ElementTree, IntersectionTree,
@@ -35,17 +39,18 @@ use guard_syntax::{
 };
 use guard_values::{Known, Scope};
 use std::alloc::{AllocError, Global};
-use std::collections::BTreeSet;
 use std::sync::{Arc, ArcSlice};
 
 /// The constraint that a tree denotes on a type (X.680 49 to 51), written in the definition `id`: names mean what they
 /// mean in the module of that definition, as far as `known` has it.
 ///
-/// `agreed` has places in `known` of types with the base of `ty`, none at first, and gets the places of those that are
-/// found to have it. Handed on to the other constraints on `ty`, it saves comparing a type that they contain again.
+/// `noted` has places in `known` of types with the base of `ty`, none at first, and gets the places of those that are
+/// found to have it; and a number of octets that the contents of no single value in the constraints of `ty` exceed,
+/// which is raised to those of each single value that is read here. Handed on to the other constraints on `ty`, it saves
+/// comparing a type that they contain again, and at last its number is one for all of them.
 ///
-/// Conditions: the type and each type in `known` are sound, each value in `known` is one of its governor's, and the
-/// types at the places in `agreed` have the base of `ty`.
+/// Conditions: the type and each type in `known` are sound, each value in `known` is one of its governor's, the types at
+/// the places in `noted` have the base of `ty`, and its number is one for the constraints that `ty` has.
 ///
 /// Errors: one of C1 to C10, as `ConsFault` says of each. Its condition stands at its site, in some element of the
 /// tree, and the tree denotes nothing. Of several faults it is the first: an element's own C1 to C8 come before what is
@@ -58,12 +63,13 @@ pub fn constraint(
     id: Id,
     ty: &Ty,
     tree: &ConsTree,
-    agreed: &mut BTreeSet<usize>,
+    noted: &mut Noted,
 ) -> Result<Cons, ConsFault>
     requires sound { IsTrue (is_sound (type_view ty.now)) }
     requires fitting { AreKnownFitting known.now }
     requires known { AreKnownSound known.now }
-    requires agreed { AreAgreed known.now (type_view ty.now) agreed.old }
+    requires agreed { AreAgreed known.now (type_view ty.now) noted.old.agreed }
+    requires bounded { IsTrue (is_bounded noted.old.bound (type_view ty.now)) }
     // The constraint is the one denoted, with the sites of its nodes, and it may be on the type.
     ensures denoted { IfOk result (λ c. Denotes (visible_at names.now known.now id) (type_view ty.now)
         (views.constraint_view tree.now) (constraint_view c)) }
@@ -77,13 +83,16 @@ pub fn constraint(
         (type_view ty.now) (views.constraint_view tree.now) f)) }
     ensures none { IfErr result (λ e. IfSome (named e) (λ f. (c : Constraint) →
         Denotes (visible_at names.now known.now id) (type_view ty.now) (views.constraint_view tree.now) c → ⊥)) }
-    // All places in `agreed` are still of such types, after an error too.
-    ensures agreed { AreAgreed known.now (type_view ty.now) agreed.new }
+    // All noted places are still of such types, after an error too.
+    ensures agreed { AreAgreed known.now (type_view ty.now) noted.new.agreed }
+    // The number that is noted is one for the type with this constraint.
+    ensures bounded { IfOk result
+        (λ c. IsTrue (is_bounded noted.new.bound (with_constraint (type_view ty.now) (constraint_view c)))) }
 {
-    on_type(alloc, Scope { names, known, id }, tree, ty, agreed)
+    on_type(alloc, Scope { names, known, id }, tree, ty, noted)
 }
 
-/// A set in parentheses. What is agreed is of this type: for a part of it there is a set of its own.
+/// A set in parentheses. What is noted is of this type: for a part of it something of its own is noted.
 #[cycle(sets)]
 #[tactic(auto, unfolding(crate::specs::inside::Reading::read))]
 fn on_type(
@@ -91,16 +100,18 @@ fn on_type(
     scope: Scope,
     tree: &ConsTree,
     ty: &Ty,
-    agreed: &mut BTreeSet<usize>,
+    noted: &mut Noted,
 ) -> Result<Cons, ConsFault>
     requires sound { IsTrue (is_sound (type_view ty.now)) }
     requires fitting { AreKnownFitting scope.known.now }
-    requires agreed { AreAgreed scope.known.now (type_view ty.now) agreed.old }
+    requires agreed { AreAgreed scope.known.now (type_view ty.now) noted.old.agreed }
     ensures given { Gives constraint_view named result
         (reading.read (visible_in scope.entry) (type_view ty.now) (views.constraint_view tree.now)) }
-    ensures agreed { AreAgreed scope.entry.known.now (type_view ty.now) agreed.new }
+    ensures agreed { AreAgreed scope.entry.known.now (type_view ty.now) noted.new.agreed }
+    ensures grows { Grows noted.old.bound noted.new.bound }
+    ensures bounds { IfOk result (λ c. IsTrue (bounds noted.new.bound (type_view ty.now) (constraint_view c))) }
 {
-    set(alloc, scope, &tree.set, ty, agreed)
+    set(alloc, scope, &tree.set, ty, noted)
 }
 
 #[cycle(sets)]
@@ -110,93 +121,32 @@ fn set(
     scope: Scope,
     tree: &SetTree,
     ty: &Ty,
-    agreed: &mut BTreeSet<usize>,
+    noted: &mut Noted,
 ) -> Result<Cons, ConsFault>
     requires sound { IsTrue (is_sound (type_view ty.now)) }
     requires fitting { AreKnownFitting scope.known.now }
-    requires agreed { AreAgreed scope.known.now (type_view ty.now) agreed.old }
+    requires agreed { AreAgreed scope.known.now (type_view ty.now) noted.old.agreed }
     ensures given { Gives constraint_view named result
         (reading.read_set (visible_in scope.entry) (type_view ty.now) (views.set_view tree.now)) }
-    ensures agreed { AreAgreed scope.entry.known.now (type_view ty.now) agreed.new }
+    ensures agreed { AreAgreed scope.entry.known.now (type_view ty.now) noted.new.agreed }
+    ensures grows { Grows noted.old.bound noted.new.bound }
+    ensures bounds { IfOk result (λ c. IsTrue (bounds noted.new.bound (type_view ty.now) (constraint_view c))) }
 {
     match tree {
-        SetTree::Alone(only) => element(alloc, scope, only, ty, agreed),
+        SetTree::Alone(only) => element(alloc, scope, only, ty, noted),
         SetTree::Union(first, others) => {
-            let first = intersection(alloc, scope, first, ty, agreed)?;
-            let others = united(alloc, scope, others, ty, agreed)?;
+            let first = intersection(alloc, scope, first, ty, noted)?;
+            let others = united(alloc, scope, others, ty, noted)?;
             Ok(joined(alloc, Join::Union, tree.site(), first, others)?)
         }
         SetTree::AllExcept(site, other) => {
-            let other = element(alloc, scope, other, ty, agreed)?;
+            let other = element(alloc, scope, other, ty, noted)?;
             Ok(all_except(alloc, *site, other)?)
         }
     }
 }
 
 // ---- unions, intersections and differences (50.1)
-
-/// What the parts of a set are joined to: `|` makes a union, `^` an intersection.
-#[derive(Clone, Copy)]
-pub enum Join {
-    Union,
-    Intersection,
-}
-
-fn all_except(alloc: Global, site: Site, other: Cons) -> Result<Cons, AllocError>
-    ensures { IfOk result (λ c. constraint_view c ≡ abstract.at site (abstract.all_except (constraint_view other))) }
-{
-    let other = Arc::new(alloc, other)?;
-    Ok(Cons {
-        site,
-        rule: Rule::Other(other),
-    })
-}
-
-/// The first one with those joined to it. Alone it is itself.
-fn joined(
-    alloc: Global,
-    join: Join,
-    site: Site,
-    first: Cons,
-    others: Vec<Cons>,
-) -> Result<Cons, AllocError>
-    ensures { IfOk result (λ c. constraint_view c ≡ denotes.joined (reading.joined_by join) site (constraint_view first)
-        (constraints_of (map constraint_view others.items))) }
-{
-    let joined_parts: &[Cons] = &others;
-    if joined_parts.is_empty() {
-        return Ok(first);
-    }
-    let all = with_first(alloc, first, others)?;
-    of_all(join, site, all)
-}
-
-fn with_first(alloc: Global, first: Cons, others: Vec<Cons>) -> Result<Vec<Cons>, AllocError>
-    ensures { IfOk result (λ v. v.items ≡ first ∷ others.items) }
-{
-    let mut others = others;
-    let mut all = Vec::new(alloc);
-    all.push(first)?;
-    all.append(&mut others)?;
-    Ok(all)
-}
-
-fn of_all(join: Join, site: Site, all: Vec<Cons>) -> Result<Cons, AllocError>
-    ensures { IfOk result (λ c. constraint_view c
-        ≡ abstract.at site (reading.joined_by join (constraints_of (map constraint_view all.items)))) }
-{
-    let all = ArcSlice::from_vec(all)?;
-    match join {
-        Join::Union => Ok(Cons {
-            site,
-            rule: Rule::Any(all),
-        }),
-        Join::Intersection => Ok(Cons {
-            site,
-            rule: Rule::Both(all),
-        }),
-    }
-}
 
 /// The intersections that are joined to the first one of a union.
 #[cycle(sets)]
@@ -205,18 +155,21 @@ fn united(
     scope: Scope,
     others: &[JoinedIntersection],
     ty: &Ty,
-    agreed: &mut BTreeSet<usize>,
+    noted: &mut Noted,
 ) -> Result<Vec<Cons>, ConsFault>
     requires sound { IsTrue (is_sound (type_view ty.now)) }
     requires fitting { AreKnownFitting scope.known.now }
-    requires agreed { AreAgreed scope.known.now (type_view ty.now) agreed.old }
+    requires agreed { AreAgreed scope.known.now (type_view ty.now) noted.old.agreed }
     ensures given { Gives (λ v. map constraint_view v.items) named result (reading.joined_intersections
         (visible_in scope.entry) (type_view ty.now) (map views.joined_intersection_view others.now)) }
-    ensures agreed { AreAgreed scope.entry.known.now (type_view ty.now) agreed.new }
+    ensures agreed { AreAgreed scope.entry.known.now (type_view ty.now) noted.new.agreed }
+    ensures grows { Grows noted.old.bound noted.new.bound }
+    ensures bounds { IfOk result (λ v. IsTrue (bounds_all noted.new.bound (type_view ty.now)
+        (constraints_of (map constraint_view v.items)))) }
 {
     let mut all = Vec::new(alloc);
     for other in others {
-        all.push(intersection(alloc, scope, &other.part, ty, agreed)?)?;
+        all.push(intersection(alloc, scope, &other.part, ty, noted)?)?;
     }
     Ok(all)
 }
@@ -228,20 +181,22 @@ fn intersection(
     scope: Scope,
     tree: &IntersectionTree,
     ty: &Ty,
-    agreed: &mut BTreeSet<usize>,
+    noted: &mut Noted,
 ) -> Result<Cons, ConsFault>
     requires sound { IsTrue (is_sound (type_view ty.now)) }
     requires fitting { AreKnownFitting scope.known.now }
-    requires agreed { AreAgreed scope.known.now (type_view ty.now) agreed.old }
+    requires agreed { AreAgreed scope.known.now (type_view ty.now) noted.old.agreed }
     ensures given { Gives constraint_view named result
         (reading.read_intersection (visible_in scope.entry) (type_view ty.now) (views.intersection_view tree.now)) }
-    ensures agreed { AreAgreed scope.entry.known.now (type_view ty.now) agreed.new }
+    ensures agreed { AreAgreed scope.entry.known.now (type_view ty.now) noted.new.agreed }
+    ensures grows { Grows noted.old.bound noted.new.bound }
+    ensures bounds { IfOk result (λ c. IsTrue (bounds noted.new.bound (type_view ty.now) (constraint_view c))) }
 {
     match tree {
-        IntersectionTree::Single(only) => element(alloc, scope, only, ty, agreed),
+        IntersectionTree::Single(only) => element(alloc, scope, only, ty, noted),
         IntersectionTree::Differences(first, others) => {
-            let first = difference(alloc, scope, first, ty, agreed)?;
-            let others = met(alloc, scope, others, ty, agreed)?;
+            let first = difference(alloc, scope, first, ty, noted)?;
+            let others = met(alloc, scope, others, ty, noted)?;
             Ok(joined(alloc, Join::Intersection, tree.site(), first, others)?)
         }
     }
@@ -254,18 +209,21 @@ fn met(
     scope: Scope,
     others: &[JoinedDifference],
     ty: &Ty,
-    agreed: &mut BTreeSet<usize>,
+    noted: &mut Noted,
 ) -> Result<Vec<Cons>, ConsFault>
     requires sound { IsTrue (is_sound (type_view ty.now)) }
     requires fitting { AreKnownFitting scope.known.now }
-    requires agreed { AreAgreed scope.known.now (type_view ty.now) agreed.old }
+    requires agreed { AreAgreed scope.known.now (type_view ty.now) noted.old.agreed }
     ensures given { Gives (λ v. map constraint_view v.items) named result (reading.joined_differences (visible_in scope.entry)
         (type_view ty.now) (map views.joined_difference_view others.now)) }
-    ensures agreed { AreAgreed scope.entry.known.now (type_view ty.now) agreed.new }
+    ensures agreed { AreAgreed scope.entry.known.now (type_view ty.now) noted.new.agreed }
+    ensures grows { Grows noted.old.bound noted.new.bound }
+    ensures bounds { IfOk result (λ v. IsTrue (bounds_all noted.new.bound (type_view ty.now)
+        (constraints_of (map constraint_view v.items)))) }
 {
     let mut all = Vec::new(alloc);
     for other in others {
-        all.push(difference(alloc, scope, &other.part, ty, agreed)?)?;
+        all.push(difference(alloc, scope, &other.part, ty, noted)?)?;
     }
     Ok(all)
 }
@@ -278,35 +236,25 @@ fn difference(
     scope: Scope,
     tree: &DifferenceTree,
     ty: &Ty,
-    agreed: &mut BTreeSet<usize>,
+    noted: &mut Noted,
 ) -> Result<Cons, ConsFault>
     requires sound { IsTrue (is_sound (type_view ty.now)) }
     requires fitting { AreKnownFitting scope.known.now }
-    requires agreed { AreAgreed scope.known.now (type_view ty.now) agreed.old }
+    requires agreed { AreAgreed scope.known.now (type_view ty.now) noted.old.agreed }
     ensures given { Gives constraint_view named result
         (reading.read_difference (visible_in scope.entry) (type_view ty.now) (views.difference_view tree.now)) }
-    ensures agreed { AreAgreed scope.entry.known.now (type_view ty.now) agreed.new }
+    ensures agreed { AreAgreed scope.entry.known.now (type_view ty.now) noted.new.agreed }
+    ensures grows { Grows noted.old.bound noted.new.bound }
+    ensures bounds { IfOk result (λ c. IsTrue (bounds noted.new.bound (type_view ty.now) (constraint_view c))) }
 {
-    let all = element(alloc, scope, &tree.element, ty, agreed)?;
+    let all = element(alloc, scope, &tree.element, ty, noted)?;
     match &tree.except {
         None => Ok(all),
         Some(less) => {
-            let less = element(alloc, scope, less, ty, agreed)?;
+            let less = element(alloc, scope, less, ty, noted)?;
             Ok(except(alloc, tree.element.site, all, less)?)
         }
     }
-}
-
-fn except(alloc: Global, site: Site, all: Cons, less: Cons) -> Result<Cons, AllocError>
-    ensures { IfOk result (λ c. constraint_view c
-        ≡ abstract.at site (abstract.except (constraint_view all) (constraint_view less))) }
-{
-    let all = Arc::new(alloc, all)?;
-    let less = Arc::new(alloc, less)?;
-    Ok(Cons {
-        site,
-        rule: Rule::Minus(all, less),
-    })
 }
 
 // ---- elements (51)
@@ -318,20 +266,22 @@ fn element(
     scope: Scope,
     tree: &ElementTree,
     ty: &Ty,
-    agreed: &mut BTreeSet<usize>,
+    noted: &mut Noted,
 ) -> Result<Cons, ConsFault>
     requires sound { IsTrue (is_sound (type_view ty.now)) }
     requires fitting { AreKnownFitting scope.known.now }
-    requires agreed { AreAgreed scope.known.now (type_view ty.now) agreed.old }
+    requires agreed { AreAgreed scope.known.now (type_view ty.now) noted.old.agreed }
     ensures given { Gives constraint_view named result
         (reading.read_element (visible_in scope.entry) (type_view ty.now) (views.element_view tree.now)) }
-    ensures agreed { AreAgreed scope.entry.known.now (type_view ty.now) agreed.new }
+    ensures agreed { AreAgreed scope.entry.known.now (type_view ty.now) noted.new.agreed }
+    ensures grows { Grows noted.old.bound noted.new.bound }
+    ensures bounds { IfOk result (λ c. IsTrue (bounds noted.new.bound (type_view ty.now) (constraint_view c))) }
 {
     let site = tree.site;
     match &tree.form {
-        ElementForm::Parentheses(inner) => set(alloc, scope, inner, ty, agreed),
-        ElementForm::Value(tree) => single_value(alloc, scope, tree, site, ty),
-        ElementForm::Contained(_, name) => contained(scope, name.name, site, ty, agreed),
+        ElementForm::Parentheses(inner) => set(alloc, scope, inner, ty, noted),
+        ElementForm::Value(tree) => single_value(alloc, scope, tree, site, ty, noted),
+        ElementForm::Contained(_, name) => contained(scope, name.name, site, ty, &mut noted.agreed),
         ElementForm::Range(tree) => range(alloc, scope, tree, site, ty),
         ElementForm::Size(inner) => size(alloc, scope, inner, site, ty),
         ElementForm::From(inner) => alphabet(alloc, inner, site, ty),
@@ -350,17 +300,28 @@ fn single_value(
     tree: &ValueTree,
     site: Site,
     ty: &Ty,
+    noted: &mut Noted,
 ) -> Result<Cons, ConsFault>
     requires sound { IsTrue (is_sound (type_view ty.now)) }
     requires fitting { AreKnownFitting scope.known.now }
-    ensures { Gives constraint_view named result (reading.read_element_form (visible_in scope.entry) (type_view ty.now)
-        site (trees.value (values.value_view tree.now))) }
+    ensures given { Gives constraint_view named result (reading.read_element_form (visible_in scope.entry)
+        (type_view ty.now) site (trees.value (values.value_view tree.now))) }
+    ensures agreed { noted.new.agreed ≡ noted.old.agreed }
+    ensures grows { Grows noted.old.bound noted.new.bound }
+    ensures bounds { IfOk result (λ c. IsTrue (bounds noted.new.bound (type_view ty.now) (constraint_view c))) }
 {
     let single = written_value(alloc, scope, tree, ty)?;
-    Ok(Cons {
+    raise(noted, single.length);
+    Ok(only(site, single.value))
+}
+
+fn only(site: Site, value: Arc<Value>) -> Cons
+    ensures { constraint_view result ≡ abstract.at site (abstract.single_value (shared_view value)) }
+{
+    Cons {
         site,
-        rule: Rule::One(single),
-    })
+        rule: Rule::One(value),
+    }
 }
 
 /// A constraint on the size, which is an INTEGER (51.5).
@@ -379,7 +340,13 @@ fn size(
         site (trees.size (views.constraint_view inner.now))) }
 {
     let number = size_type(alloc, ty, site)?;
-    let size = on_type(alloc, scope, inner, &number, &mut BTreeSet::new(alloc))?;
+    let size = on_type(
+        alloc,
+        scope,
+        inner,
+        &number,
+        &mut Noted::new(alloc, Some(0)),
+    )?;
     of_size(alloc, site, size, ty)
 }
 
@@ -413,7 +380,13 @@ fn each(
         site (trees.with_component (views.constraint_view inner.now))) }
 {
     let element = element_type(ty, site)?;
-    let each = on_type(alloc, scope, inner, element, &mut BTreeSet::new(alloc))?;
+    let each = on_type(
+        alloc,
+        scope,
+        inner,
+        element,
+        &mut Noted::new(alloc, Some(0)),
+    )?;
     let each = Arc::new(alloc, each)?;
     Ok(Cons {
         site,
@@ -487,7 +460,7 @@ fn part(alloc: Global, scope: Scope, tree: &ComponentConsTree, ty: &Ty) -> Resul
     match &tree.cons {
         None => Ok(part_at(tree, place, None)),
         Some(inner) => {
-            let cons = on_type(alloc, scope, inner, inside, &mut BTreeSet::new(alloc))?;
+            let cons = on_type(alloc, scope, inner, inside, &mut Noted::new(alloc, Some(0)))?;
             Ok(part_at(tree, place, Some(cons)))
         }
     }

@@ -9,7 +9,7 @@ use Rattle.guard_model.specs.AbstractType.{AbstractType}
 use Rattle.guard_values.specs.declared.scope.Known.{Known}
 use Rattle.guard_values.specs.Views.{type_at}
 use Rattle.guard_constraints.specs.Visible.{has_base_of}
-use Rattle.guard_constraints.specs.Agreed.{AreAgreed}
+use Rattle.guard_constraints.specs.Noted.{AreAgreed}
 
 module _ (known : Known) (t : AbstractType) (before after : BTreeSet ℕ) (place : ℕ) (agreed : AreAgreed known t before)
     (has : IsTrue (has_base_of t (type_at known place)))

@@ -16,8 +16,8 @@ use Rattle.guard_syntax.specs.Trees.{WrittenPart, WrittenParts, WrittenConstrain
 use Rattle.guard_values.specs.Places.{Located}
 use Rattle.guard_constraints.specs.declared.fault.ConsFault.{ConsFault}
 use Rattle.guard_constraints.specs.declared.fault.ConsFault.TheVariants.{UnknownComponent}
-use Rattle.guard_constraints.specs.declared.written.Join.{Join}
-use Rattle.guard_constraints.specs.declared.written.Join.TheVariants as join
+use Rattle.guard_constraints.specs.declared.joining.Join.{Join}
+use Rattle.guard_constraints.specs.declared.joining.Join.TheVariants as join
 use Rattle.guard_constraints.specs.Visible.{Visible}
 use Rattle.guard_constraints.specs.Denotes.{joined}
 use Rattle.guard_constraints.specs.ListedParts.{PartHead, heads, head_of, named_in, word_of}

@@ -21,8 +21,8 @@ use Rattle.guard_values.specs.Places.{Located}
 use Rattle.guard_values.specs.inside.Reading.{read_whole}
 use Rattle.guard_constraints.specs.declared.fault.ConsFault.{ConsFault}
 use Rattle.guard_constraints.specs.declared.fault.ConsFault.TheVariants.{NotApplicable, ExclusiveLimit, AlphabetForm, UnknownComponent, ContainedMismatch, Value}
-use Rattle.guard_constraints.specs.declared.written.Join.{Join}
-use Rattle.guard_constraints.specs.declared.written.Join.TheVariants as join
+use Rattle.guard_constraints.specs.declared.joining.Join.{Join}
+use Rattle.guard_constraints.specs.declared.joining.Join.TheVariants as join
 use Rattle.guard_constraints.specs.Visible.{Visible, has_base_of}
 use Rattle.guard_constraints.specs.RangeEnds.{has_proper_ends, value_of_end, limit_at}
 use Rattle.guard_constraints.specs.PermittedAlphabets.{AlphabetItem, items_of, first_bad, ranges_of}

@@ -1,7 +1,7 @@
 use Rattle.std.proofs.Common.{◌≡◌, rules, map, Ok, refl, sym, ap, ◌∙◌}
 use Rattle.std.proofs.lemmas.Result.{err_from_is_err_and}
 use Rattle.guard_model.specs.inside.Each.{each}
-use Rattle.guard_model.specs.TypeView.{type_view, constraint_view, part_view}
+use Rattle.guard_model.specs.TypeView.{type_view, constraint_view, constraints_of, part_view}
 use Rattle.guard_model.proofs.Loops.{stops_at, ends_there}
 use Rattle.guard_model.specs.Kinds.{kind_of}
 use Rattle.guard_syntax.specs.Trees.{WrittenJoinedIntersection, WrittenJoinedDifference}
@@ -10,11 +10,13 @@ use Rattle.guard_syntax.specs.declared.tree.ElementForm.{the_lemmas as tree_lemm
 use Rattle.guard_syntax.specs.Trees as written
 use Rattle.guard_syntax.specs.Trees.{united_of, met_of}
 use Rattle.guard_constraints.specs.inside.Reading.{read, joined_intersections, joined_differences, read_set, read_set_form, read_intersection, read_difference, read_part}
-use Rattle.guard_constraints.specs.declared.written.Join.TheVariants as join
+use Rattle.guard_constraints.specs.declared.joining.Join.TheVariants as join
+use Rattle.guard_constraints.specs.inside.Bounds.{is_within}
 use Rattle.guard_constraints.specs.Views.{named, visible_in}
 use Rattle.guard_constraints.proofs.CodeSteps.PushedReadings.{pushes}
 use Rattle.guard_constraints.proofs.CodeSteps.KeptTrees.{joined_intersection_is, joined_difference_is}
 use Rattle.guard_constraints.proofs.CodeSteps.JoinedConstraints.{union_steps, intersection_steps, joined_refused, joined_made, parts_checked, parts_refused, parts_made}
+use Rattle.guard_constraints.proofs.CodeSteps.NotedBounds.{weaker_in_all, pushed_within, joined_bounds, except_bounds}
 use Rattle.guard_constraints.proofs.written.+sets.Goals as goal
 
 -- ---- unions
@@ -50,6 +52,11 @@ set-returns-in_ok-joined-in-Union-clause-given t c =
     rw (e, steps) (joined_made join.Union site one (joined_intersections names ty others) (map constraint_view c.in_ok-others-in-Union.others.items)
     (rw c.deref-in-Union.ensures.value at c.in_ok-others-in-Union.ensures.given) ∙ ap Ok (sym (rw s at c.in_ok-joined-in-Union.ensures)))
 
+pub set-returns-in_ok-joined-in-Union-clause-bounds : goal.set-returns-in_ok-joined-in-Union-clause-bounds
+set-returns-in_ok-joined-in-Union-clause-bounds t c =
+    rw c.in_ok-joined-in-Union.ensures (joined_bounds c.intersection.new.noted.bound c.united.new.noted.bound (type_view c.args.ty.now) c.in_ok-others-in-Union.ensures.grows
+    (constraint_view c.in_ok-first-in-Union.first) c.in_ok-first-in-Union.ensures.bounds join.Union c.site.result (constraints_of (map constraint_view c.in_ok-others-in-Union.others.items)) c.in_ok-others-in-Union.ensures.bounds)
+
 pub united-loop-other-preserved : goal.united-loop-other-preserved
 united-loop-other-preserved t c =
     let step = λ (j : WrittenJoinedIntersection). read_intersection (visible_in c.args.scope) (type_view c.args.ty.now) j.joined in
@@ -60,6 +67,12 @@ united-loop-other-preserved t c =
           c.other-item.result c.loop-other-test.true c.other-item.is c.in_ok-intersection.field-0 _ c.in_ok-push.ensures.items
           (rw (joined_intersection_is c.other-item.result) c.in_ok-intersection.ensures.given);
       agreed = c.in_ok-intersection.ensures.agreed;
+      grows = λ kind v h. c.in_ok-intersection.ensures.grows kind v (c.loop-other.invariant.grows kind v h);
+      bounds =
+          let test = is_within c.intersection.new.noted.bound (kind_of (type_view c.args.ty.now)) in
+          let before = weaker_in_all (is_within c.loop-other.noted.bound (kind_of (type_view c.args.ty.now))) test (c.in_ok-intersection.ensures.grows (kind_of (type_view c.args.ty.now)))
+          (constraints_of (map constraint_view c.loop-other.all.items)) c.loop-other.invariant.bounds in
+          rw c.in_ok-push.ensures.items (pushed_within test c.loop-other.all.items c.in_ok-intersection.field-0 before c.in_ok-intersection.ensures.bounds);
     }
 
 pub united-returns-in_err-intersection-clause-given : goal.united-returns-in_err-intersection-clause-given
@@ -107,6 +120,11 @@ intersection-returns-in_ok-joined-in-Differences-clause-given t c =
     rw (e, steps) (joined_made join.Intersection site one (joined_differences names ty others) (map constraint_view c.in_ok-others-in-Differences.others.items)
     (rw c.deref-in-Differences.ensures.value at c.in_ok-others-in-Differences.ensures.given) ∙ ap Ok (sym (rw s at c.in_ok-joined-in-Differences.ensures)))
 
+pub intersection-returns-in_ok-joined-in-Differences-clause-bounds : goal.intersection-returns-in_ok-joined-in-Differences-clause-bounds
+intersection-returns-in_ok-joined-in-Differences-clause-bounds t c =
+    rw c.in_ok-joined-in-Differences.ensures (joined_bounds c.difference.new.noted.bound c.met.new.noted.bound (type_view c.args.ty.now) c.in_ok-others-in-Differences.ensures.grows
+    (constraint_view c.in_ok-first-in-Differences.first) c.in_ok-first-in-Differences.ensures.bounds join.Intersection c.site.result (constraints_of (map constraint_view c.in_ok-others-in-Differences.others.items)) c.in_ok-others-in-Differences.ensures.bounds)
+
 pub met-loop-other-preserved : goal.met-loop-other-preserved
 met-loop-other-preserved t c =
     let step = λ (j : WrittenJoinedDifference). read_difference (visible_in c.args.scope) (type_view c.args.ty.now) j.joined in
@@ -117,6 +135,12 @@ met-loop-other-preserved t c =
           c.other-item.result c.loop-other-test.true c.other-item.is c.in_ok-difference.field-0 _ c.in_ok-push.ensures.items
           (rw (joined_difference_is c.other-item.result) c.in_ok-difference.ensures.given);
       agreed = c.in_ok-difference.ensures.agreed;
+      grows = λ kind v h. c.in_ok-difference.ensures.grows kind v (c.loop-other.invariant.grows kind v h);
+      bounds =
+          let test = is_within c.difference.new.noted.bound (kind_of (type_view c.args.ty.now)) in
+          let before = weaker_in_all (is_within c.loop-other.noted.bound (kind_of (type_view c.args.ty.now))) test (c.in_ok-difference.ensures.grows (kind_of (type_view c.args.ty.now)))
+          (constraints_of (map constraint_view c.loop-other.all.items)) c.loop-other.invariant.bounds in
+          rw c.in_ok-push.ensures.items (pushed_within test c.loop-other.all.items c.in_ok-difference.field-0 before c.in_ok-difference.ensures.bounds);
     }
 
 pub met-returns-in_err-difference-clause-given : goal.met-returns-in_err-difference-clause-given
@@ -133,6 +157,13 @@ met-returns-clause-given t c =
     let step = λ (j : WrittenJoinedDifference). read_difference (visible_in c.args.scope) (type_view c.args.ty.now) j.joined in
     let total = joined_differences (visible_in c.args.scope) (type_view c.args.ty.now) (map views.joined_difference_view c.args.others.now) in
     ends_there step views.joined_difference_view (map constraint_view c.loop-other.all.items) c.args.others.now c.loop-other.other-index total c.loop-other.invariant.so_far c.loop-other-test.false
+
+-- ---- differences
+
+pub difference-returns-in_ok-except-in-Some-clause-bounds : goal.difference-returns-in_ok-except-in-Some-clause-bounds
+difference-returns-in_ok-except-in-Some-clause-bounds t c =
+    rw c.in_ok-except-in-Some.ensures (except_bounds c.element.new.noted.bound c.element-in-Some.new.noted.bound (type_view c.args.ty.now) c.in_ok-less-in-Some.ensures.grows
+    (constraint_view c.in_ok-all.all) c.in_ok-all.ensures.bounds (constraint_view c.in_ok-less-in-Some.less) c.in_ok-less-in-Some.ensures.bounds)
 
 -- ---- WITH COMPONENTS
 

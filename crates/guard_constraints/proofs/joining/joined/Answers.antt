@@ -2,7 +2,7 @@ use Rattle.std.proofs.Common.{sym, ◌∙◌}
 use Rattle.std.proofs.lemmas.Result.{IfOk-weaker}
 use Rattle.guard_model.specs.TypeView.{constraint_view}
 use Rattle.guard_constraints.proofs.CodeSteps.JoinedConstraints.{joined_alone, joined_several}
-use Rattle.guard_constraints.proofs.written.joined.Goals as goal
+use Rattle.guard_constraints.proofs.joining.joined.Goals as goal
 
 pub returns-then-is_empty : goal.returns-then-is_empty
 returns-then-is_empty c =

@@ -1,6 +1,6 @@
 use Rattle.std.proofs.Common.{rules}
 use Rattle.guard_model.specs.declared.ty.Kind.{the_lemmas}
-use Rattle.guard_constraints.proofs.written.of_all.Goals as goal
+use Rattle.guard_constraints.proofs.joining.of_all.Goals as goal
 
 pub returns-in-Union : goal.returns-in-Union
 returns-in-Union c = search (rules, the_lemmas)

@@ -5,8 +5,8 @@ pub mod Turns
 pub mod OneAnswer
 -- ---- texts and their modules
 pub mod Modules
--- ---- how many octets single values have at most
-pub mod Bounds
+-- ---- tags that leave room for the single values in constraints
+pub mod Room
 -- ---- definitions: what is filled into their types, and how each is built
 pub mod Filled
 pub mod Built

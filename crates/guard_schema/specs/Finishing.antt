@@ -6,7 +6,7 @@
 use Rattle.std.specs.Prelude.{◌≡◌, ℕ, suc, ◌+◌, List, [], ◌∷◌, Bool, true, false, Option, Some, None}
 use Rattle.guard_model.specs.AbstractType as type
 use Rattle.guard_model.specs.AbstractType.{AbstractType, AbstractKind, AbstractPresence, type_of}
-use Rattle.guard_model.specs.AbstractType.{Components, Constraint, Constraints}
+use Rattle.guard_model.specs.AbstractType.{Components}
 use Rattle.guard_model.specs.Counts.{component_count}
 use Rattle.guard_model.specs.Kinds.{type_of_size}
 use Rattle.guard_model.specs.TypeView.{OneComponent}
@@ -17,20 +17,13 @@ use Rattle.guard_syntax.specs.Trees.{named_type}
 use Rattle.guard_syntax.specs.Trees.{WrittenComponents, no_components, component, components_from}
 use Rattle.guard_syntax.specs.Trees.{WrittenAlternatives, no_alternatives, alternative}
 use Rattle.guard_tagging.specs.Types.{structure_kind, of_kind, presence_of, parts_of, join}
+use Rattle.guard_constraints.specs.Noted.{with_constraint}
 use Rattle.guard_constraints.specs.Visible.{Visible}
 use Rattle.guard_schema.specs.Outcomes.{Is, Then}
 use Rattle.guard_schema.specs.Faults.{Outcome}
 use Rattle.guard_schema.specs.Readings.{HasShortValues, ReadsMember, ReadsConstraint}
 
 -- ---- parts of types
-
-abbrev pub add : Constraints → Constraint → Constraints
-add type.no_constraints c = type.constraint c type.no_constraints
-add (type.constraint d ds) c = type.constraint d (add ds c)
-
--- the type with one constraint more, after those that it has
-abbrev pub with_constraint : AbstractType → Constraint → AbstractType
-with_constraint (type_of tags kind cons) c = type_of tags kind (add cons c)
 
 abbrev pub put_before : OneComponent → Components → Components
 put_before c cs = type.component c.name c.ty c.presence cs

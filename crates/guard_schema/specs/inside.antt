@@ -1,4 +1,4 @@
 -- What only private contracts and proofs cite.
-pub mod Bounds
+pub mod Room
 pub mod Ready
 pub mod InTurn

@@ -31,7 +31,6 @@ use crate::fault::SchemaFault;
 use crate::finishing::finished;
 use crate::progress::{Definition, Progress};
 use crate::readings::read_member;
-use crate::value_bounds::bound_of;
 use guard_model::{Site, Ty, Value};
 use guard_names::{Id, Names};
 use guard_syntax::{Assignment, ValueTree};
@@ -154,16 +153,15 @@ fn completed(
         known: &progress.known,
         id,
     };
-    let ty = finished(alloc, scope, &assignment.ty, bare)?;
-    let found = valued(alloc, progress, scope, assignment, &ty)?;
+    let done = finished(alloc, scope, &assignment.ty, bare)?;
+    let found = valued(alloc, progress, scope, assignment, &done.ty)?;
     let (assigned, held) = found;
-    let bound = bound_of(&ty);
-    let shared = Arc::new(alloc, ty)?;
+    let shared = Arc::new(alloc, done.ty)?;
     Ok(Definition {
         ty: shared,
         value: assigned.value,
         length: assigned.length,
-        bound,
+        bound: done.bound,
         is_automatic,
         nodes,
         held,

@@ -21,7 +21,7 @@ ghost use Rattle.guard_schema.specs.Pairs.{AreBuilt};
 ghost use Rattle.guard_schema.specs.Outcomes.{Answers, Is};
 ghost use Rattle.guard_schema.specs.Views.{filling_view};
 
-use crate::constraints::{type_made_of, with_written};
+use crate::constraints::{Bounded, type_made_of, with_written};
 use crate::fault::SchemaFault;
 use crate::readings::read_member;
 use guard_model::{Comp, Kind, Presence, Ty};
@@ -38,14 +38,19 @@ pub struct Filling {
     pub left: VecDeque<Comp>,
 }
 
-/// The finished type.
+/// The finished type, bounded by its own constraints.
 #[cycle(finishing)]
-pub fn finished(alloc: Global, scope: Scope, tree: &TypeTree, bare: Ty) -> Result<Ty, SchemaFault>
+pub fn finished(
+    alloc: Global,
+    scope: Scope,
+    tree: &TypeTree,
+    bare: Ty,
+) -> Result<Bounded, SchemaFault>
     requires known { AreBuilt scope.known.now }
     requires ready { ready.IsReady (visible_in scope) (written.type_view tree.now) (type_view bare) }
-    ensures finished { Answers type_view named result
+    ensures finished { Answers (λ b. type_view b.ty) named result
         (in_turn.FinishesInTurn (visible_in scope.entry) (written.type_view tree.now) (type_view bare)) }
-    ensures sound { IfOk result (λ t. IsTrue (is_sound (type_view t))) }
+    ensures sound { IfOk result (λ b. IsTrue (is_sound (type_view b.ty))) }
 {
     let filled = with_parts(alloc, scope, &tree.base, bare)?;
     with_written(alloc, scope, tree, filled)
@@ -148,7 +153,7 @@ fn boxed(
         (in_turn.FinishesInTurn (visible_in scope.entry) (written.type_view tree.now) (type_view bare.value)) }
 {
     let element = finished(alloc, scope, tree, Box::into_inner(bare))?;
-    Ok(Box::new(alloc, element)?)
+    Ok(Box::new(alloc, element.ty)?)
 }
 
 // ---- lists of components and alternatives
@@ -345,7 +350,7 @@ fn finished_component(
 {
     let Comp { name, ty, .. } = bare;
     let filled = finished(alloc, scope, tree, ty)?;
-    with_presence(alloc, scope, presence, name, filled)
+    with_presence(alloc, scope, presence, name, filled.ty)
 }
 
 /// The component of this name and this type.

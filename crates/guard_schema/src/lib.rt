@@ -11,7 +11,7 @@
 //! | Which constraints and defaults are filled into a type? | `finishing.rt`, `constraints.rt` | `specs/Finishing.antt` |
 //! | What are a written value and a written constraint? | `readings.rt` | `specs/Readings.antt` |
 //! | Which value is too long under the tags of a reference, and is a finished type sound? | `long_values.rt`, `laws.rt` | `specs/LongValues.antt`, `specs/FinishedSound.antt` |
-//! | How many octets have the values in a type's constraints at most, and where is there room for them? | `value_bounds.rt`, `value_octets.rt` | `specs/SingleValues.antt` of `guard_values`, `specs/inside/Bounds.antt` (private) |
+//! | How many octets have the single values in a type's constraints at most, and which tags leave room for them? | `constraints.rt` (`Bounded`); `Noted` of `guard_constraints` | `specs/SingleValues.antt` of `guard_values`, `specs/inside/Room.antt` (private) |
 //! | By what are types found? | `index.rt` (`TypeIndex`), `build.rt` | `specs/Entries.antt`, `specs/Views.antt` |
 //! | How much may a schema hold? | `counting.rt` | `specs/Counting.antt` |
 //! | Is there one schema, one thing known, or one fault? | `laws.rt` | `specs/OneAnswer.antt` |
@@ -33,8 +33,6 @@ mod progress;
 mod readings;
 mod schema;
 mod texts;
-mod value_bounds;
-mod value_octets;
 
 pub use built_modules::BuiltModules;
 pub use fault::SchemaFault;

@@ -6,8 +6,9 @@ ghost use Rattle.guard_model.specs.TypeView.{type_view, constraint_view};
 ghost use Rattle.guard_syntax.specs.SetViews as sets;
 ghost use Rattle.guard_syntax.specs.Views as values;
 ghost use Rattle.guard_values.specs.KeptLengths.{contents_length};
+ghost use Rattle.guard_values.specs.SingleValues.{is_bounded};
 ghost use Rattle.guard_values.specs.Views.{known_value_view};
-ghost use Rattle.guard_constraints.specs.Agreed.{AreAgreed};
+ghost use Rattle.guard_constraints.specs.Noted.{AreAgreed, with_constraint};
 ghost use Rattle.guard_constraints.specs.Views.{visible_in};
 ghost use Rattle.guard_schema.specs.Faults.{named};
 ghost use Rattle.guard_schema.specs.Pairs.{AreBuilt};
@@ -15,13 +16,12 @@ ghost use Rattle.guard_schema.specs.Outcomes.{Answers};
 ghost use Rattle.guard_schema.specs.Readings.{ReadsValue, ReadsMember, ReadsConstraint};
 
 use crate::fault::SchemaFault;
-use guard_constraints::constraint;
+use guard_constraints::{Noted, constraint};
 use guard_eval::member_of;
 use guard_model::{Cons, Ty};
 use guard_syntax::{ConsTree, ValueTree};
 use guard_values::{KnownValue, Scope, shared_value};
 use std::alloc::Global;
-use std::collections::BTreeSet;
 
 /// The value that is written, a member of its type: of a DEFAULT, or of a value assignment.
 pub fn read_member(
@@ -64,22 +64,25 @@ pub fn read_value(
     Ok(shared_value(alloc, names, known, id, ty, tree)?)
 }
 
-/// The constraint that is written on a type. `agreed` are places of types that have the base of it.
+/// The constraint that is written on a type, of which this is noted.
 pub fn read_constraint(
     alloc: Global,
     scope: Scope,
     ty: &Ty,
     tree: &ConsTree,
-    agreed: &mut BTreeSet<usize>,
+    noted: &mut Noted,
 ) -> Result<Cons, SchemaFault>
     requires sound { IsTrue (is_sound (type_view ty.now)) }
     requires known { AreBuilt scope.known.now }
-    requires agreed { AreAgreed scope.known.now (type_view ty.now) agreed.old }
+    requires agreed { AreAgreed scope.known.now (type_view ty.now) noted.old.agreed }
+    requires bounded { IsTrue (is_bounded noted.old.bound (type_view ty.now)) }
     ensures read { Answers constraint_view named result
         (ReadsConstraint (visible_in scope.entry) (type_view ty.now) (sets.constraint_view tree.now)) }
     ensures proper { IfOk result (λ c. IsTrue (is_proper_constraint (constraint_view c) (type_view ty.now))) }
-    ensures agreed { AreAgreed scope.entry.known.now (type_view ty.now) agreed.new }
+    ensures agreed { AreAgreed scope.entry.known.now (type_view ty.now) noted.new.agreed }
+    ensures bounded { IfOk result
+        (λ c. IsTrue (is_bounded noted.new.bound (with_constraint (type_view ty.now) (constraint_view c)))) }
 {
     let Scope { names, known, id } = scope;
-    Ok(constraint(alloc, names, known, id, ty, tree, agreed)?)
+    Ok(constraint(alloc, names, known, id, ty, tree, noted)?)
 }

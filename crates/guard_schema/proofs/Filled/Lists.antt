@@ -13,7 +13,7 @@ use Rattle.guard_model.specs.declared.value.Value.{Value}
 use Rattle.std.specs.Global.{Global}
 use Rattle.std.specs.declared.sync.Arc.{Arc}
 use Rattle.guard_schema.specs.Counting.{all_held, held_by}
-use Rattle.guard_schema.specs.Finishing.{add, with_constraint}
+use Rattle.guard_constraints.specs.Noted.{add, with_constraint}
 use Rattle.guard_schema.specs.inside.Ready.{listed}
 use Rattle.guard_schema.specs.Known.{Built}
 use Rattle.guard_schema.specs.Pairs.{built_view, paired}

@@ -1,15 +1,17 @@
 -- A sound type with one proper constraint more is sound.
-use Rattle.std.proofs.Common.{◌≡◌, ℕ, refl, ◌∙◌, IsTrue, List}
+use Rattle.std.proofs.Common.{◌≡◌, ℕ, Bool, ◌&&◌, Option, Some, None, refl, ap, ◌∙◌, IsTrue, List}
 use Rattle.std.proofs.lemmas.Bool.{and_parts, and_from}
 use Rattle.std.specs.BTreeSet.{BTreeSet}
+use Rattle.guard_model.specs.declared.site.Site.{Site}
 use Rattle.guard_model.specs.declared.tag.Tag.{Tag}
 use Rattle.guard_model.specs.AbstractType as type
 use Rattle.guard_model.specs.AbstractType.{AbstractType, AbstractKind, Constraint, Constraints, Element, Parts, type_of}
 use Rattle.guard_der.specs.Sound.{is_sound, is_proper, is_proper_element, is_proper_constraint, are_proper_constraints}
 use Rattle.guard_der.specs.Sound.{are_proper_parts}
+use Rattle.guard_model.specs.AbstractValue.{AbstractValue}
+use Rattle.guard_values.specs.SingleValues.{each_value, each_value_in_all, has_within, is_bounded}
 use Rattle.guard_values.specs.declared.scope.Known.{Known}
-use Rattle.guard_constraints.specs.Agreed.{AreAgreed}
-use Rattle.guard_schema.specs.Finishing.{add, with_constraint}
+use Rattle.guard_constraints.specs.Noted.{AreAgreed, add, with_constraint}
 
 -- what is proper on a type doesn't depend on its other constraints
 module _ (tags : List Tag) (kind : AbstractKind) (cs ds : Constraints) where
@@ -64,3 +66,16 @@ sound_with (type_of tags kind cs) c h k =
 pub agreed_with : (known : Known) (t : AbstractType) (c : Constraint) (places : BTreeSet ℕ) → AreAgreed known t places
     → AreAgreed known (with_constraint t c) places
 agreed_with known (type_of tags kind cs) c places agreed = agreed
+
+-- SIZE says nothing of its values
+pub bounded_with_size : (t : AbstractType) (site : Site) (inner : Constraint) (bound : Option ℕ) → IsTrue (is_bounded bound t)
+    → IsTrue (is_bounded bound (with_constraint t (type.at site (type.size inner))))
+bounded_with_size t site inner None h = h
+bounded_with_size (type_of tags kind cs) site inner (Some n) h = as_before cs ∙ h
+  where
+    test : AbstractValue → Bool
+    test = has_within n kind
+
+    as_before : (all : Constraints) → each_value_in_all test (add all (type.at site (type.size inner))) ≡ each_value_in_all test all
+    as_before type.no_constraints = refl
+    as_before (type.constraint c all) = ap (λ (b : Bool). each_value test c && b) (as_before all)

@@ -41,6 +41,7 @@ use Rattle.guard_syntax.specs.declared.tree.OfConsTree.{OfConsTree}
 use Rattle.guard_syntax.specs.declared.tree.TypeTree.{TypeTree}
 use Rattle.guard_tagging.specs.Types.{parts_of}
 use Rattle.guard_constraints.specs.Visible.{Visible}
+use Rattle.guard_schema.specs.declared.constraints.Bounded.{Bounded}
 use Rattle.guard_schema.specs.declared.fault.SchemaFault.{SchemaFault}
 use Rattle.guard_schema.specs.Outcomes.{RefusesBy, Answers}
 use Rattle.guard_schema.specs.Faults.{AbstractFault, Outcome, named}
@@ -51,9 +52,9 @@ use Rattle.guard_schema.specs.inside.InTurn.{ElementInTurn, PartsInTurn, OneInTu
 use Rattle.guard_schema.specs.inside.InTurn.{FromBaseInTurn, EntryInTurn, ListInTurn, ChoiceInTurn, FillsInTurn}
 use Rattle.guard_schema.specs.inside.InTurn.{OthersInTurn}
 use Rattle.guard_schema.specs.inside.Ready.{tags_on, listed, IsReady, IsReadyBase, IsPart, IsWrittenPart}
-use Rattle.guard_schema.specs.inside.Bounds.{HasRoom}
+use Rattle.guard_schema.specs.inside.Room.{HasRoom}
 use Rattle.guard_schema.specs.inside.Ready.{IsAsMeant, IsKnownShort}
-use Rattle.guard_schema.proofs.Bounds.Short.{short_again}
+use Rattle.guard_schema.proofs.Room.Short.{short_again}
 use Rattle.guard_schema.proofs.Filled.Lists.{listed_of}
 use Rattle.guard_schema.specs.declared.finishing.Filling as code
 use Rattle.guard_schema.specs.Views.{filling_view}
@@ -164,10 +165,10 @@ module _ (names : Visible) (tree : TypeTree) (bare : AbstractType) where
   refused_by u h (Some f) k = finished_by u h (Err f) k
 
   pub parts_finished : (u : AbstractType) → PartsInTurn names (written.base_view (out-TypeTree tree).base) bare (Ok u)
-      → (result : Result Ty SchemaFault) → Answers type_view named result
+      → (result : Result Bounded SchemaFault) → Answers (λ b. type_view b.ty) named result
       (ConstrainsWritten names (written.type_view tree) u)
-      → Answers type_view named result (FinishesInTurn names (written.type_view tree) bare)
-  parts_finished u h (Ok x) k = finished_by u h (Ok (type_view x)) k
+      → Answers (λ b. type_view b.ty) named result (FinishesInTurn names (written.type_view tree) bare)
+  parts_finished u h (Ok x) k = finished_by u h (Ok (type_view x.ty)) k
   parts_finished u h (Err e) k = refused_by u h (named e) k
 
 -- ---- its kind

@@ -20,7 +20,8 @@ use Rattle.guard_tagging.proofs.Definitions.Meanings.{same_surroundings}
 use Rattle.guard_constraints.specs.Visible.{Visible}
 use Rattle.guard_schema.specs.Faults.{Outcome}
 use Rattle.guard_schema.specs.Known.{Built, types_of, visible}
-use Rattle.guard_schema.specs.Finishing.{add, with_constraint, put_before, constraint_before, count_of_meant}
+use Rattle.guard_constraints.specs.Noted.{add, with_constraint}
+use Rattle.guard_schema.specs.Finishing.{put_before, constraint_before, count_of_meant}
 use Rattle.guard_schema.specs.Finishing.{count_written, count_put_in, count_within, Adds, ConstrainsByOne}
 use Rattle.guard_schema.specs.Finishing.{ConstrainsElements, ConstrainsBefore, FillsPresence, FinishesComponent}
 use Rattle.guard_schema.specs.Finishing.{Finishes, FinishesKind, Fills, FillsFrom, FillsFromBase, FillsOthers}

@@ -27,7 +27,8 @@ use Rattle.guard_schema.specs.Faults.{AbstractFault, Value, Cons, Outcome}
 use Rattle.guard_schema.specs.Readings.{HasShortValues, ReadsValue, ReadsMember, ReadsConstraint}
 use Rattle.guard_schema.specs.Outcomes.{Is, Then}
 use Rattle.guard_schema.specs.Finishing.{Adds, AddsOne, ConstrainsByOne, ConstrainsElements, ConstrainsBefore}
-use Rattle.guard_schema.specs.Finishing.{FillsPresence, FinishesComponent, with_constraint, put_before}
+use Rattle.guard_constraints.specs.Noted.{with_constraint}
+use Rattle.guard_schema.specs.Finishing.{FillsPresence, FinishesComponent, put_before}
 use Rattle.guard_schema.specs.Finishing.{count_put_in, Finishes, FinishesKind, Fills, FillsFrom}
 use Rattle.guard_schema.specs.Finishing.{FillsFromBase, FillsOthers}
 use Rattle.guard_schema.proofs.Turns.Outcomes.{is_decided, passes_decided, then_decided, found_decided}

@@ -35,7 +35,8 @@ use Rattle.guard_constraints.proofs.Denoted.SoundParts.{size_sound}
 use Rattle.guard_constraints.proofs.Denoted.WrittenValues.{denoted_fits, sound_proper}
 use Rattle.guard_schema.specs.Faults.{Outcome}
 use Rattle.guard_schema.specs.LongValues.{long_in_all}
-use Rattle.guard_schema.specs.Finishing.{with_constraint, put_before, AddsOne, Adds, ConstrainsByOne}
+use Rattle.guard_constraints.specs.Noted.{with_constraint}
+use Rattle.guard_schema.specs.Finishing.{put_before, AddsOne, Adds, ConstrainsByOne}
 use Rattle.guard_schema.specs.Finishing.{ConstrainsElements}
 use Rattle.guard_schema.specs.Finishing.{ConstrainsBefore, FillsPresence, FinishesComponent, Finishes, FinishesKind}
 use Rattle.guard_schema.specs.Finishing.{Fills, FillsFrom, FillsFromBase, FillsOthers}
@@ -164,10 +165,10 @@ module _ (names : Visible) (fit : AreFitting names.values)
 
   before_sound : (base : WrittenBase) (t u : AbstractType) → IsPart names base t → ConstrainsBefore names base t (Ok u)
       → IsTrue (is_sound u)
-  before_sound (of_type k c w) t u s h = elements_sound c t u s.0 s.1 h
+  before_sound (of_type k c w) t u s h = elements_sound c t u s.0.0 s.1 h
   before_sound (named_type site name) t u s (inl (x, short, e)) = kept t u (s.0 short) e
   before_sound (named_type site name) t u s (inr (f, short, e)) = absurd cc
-  before_sound base t u s e = kept t u s e
+  before_sound base t u s e = kept t u s.0 e
 
   -- ---- defaults
 
@@ -270,54 +271,61 @@ module _ (names : Visible) (fit : AreFitting names.values)
         → IsTrue (is_tagged ts kind && are_low ts) × IsMadeUpBase names base kind cons
         → IsTrue (is_shaped (type_of ts kind cons)) → FinishesKind names base kind (Ok k)
         → IsPart names base (type_of ts k cons)
-    kind_part (plain p) ts kind k cons m shaped e = fresh_sound ts kind k cons e m.0 m.1 shaped
-    kind_part (numbers ns) ts kind k cons m shaped e = fresh_sound ts kind k cons e m.0 m.1 shaped
-    kind_part (named_bits ns) ts kind k cons m shaped e = fresh_sound ts kind k cons e m.0 m.1 shaped
-    kind_part (enumerated items) ts kind k cons m shaped e = fresh_sound ts kind k cons e m.0 m.1 shaped
+    kind_part (plain p) ts kind k cons m shaped e = (fresh_sound ts kind k cons e m.0 m.1 shaped, m.1.0)
+    kind_part (numbers ns) ts kind k cons m shaped e = (fresh_sound ts kind k cons e m.0 m.1 shaped, m.1.0)
+    kind_part (named_bits ns) ts kind k cons m shaped e = (fresh_sound ts kind k cons e m.0 m.1 shaped, m.1.0)
+    kind_part (enumerated items) ts kind k cons m shaped e = (fresh_sound ts kind k cons e m.0 m.1 shaped, m.1.0)
     kind_part (structure c cs) ts kind k cons (tagged, (none, (made, at, few, inside))) shaped
         (bare, is, inl (parts, h, e)) =
         let same : made ≡ bare = one_structure c made bare (sym at ∙ is) in
-        let final : k ≡ structure_kind c parts = same_Ok k (structure_kind c parts) e in
-        without_constraints ts k cons none
-        (tagged_still ts k kind (ap is_choice final ∙ not_choice c parts ∙ sym (not_choice c bare) ∙ ap is_choice
-        (sym is))
-        tagged)
-        (subst (λ (x : AbstractKind). IsTrue (is_proper_kind x)) (sym final)
-        (structure_proper c parts (still_few parts bare (list_shape names cs bare parts h)
-        (subst (λ (x : Components). IsTrue (nat_le (component_count x) most_components)) same few))
-        (list_proper cs bare parts (subst (λ (x : Components). AreMadeUp names cs x) same inside)
-        (structure_shaped c ts bare cons
-        (subst (λ (x : AbstractKind). IsTrue (is_shaped (type_of ts x cons))) is shaped)) h)))
-        (still_shaped ts kind k cons (kind_shape names (structure c cs) kind k (bare, is, inl (parts, h, e))) shaped)
+        let final : k ≡ structure_kind c parts = same_Ok k (structure_kind c parts) e in (
+          without_constraints ts k cons none
+              (tagged_still ts k kind (ap is_choice final ∙ not_choice c parts ∙ sym (not_choice c bare) ∙ ap is_choice
+              (sym is))
+              tagged)
+              (subst (λ (x : AbstractKind). IsTrue (is_proper_kind x)) (sym final)
+              (structure_proper c parts (still_few parts bare (list_shape names cs bare parts h)
+              (subst (λ (x : Components). IsTrue (nat_le (component_count x) most_components)) same few))
+              (list_proper cs bare parts (subst (λ (x : Components). AreMadeUp names cs x) same inside)
+              (structure_shaped c ts bare cons
+              (subst (λ (x : AbstractKind). IsTrue (is_shaped (type_of ts x cons))) is shaped)) h)))
+              (still_shaped ts kind k cons (kind_shape names (structure c cs) kind k (bare, is, inl (parts, h, e))) shaped),
+          none,
+        )
     kind_part (structure c cs) ts kind k cons m shaped (bare, is, inr (f, h, e)) = absurd cc
     kind_part (choice others) ts kind k cons (tagged, (none, (made, at, few, inside))) shaped
         (bare, is, inl (parts, h, e)) =
         let same : made ≡ bare = one_choice made bare (sym at ∙ is) in
-        let final : k ≡ type.choice parts = same_Ok k (type.choice parts) e in
-        without_constraints ts k cons none
-        (tagged_still ts k kind (ap is_choice final ∙ ap is_choice (sym is)) tagged)
-        (subst (λ (x : AbstractKind). IsTrue (is_proper_kind x)) (sym final)
-        (and_from (nat_le (component_count parts) most_components) (are_proper parts)
-        (still_few parts bare (others_shape names others bare parts h)
-        (subst (λ (x : Components). IsTrue (nat_le (component_count x) most_components)) same few))
-        (others_proper others bare parts (subst (λ (x : Components). AreMadeUpOthers names others x) same inside)
-        (choice_shaped ts bare cons
-        (subst (λ (x : AbstractKind). IsTrue (is_shaped (type_of ts x cons))) is shaped)) h)))
-        (still_shaped ts kind k cons (kind_shape names (choice others) kind k (bare, is, inl (parts, h, e))) shaped)
+        let final : k ≡ type.choice parts = same_Ok k (type.choice parts) e in (
+          without_constraints ts k cons none
+              (tagged_still ts k kind (ap is_choice final ∙ ap is_choice (sym is)) tagged)
+              (subst (λ (x : AbstractKind). IsTrue (is_proper_kind x)) (sym final)
+              (and_from (nat_le (component_count parts) most_components) (are_proper parts)
+              (still_few parts bare (others_shape names others bare parts h)
+              (subst (λ (x : Components). IsTrue (nat_le (component_count x) most_components)) same few))
+              (others_proper others bare parts (subst (λ (x : Components). AreMadeUpOthers names others x) same inside)
+              (choice_shaped ts bare cons
+              (subst (λ (x : AbstractKind). IsTrue (is_shaped (type_of ts x cons))) is shaped)) h)))
+              (still_shaped ts kind k cons (kind_shape names (choice others) kind k (bare, is, inl (parts, h, e))) shaped),
+          none,
+        )
     kind_part (choice others) ts kind k cons m shaped (bare, is, inr (f, h, e)) = absurd cc
     kind_part (of_type c o w) ts kind k cons (tagged, (none, (made, at, inside))) shaped (bare, is, inl (u, h, e)) =
         let same : made ≡ bare = one_element c made bare (sym at ∙ is) in
         let final : k ≡ of_kind c u = same_Ok k (of_kind c u) e in (
-          without_constraints ts k cons none
-              (tagged_still ts k kind (ap is_choice final ∙ no_choice c u ∙ sym (no_choice c bare)
-              ∙ ap is_choice (sym is)) tagged)
-              (subst (λ (x : AbstractKind). IsTrue (is_proper_kind x)) (sym final)
-              (element_proper c u (sound_proper u (type_sound w bare u (
-                subst (λ (x : AbstractType). IsMadeUp names w x) same inside,
-                element_shaped c ts bare cons
-                    (subst (λ (x : AbstractKind). IsTrue (is_shaped (type_of ts x cons))) is shaped),
-              ) h))))
-              (still_shaped ts kind k cons (kind_shape names (of_type c o w) kind k (bare, is, inl (u, h, e))) shaped),
+          (
+            without_constraints ts k cons none
+                (tagged_still ts k kind (ap is_choice final ∙ no_choice c u ∙ sym (no_choice c bare)
+                ∙ ap is_choice (sym is)) tagged)
+                (subst (λ (x : AbstractKind). IsTrue (is_proper_kind x)) (sym final)
+                (element_proper c u (sound_proper u (type_sound w bare u (
+                  subst (λ (x : AbstractType). IsMadeUp names w x) same inside,
+                  element_shaped c ts bare cons
+                      (subst (λ (x : AbstractKind). IsTrue (is_shaped (type_of ts x cons))) is shaped),
+                ) h))))
+                (still_shaped ts kind k cons (kind_shape names (of_type c o w) kind k (bare, is, inl (u, h, e))) shaped),
+            none,
+          ),
           ap takes_size final ∙ of_takes_size c u,
         )
     kind_part (of_type c o w) ts kind k cons m shaped (bare, is, inr (f, h, e)) = absurd cc

@@ -19,7 +19,8 @@ use Rattle.guard_tagging.specs.Faults.{nodes, nodes_inside, nodes_of_components}
 use Rattle.guard_tagging.specs.Types.{structure_kind, of_kind, presence_of, join}
 use Rattle.guard_constraints.specs.Visible.{Visible}
 use Rattle.guard_schema.specs.Faults.{Outcome}
-use Rattle.guard_schema.specs.Finishing.{with_constraint, put_before, Adds, ConstrainsByOne, ConstrainsElements}
+use Rattle.guard_constraints.specs.Noted.{with_constraint}
+use Rattle.guard_schema.specs.Finishing.{put_before, Adds, ConstrainsByOne, ConstrainsElements}
 use Rattle.guard_schema.specs.Finishing.{ConstrainsBefore, FillsPresence, FinishesComponent, Finishes}
 use Rattle.guard_schema.specs.Finishing.{FinishesKind, Fills, FillsFrom, FillsFromBase, FillsOthers}
 

@@ -20,7 +20,7 @@ use Rattle.guard_syntax.specs.Trees.{WrittenComponentForm, named, components_of_
 use Rattle.guard_tagging.specs.Types.{structure_kind, of_kind, presence_of, parts_of, join}
 use Rattle.guard_constraints.specs.Visible.{Visible}
 use Rattle.guard_schema.specs.LongValues.{first_long}
-use Rattle.guard_schema.specs.inside.Bounds.{HasRoom}
+use Rattle.guard_schema.specs.inside.Room.{HasRoom}
 
 -- ---- a type by itself
 
@@ -160,6 +160,10 @@ module _ (names : Visible) where
 
 -- ---- with its parts finished, before its constraints
 
+-- it is sound, and has no constraints
+abbrev pub IsUnconstrained : AbstractType → Type 0
+IsUnconstrained t = IsTrue (is_sound t) × (constraints_on t ≡ type.no_constraints)
+
 module _ (names : Visible) where
   -- of a type that a name means, whose own constraints have no long value under its tags
   abbrev pub IsAsMeant : List ℕ → AbstractType → Type 0
@@ -170,15 +174,16 @@ module _ (names : Visible) where
   abbrev pub IsKnownShort : List ℕ → List Tag → Type 0
   IsKnownShort name tags = (u : AbstractType) → names.types name ≡ Some u → (tags ≡ tags_on u) ⊎ HasRoom tags u
 
-  -- The type is sound, but for long values in the constraints of a type that is referred to; an OF type can have SIZE.
+  -- The type is sound, but for long values in the constraints of a type that is referred to; others have none yet, and an
+  -- OF type can have SIZE.
   abbrev pub IsPart : WrittenBase → AbstractType → Type 0
-  IsPart (plain p) t = IsTrue (is_sound t)
-  IsPart (numbers ns) t = IsTrue (is_sound t)
-  IsPart (named_bits ns) t = IsTrue (is_sound t)
-  IsPart (enumerated items) t = IsTrue (is_sound t)
-  IsPart (structure k cs) t = IsTrue (is_sound t)
-  IsPart (choice others) t = IsTrue (is_sound t)
-  IsPart (of_type k c u) t = IsTrue (is_sound t) × IsTrue (takes_size (kind_of t))
+  IsPart (plain p) t = IsUnconstrained t
+  IsPart (numbers ns) t = IsUnconstrained t
+  IsPart (named_bits ns) t = IsUnconstrained t
+  IsPart (enumerated items) t = IsUnconstrained t
+  IsPart (structure k cs) t = IsUnconstrained t
+  IsPart (choice others) t = IsUnconstrained t
+  IsPart (of_type k c u) t = IsUnconstrained t × IsTrue (takes_size (kind_of t))
   IsPart (named_type site name) t = (first_long t ≡ None → IsTrue (is_sound t)) × IsAsMeant name t
 
   abbrev pub IsWrittenPart : WrittenType → AbstractType → Type 0

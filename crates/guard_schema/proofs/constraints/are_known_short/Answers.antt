@@ -1,6 +1,6 @@
 use Rattle.std.proofs.Common.{inr}
 use Rattle.guard_constraints.specs.Views.{visible_in}
-use Rattle.guard_schema.proofs.Bounds.Short.{kept_there}
+use Rattle.guard_schema.proofs.Room.Short.{kept_there}
 use Rattle.guard_schema.proofs.constraints.are_known_short.Goals as goal
 
 pub returns : goal.returns

@@ -1,7 +1,7 @@
 use Rattle.std.proofs.Common.{sym, subst, IsTrue}
 use Rattle.guard_model.specs.TypeView.{type_view, constraint_view}
 use Rattle.guard_der.specs.Sound.{is_sound}
-use Rattle.guard_constraints.specs.Agreed.{AreAgreed}
+use Rattle.guard_constraints.specs.Noted.{AreAgreed}
 use Rattle.guard_schema.proofs.Filled.OneConstraint.{sound_with, agreed_with}
 use Rattle.guard_schema.proofs.constraints.with_constraint.Goals as goal
 
@@ -14,6 +14,6 @@ returns-clause-sound c =
 pub returns-clause-agreed : goal.returns-clause-agreed
 returns-clause-agreed c =
     let known = c.args.scope.known.now in
-    let places = c.read_constraint.new.agreed in
+    let places = c.read_constraint.new.noted.agreed in
     subst (λ t. AreAgreed known t places) (sym c.in_ok-with.ensures)
     (agreed_with known (type_view c.args.ty) (constraint_view c.in_ok-cons.cons) places c.in_ok-cons.ensures.agreed)

@@ -1,4 +1,3 @@
-use Rattle.std.proofs.Common.{rules}
 use Rattle.std.proofs.lemmas.Result.{err_from_is_err_and}
 use Rattle.guard_model.specs.TypeView.{type_view}
 use Rattle.guard_constraints.specs.Views.{visible_in}
@@ -7,10 +6,20 @@ use Rattle.guard_schema.proofs.Filled.Loops.{next_constraint, constraint_stops, 
 use Rattle.guard_schema.proofs.constraints.with_constraints.Goals as goal
 
 pub loop-tree-init : goal.loop-tree-init
-loop-tree-init c = record { so_far = λ answer h. h; sound = c.requires.sound; agreed = search rules }
+loop-tree-init c = record {
+  so_far = λ answer h. h;
+  sound = c.requires.sound;
+  agreed = c.requires.agreed;
+  bounded = c.requires.bounded;
+}
 
 pub with_constraint-requires : goal.with_constraint-requires
-with_constraint-requires c = record { sound = c.loop-tree.invariant.sound; known = c.requires.known; agreed = c.loop-tree.invariant.agreed }
+with_constraint-requires c = record {
+  sound = c.loop-tree.invariant.sound;
+  known = c.requires.known;
+  agreed = c.loop-tree.invariant.agreed;
+  bounded = c.loop-tree.invariant.bounded;
+}
 
 pub returns-in_err-constrained-clause-added : goal.returns-in_err-constrained-clause-added
 returns-in_err-constrained-clause-added c =
@@ -27,6 +36,7 @@ loop-tree-preserved c = record {
       c.loop-tree.invariant.so_far _ c.in_ok-constrained.ensures.added;
   sound = c.in_ok-constrained.ensures.sound;
   agreed = c.in_ok-constrained.ensures.agreed;
+  bounded = c.in_ok-constrained.ensures.bounded;
 }
 
 pub returns-clause-added : goal.returns-clause-added

@@ -26,15 +26,15 @@ pub finished-requires : goal.finished-requires
 finished-requires c = record { known = known_built c.args.progress.now; ready = rw c.deref.ensures c.requires.ready }
 
 pub valued-requires : goal.valued-requires
-valued-requires c = record { sound = c.in_ok-ty.ensures.sound; known = known_built c.args.progress.now }
+valued-requires c = record { sound = c.in_ok-done.ensures.sound; known = known_built c.args.progress.now }
 
-pub returns-in_err-ty-clause-built : goal.returns-in_err-ty-clause-built
-returns-in_err-ty-clause-built c =
+pub returns-in_err-done-clause-built : goal.returns-in_err-done-clause-built
+returns-in_err-done-clause-built c =
     let p = err_from_is_err_and c.from_residual.result c.from_residual.ensures.1 in
     rw (p.1, p.2) (finishing_refused (known_view c.args.progress.now)
     (visible_at c.args.progress.now.names.now c.args.progress.now.known c.args.id)
-    (assignment_view c.args.assignment.now) (type_view c.args.tagged.ty) (named c.in_err-ty.field-0.0)
-    (rw c.deref.ensures at c.in_err-ty.ensures.finished))
+    (assignment_view c.args.assignment.now) (type_view c.args.tagged.ty) (named c.in_err-done.field-0.0)
+    (rw c.deref.ensures at c.in_err-done.ensures.finished))
 
 pub returns-in_err-found-clause-built : goal.returns-in_err-found-clause-built
 returns-in_err-found-clause-built c =
@@ -42,18 +42,18 @@ returns-in_err-found-clause-built c =
     rw (p.1, p.2) (value_refused (known_view c.args.progress.now)
     (visible_at c.args.progress.now.names.now c.args.progress.now.known c.args.id)
     (assignment_view c.args.assignment.now) (type_view c.args.tagged.ty)
-    (type_view c.in_ok-ty.ty) (rw c.deref.ensures at c.in_ok-ty.ensures.finished)
+    (type_view c.in_ok-done.done.ty) (rw c.deref.ensures at c.in_ok-done.ensures.finished)
     (named c.in_err-found.field-0.0) c.in_err-found.ensures.built)
 
 pub returns-clause-built : goal.returns-clause-built
 returns-clause-built c = inl (
-  type_view c.in_ok-ty.ty,
-  rw c.deref.ensures at c.in_ok-ty.ensures.finished,
+  type_view c.in_ok-done.done.ty,
+  rw c.deref.ensures at c.in_ok-done.ensures.finished,
   rw c.in_ok-shared.ensures.ok c.in_ok-found.ensures.built,
 )
 
 pub returns-clause-sound : goal.returns-clause-sound
-returns-clause-sound c = rw c.in_ok-shared.ensures.ok c.in_ok-ty.ensures.sound
+returns-clause-sound c = rw c.in_ok-shared.ensures.ok c.in_ok-done.ensures.sound
 
 value_fits : (t : AbstractType) (v : Option (Arc Value Global)) → IfSome v (λ w. IsTrue (fits t (shared_view w)))
     → IfSome (option_map shared_view v) (λ w. IsTrue (fits t w))
@@ -62,7 +62,7 @@ value_fits t (Some v) h = h
 
 pub returns-clause-fits : goal.returns-clause-fits
 returns-clause-fits c = rw c.in_ok-shared.ensures.ok
-    (value_fits (type_view c.in_ok-ty.ty) c.in_ok-found.found.0.value c.in_ok-found.ensures.fits)
+    (value_fits (type_view c.in_ok-done.done.ty) c.in_ok-found.found.0.value c.in_ok-found.ensures.fits)
 
 length_kept : (t : Arc Ty Global) (v : Option (Arc Value Global)) → length_of (shared_type_view t) v ≡ length_beside t v
 length_kept t None = refl
@@ -82,9 +82,9 @@ returns-clause-nodes c =
     let names = visible_at c.args.progress.now.names.now c.args.progress.now.known c.args.id in
     let tree = written.type_view c.args.assignment.now.ty.value in
     let bare = type_view c.args.tagged.ty in
-    let same = finished_nodes names tree bare (type_view c.in_ok-ty.ty)
-    (type_filled names tree bare c.requires.ready.0 _ (rw c.deref.ensures at c.in_ok-ty.ensures.finished)) in
+    let same = finished_nodes names tree bare (type_view c.in_ok-done.done.ty)
+    (type_filled names tree bare c.requires.ready.0 _ (rw c.deref.ensures at c.in_ok-done.ensures.finished)) in
     rw c.in_ok-shared.ensures.ok (c.requires.nodes ∙ ap (λ (n : ℕ). c.args.progress.now.nodes + n) (sym same), c.requires.few)
 
 pub returns-clause-bound : goal.returns-clause-bound
-returns-clause-bound c = rw c.in_ok-shared.ensures.ok c.bound_of-bound.ensures
+returns-clause-bound c = rw c.in_ok-shared.ensures.ok c.in_ok-done.done.bounded

@@ -331,7 +331,7 @@ pub finished_component-returns : goal.finished_component-returns
 finished_component-returns t c =
     component_finished (visible_in c.args.scope) (written.type_view c.args.tree.now)
     (written.presence_view c.args.presence.now) c.args.bare
-    (type_view c.in_ok-filled.filled) c.in_ok-filled.ensures.finished c.with_presence.result c.with_presence.ensures
+    (type_view c.in_ok-filled.filled.ty) c.in_ok-filled.ensures.finished c.with_presence.result c.with_presence.ensures
 
 -- ---- COMPONENTS OF
 

@@ -1,8 +1,8 @@
 -- Where tags leave room for each single value of a type's constraints, none of them is too long under these tags.
-use Rattle.std.proofs.Common.{◌≡◌, ℕ, Bool, true, false, not, ◌&&◌, inl, inr, List, Option, Some, None, refl, sym, ap, subst, ◌∙◌, IsTrue}
+use Rattle.std.proofs.Common.{◌≡◌, ℕ, Bool, true, false, not, ◌&&◌, ◌||◌, length, inl, inr, List, Option, Some, None, refl, sym, ap, subst, ◌∙◌, IsTrue}
 use Rattle.std.specs.Prelude.{is_some, ◌⊎◌, IfSome}
 use Rattle.std.specs.Option.{option_or}
-use Rattle.std.proofs.lemmas.Bool.{and_parts}
+use Rattle.std.proofs.lemmas.Bool.{and_parts, leb-true}
 use Rattle.guard_model.specs.declared.site.Site.{Site}
 use Rattle.guard_model.specs.declared.tag.Tag.{Tag}
 use Rattle.guard_model.specs.AbstractType as type
@@ -18,10 +18,17 @@ use Rattle.guard_der.proofs.Functions.Soundness.{told_where_short}
 use Rattle.guard_values.specs.SingleValues.{each_value, each_value_there, each_value_in_all, are_within, has_within}
 use Rattle.guard_values.specs.SingleValues.{is_bounded, keeps_within}
 use Rattle.guard_schema.specs.LongValues.{is_long, site_where, long_in, long_there, long_in_all, first_long}
-use Rattle.guard_schema.specs.inside.Bounds.{has_room, HasRoom}
+use Rattle.guard_schema.specs.inside.Room.{has_room, HasRoom}
 use Rattle.guard_schema.specs.inside.Ready.{tags_on, constraints_on}
-use Rattle.guard_schema.proofs.Bounds.Headers.{in_tags_at_most, there_too}
-use Rattle.guard_schema.proofs.Bounds.Parts.{at_most, held}
+use Rattle.guard_schema.proofs.Room.Headers.{AtMost, short_at_most, in_tags_at_most, there_too}
+
+held : (fit within : Bool) → IsTrue (not fit || within) → IsTrue fit → IsTrue within
+held true within h fits = h
+held false within h fits = absurd cc
+
+at_most : (n : ℕ) (os : Option (List ℕ)) → IsTrue (are_within n os) → AtMost (short_length os) (short n)
+at_most n None h = absurd cc
+at_most n (Some os) h = short_at_most (length os) n (leb-true (length os) n h)
 
 neither : {A : Type 0} (a b : Option A) → a ≡ None → b ≡ None → option_or a b ≡ None
 neither a b e f = rw (e, f) refl

@@ -75,7 +75,7 @@ impl IntSet {
     {
         match sets {
             [] => Ok(IntSet::none(alloc)),
-            [only] => only.union(alloc, &IntSet::none(alloc)),
+            [only] => only.intersection(alloc, only),
             _ => {
                 let (first, second) = sets.split_at(sets.len() / 2);
                 let united = IntSet::union_of(alloc, first)?;

@@ -1,11 +1,11 @@
 -- The test of permitted characters, one at a time, and how many characters a text has.
-use Rattle.std.proofs.Common.{◌≡◌, ℕ, ◌+◌, ◌/◌, ◌%◌, ◌<◌, ◌≤◌, Bool, true, false, cond, nat_lt, nat_le, ◌||◌, List, [], ◌∷◌, length, drop, get_or, refl, sym, ap, ◌∙◌, ◌&&◌, arith}
+use Rattle.std.proofs.Common.{◌≡◌, ℕ, suc, ◌+◌, ◌/◌, ◌%◌, ◌<◌, ◌≤◌, Bool, true, false, cond, nat_lt, nat_le, ◌||◌, List, [], ◌∷◌, length, drop, get_or, refl, sym, ap, ◌∙◌, ◌&&◌, arith}
 use Rattle.std.proofs.lemmas.Bool.Decides.{nat_tests}
 use Rattle.std.proofs.lemmas.List.{at_drop_more, drop_all}
 use Rattle.std.proofs.lemmas.List.Sums.{sum_by-append}
-use Rattle.std.proofs.lemmas.Str.{encodes-chars}
+use Rattle.std.proofs.lemmas.Str.{encodes-chars, chars-IsAscii}
 use Rattle.std.specs.List.{list_all, count_by}
-use Rattle.std.specs.Str.{chars, IsUtf8, encode_utf8_all}
+use Rattle.std.specs.Str.{chars, IsUtf8, IsAscii, encode_utf8_all}
 use Rattle.std.specs.Char.{encode_utf8}
 use Rattle.guard_eval.specs.Elements.{is_in_some}
 use Rattle.guard_eval.specs.inside.Characters.{begins_one}
@@ -15,6 +15,18 @@ character_next rs cs n c h = at_drop_more (list_all (is_in_some rs)) cs n c h.0 
 
 pub characters_end : (rs : List (ℕ × ℕ)) (cs : List ℕ) (n : ℕ) (w : Bool) → n ≡ length cs → list_all (is_in_some rs) (drop n cs) ≡ w → true ≡ w
 characters_end rs cs n w all e = rw (drop_all n cs (omega (arith, all))) at e
+
+-- ---- octets that are characters
+
+each_marked : (p : ℕ → Bool) (known : List Bool) → ((c : ℕ) → c < length known → get_or known c false ≡ p c) → 128 ≤ length known → (bs : List ℕ) → IsAscii bs → list_all (λ b. get_or known b false) bs ≡ list_all p bs
+each_marked p known is size [] ascii = refl
+each_marked p known is size (b ∷ bs) ascii =
+    ap (λ (x : Bool). x && list_all (λ b. get_or known b false) bs) (is b (omega (arith, size, ascii 0)))
+    ∙ ap (λ (x : Bool). p b && x) (each_marked p known is size bs (λ i. ascii (suc i)))
+
+-- where a table marks what passes a test, the octets of a text of ASCII are marked if its characters pass
+pub ascii_marked : (p : ℕ → Bool) (known : List Bool) (bs : List ℕ) → ((c : ℕ) → c < length known → get_or known c false ≡ p c) → 128 ≤ length known → IsAscii bs → list_all (λ b. get_or known b false) bs ≡ list_all p (chars bs)
+ascii_marked p known bs is size ascii = each_marked p known is size bs ascii ∙ ap (list_all p) (sym (chars-IsAscii bs ascii))
 
 -- ---- octets that begin a character
 

@@ -17,7 +17,7 @@ pub mod WholeSets
 pub mod Numbered
 pub mod RuleViews
 -- ---- what many strings are asked for
-pub mod StringAnswers
+pub mod ValueAnswers
 -- ---- many values together
 pub mod ManyValues
 pub mod Alternatives

@@ -1,5 +1,5 @@
 -- The integers that a constraint allows as one set.
-use Rattle.std.proofs.Common.{◌≡◌, ℕ, ◌+◌, ◌<◌, ◌≤◌, Result, Ok, Err, IfOk, ℤ, Bool, true, false, not, ◌&&◌, ◌||◌, List, [], ◌∷◌, ◌++◌, length, get_or, map, drop, refl, sym, ap, ◌∙◌}
+use Rattle.std.proofs.Common.{◌≡◌, ℕ, ◌+◌, ◌<◌, ◌≤◌, Result, Ok, Err, IfOk, ℤ, Bool, true, false, not, ◌&&◌, ◌||◌, List, [], ◌∷◌, ◌++◌, length, get_or, map, drop, refl, sym, ap, ◌∙◌, arith}
 use Rattle.std.proofs.lemmas.List.{at_drop_more, at_drop_all}
 use Rattle.std.proofs.lemmas.List.Folds.{list_any-append}
 use Rattle.guard_integers.specs.Integers as integers
@@ -53,6 +53,13 @@ pub all_done : (all : Constraints → Bool) → all no_constraints ≡ true → 
 all_done all none cs i a f total ends so_far =
     sym (ap (λ (b : Bool). f && b) (and_true (not a)))
     ∙ ap (λ (b : Bool). f && (not a && b)) (sym (at_drop_all (λ (ds : List Cons). all (rest_of ds)) cs i ends ∙ none)) ∙ so_far
+
+pub only_one : (all : Constraints → Bool) (one : Constraint → Bool) → ((c : Constraint) (cs : Constraints) → all (constraint c cs) ≡ (one c && all cs)) → all no_constraints ≡ true
+    → (cs : List Cons) (c : Cons) → 0 < length cs → length cs < 2 → c ≡ get_or cs 0 c → one (constraint_view c) ≡ all (rest_of cs)
+only_one all one next none [] c some few is = absurd (omega (arith, some))
+only_one all one next none (d ∷ []) c some few is =
+    ap (λ (e : Cons). one (constraint_view e)) is ∙ sym (and_true (one (constraint_view d))) ∙ ap (λ (b : Bool). one (constraint_view d) && b) (sym none) ∙ sym (next (constraint_view d) no_constraints)
+only_one all one next none (d ∷ e ∷ es) c some few is = absurd (omega (arith, few))
 
 -- ---- one of them
 

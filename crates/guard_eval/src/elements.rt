@@ -1,5 +1,5 @@
 //! Sets of values by a number, a size or characters.
-ghost use Rattle.std.specs.Prelude.{◌≡◌, length, pos, chars, count_by, option_map};
+ghost use Rattle.std.specs.Prelude.{◌≡◌, false, length, get_or, pos, chars, count_by, option_map};
 ghost use Rattle.std.specs.List.{list_all};
 ghost use Rattle.guard_model.specs.ValueView.{value_view};
 ghost use Rattle.guard_eval.specs.Elements.{is_above, is_under, is_between, size_of, is_in_some, is_spelled_in};
@@ -19,8 +19,8 @@ const VERY_LONG_TEXT: usize = 16_384;
 
 const MANY_RANGES: usize = 256;
 
-/// How many codes have a place in the table: those of ASCII.
-const LOW_CODES: usize = 128;
+/// How many codes have a place in the table: as many as an octet has values, so that each octet has a place.
+pub const LOW_CODES: usize = 256;
 
 /// Whether the value is an integer between the ends (X.680 51.4).
 pub fn is_between(low: &Limit, high: &Limit, value: &Value) -> bool
@@ -101,13 +101,29 @@ pub fn are_permitted(ranges: &[(u32, u32)], text: &str) -> bool
     if text.len() < LONG_TEXT {
         return are_all_permitted(&[], ranges, text);
     }
+    if text.is_ascii() {
+        return are_marked(&low_codes(ranges), text.as_bytes());
+    }
     if text.len() < VERY_LONG_TEXT || ranges.len() < MANY_RANGES {
         return are_all_permitted(low_codes(ranges).as_slice(), ranges, text);
     }
     are_permitted_by_windows(ranges, text)
 }
 
-/// Of each code below 128, whether it is in one of the ranges.
+/// Whether each octet has a mark in the table. To look at all of them, whatever the answer is by then, costs less than
+/// to ask after each whether it was the last.
+pub fn are_marked(known: &[bool; LOW_CODES], octets: &[u8]) -> bool
+    ensures marked { result ≡ list_all (λ octet. get_or known.now octet false) octets.now }
+    ensures whole { length known.now ≡ 256 }
+{
+    let mut all = true;
+    for octet in octets {
+        all &= known[*octet as usize];
+    }
+    all
+}
+
+/// Of each of the first codes, whether it is in one of the ranges.
 fn low_codes(ranges: &[(u32, u32)]) -> [bool; LOW_CODES]
     ensures { AreKnown ranges.now result }
 {

@@ -10,7 +10,8 @@
 //! | How are they found where a value has many parts of one type? | `together.rt` (`member_of`), `columns.rt`, `free_types.rt` | `specs/Member.antt`, `specs/inside/Together.antt` |
 //! | What do constraints that must all be passed say of many values? | `own_answers.rt`, `gathered.rt` | `specs/inside/OwnAnswers.antt`, `specs/inside/Gathered.antt` |
 //! | What do many WITH COMPONENTS say together of a value's parts? | `parts_together.rt` | `specs/inside/PartsTogether.antt` |
-//! | What do gathered constraints say of many strings? | `string_answers.rt` | `specs/inside/StringAnswers.antt` |
+//! | What is found out beforehand of them for values that aren't numbers? | `value_answers.rt` | `specs/inside/ValueAnswers.antt` |
+//! | Which codes do many FROM allow? | `held_codes.rt` | `specs/inside/HeldCodes.antt` |
 //! | Which of a union's many single values may have a value? | `singles.rt`, `value_keys.rt` | `specs/inside/Failures.antt` |
 //! | Which integers does a constraint allow, as a set, and which items? | `number_sets.rt` | `specs/NumberSets.antt` |
 //! | Which constraint is failed first, and where? | `violation.rt` (`first_violation`) | `specs/Violations.antt` |
@@ -23,6 +24,7 @@ mod elements;
 mod found;
 mod free_types;
 mod gathered;
+mod held_codes;
 pub mod laws;
 mod members;
 mod number_sets;
@@ -31,8 +33,8 @@ mod parts_together;
 mod presence;
 mod search;
 mod singles;
-mod string_answers;
 mod together;
+mod value_answers;
 mod value_keys;
 mod violation;
 mod windows;

@@ -1,6 +1,6 @@
 //! The integers that a constraint allows, of any form and at any depth, as one set (X.680 51.4 and 51.5); and the items
 //! of an ENUMERATED type that it allows, as the set of their numbers.
-ghost use Rattle.std.specs.Prelude.{◌≡◌, ◌&&◌, ◌||◌, ℤ, map, IfOk, OnOk};
+ghost use Rattle.std.specs.Prelude.{◌≡◌, ◌&&◌, ◌||◌, ℕ, ℤ, pos, not, map, IfOk, OnOk};
 ghost use Rattle.std.specs.List.{list_all};
 ghost use Rattle.guard_integers.specs.Integers as integers;
 ghost use Rattle.guard_integers.specs.Integers.{some_holds};
@@ -11,14 +11,16 @@ ghost use Rattle.guard_model.specs.TypeView.{type_view, kind_view, constraint_vi
 ghost use Rattle.guard_model.specs.Limits.{fits_128_bits};
 ghost use Rattle.guard_model.specs.Same.{same};
 ghost use Rattle.guard_model.specs.ValueView.{value_view};
-ghost use Rattle.guard_eval.specs.Elements.{is_above, is_under, is_between};
+ghost use Rattle.guard_eval.specs.Elements.{is_above, is_under, is_between, is_in_some};
 ghost use Rattle.guard_eval.specs.Member.{holds, is_member};
 ghost use Rattle.guard_eval.specs.NumberSets.{HasNumbers};
 ghost use Rattle.guard_eval.specs.inside.NumberSets.{begins, ends, value_of, is_of, allows, all_allow, some_allow, has};
 ghost use Rattle.guard_eval.specs.inside.NumberSets.{HoldsThose};
-ghost use Rattle.guard_eval.specs.inside.StringAnswers.{is_sized_in, is_sized_by_all};
+ghost use Rattle.guard_eval.specs.inside.ValueAnswers.{is_sized_in, is_sized_by_all};
+ghost use Rattle.guard_eval.specs.inside.ValueAnswers.{is_coded_in, is_in_each, is_spelled_in_each};
 ghost use Rattle.guard_eval.specs.inside.Together.{gathered_view, passes_all};
 
+use crate::held_codes::{HeldCodes, held_codes};
 use guard_integers::IntSet;
 use guard_model::{Cons, Kind, Limit, OutOfMemory, Rule, Ty, Value};
 use std::alloc::Global;
@@ -103,12 +105,15 @@ fn set_of(alloc: Global, of: Numbered, constraint: &Cons) -> Result<IntSet, OutO
     }
 }
 
-/// What all of these allow: what none of them leaves out. A set that is common to many isn't made anew for each.
+/// What all of these allow: of many, what none of them leaves out. A set that is common to many isn't made anew for each.
 #[cycle(number_sets)]
 fn set_of_all(alloc: Global, of: Numbered, constraints: &[Cons]) -> Result<IntSet, OutOfMemory>
     ensures { IfOk result
         (λ set. HoldsThose of set (all_allow of (constraints_of (map constraint_view constraints.now)))) }
 {
+    if let [only] = constraints {
+        return set_of(alloc, of, only);
+    }
     let mut left_out = Vec::new(alloc);
     for (count, constraint) in constraints.iter().enumerate() {
         let numbers = set_of(alloc, of, constraint)?;
@@ -233,4 +238,45 @@ pub fn sizes_of_all(alloc: Global, sizes: &[&Cons]) -> Result<Option<IntSet>, Ou
         return Ok(None);
     }
     Ok(Some(own_integers(alloc, sizes)?))
+}
+
+// ---- codes of characters
+
+/// The codes that all of these alphabets allow; None where there is none. OutOfMemory is the only error.
+pub fn codes_of_all(
+    alloc: Global,
+    alphabets: &[&[(u32, u32)]],
+) -> Result<Option<HeldCodes>, OutOfMemory>
+    ensures { IfOk result (λ codes. (v : AbstractValue) → is_coded_in codes v ≡ is_spelled_in_each alphabets.now v) }
+{
+    if alphabets.is_empty() {
+        return Ok(None);
+    }
+    let codes = codes_in(alloc, alphabets[0])?;
+    let left_out = codes_left_out(alloc, alphabets)?;
+    Ok(Some(held_codes(codes.minus(alloc, &left_out)?)))
+}
+
+/// The codes that one of these alphabets doesn't allow.
+fn codes_left_out(alloc: Global, alphabets: &[&[(u32, u32)]]) -> Result<IntSet, OutOfMemory>
+    ensures { IfOk result (λ set. (c : ℕ) → integers.holds set (pos c)
+        ≡ (fits_128_bits (pos c) && not (is_in_each alphabets.now c))) }
+{
+    let mut left_out = Vec::new(alloc);
+    for (count, ranges) in alphabets.iter().enumerate() {
+        let codes = codes_in(alloc, ranges)?;
+        keep(alloc, &mut left_out, codes.complement(alloc)?, count)?;
+    }
+    IntSet::union_of(alloc, &left_out)
+}
+
+/// The codes that one of the ranges has, both ends in.
+fn codes_in(alloc: Global, ranges: &[(u32, u32)]) -> Result<IntSet, OutOfMemory>
+    ensures { IfOk result (λ set. (c : ℕ) → integers.holds set (pos c) ≡ is_in_some ranges.now c) }
+{
+    let mut sets = Vec::new(alloc);
+    for (first, last) in ranges {
+        sets.push(IntSet::range(alloc, i128::from(*first), i128::from(*last))?)?;
+    }
+    IntSet::union_of(alloc, &sets)
 }

@@ -1,6 +1,6 @@
 //! Constraints that must all be passed, asked for many values: what they say of numbers is found out once as a set, and
-//! what they say of BOOLEAN and NULL once for each value that there is; of strings their sizes; what they say of elements
-//! is asked of all elements together.
+//! what they say of BOOLEAN and NULL once for each value that there is; of strings their sizes and codes; what they say of
+//! elements is asked of all elements together.
 ghost use Rattle.std.specs.Prelude.{◌≡◌, IfOk, length, map};
 ghost use Rattle.std.specs.List.{list_all};
 ghost use Rattle.guard_model.specs.AbstractType.{AbstractKind};
@@ -23,7 +23,7 @@ use crate::number_sets::{own_integers, own_items};
 use crate::parts_together::{PartDemands, PlaceDemand, add_parts, all_are_placed, no_demands};
 use crate::presence::{element_kind, has_parts};
 use crate::search::{failure_by, first_failure};
-use crate::string_answers::{StringAnswers, all_pass_strings, known_of_strings};
+use crate::value_answers::{ValueAnswers, known_of_values, passes_all_known};
 use guard_integers::IntSet;
 use guard_model::{Comp, Cons, Kind, OutOfMemory, Path, Rule, Ty, Value};
 use std::alloc::Global;
@@ -50,8 +50,9 @@ enum Known {
     Truths(bool, bool),
     /// Whether NULL passes them.
     Null(bool),
-    /// The sizes that all SIZE among them allow, and where the alternatives are that may have a value.
-    Found(StringAnswers),
+    /// The sizes that all SIZE among them allow, the codes that all FROM allow, and where the alternatives are that may
+    /// have a value.
+    Found(ValueAnswers),
 }
 
 // ---- the own constraints of a type
@@ -395,7 +396,7 @@ fn known_of(
             passes_all(cons, kind, &Value::Bool(false)),
         )),
         Kind::Null => Ok(Known::Null(passes_all(cons, kind, &Value::Null))),
-        _ => Ok(Known::Found(known_of_strings(alloc, cons, kind, values)?)),
+        _ => Ok(Known::Found(known_of_values(alloc, cons, kind, values)?)),
     }
 }
 
@@ -430,7 +431,7 @@ fn is_passing(known: &Known, cons: &[&Cons], kind: &Kind, value: &Value) -> bool
         (Known::Truths(of_true, _), Value::Bool(true)) => *of_true,
         (Known::Truths(_, of_false), Value::Bool(false)) => *of_false,
         (Known::Null(passing), Value::Null) => *passing,
-        (Known::Found(answers), _) => all_pass_strings(answers, cons, kind, value),
+        (Known::Found(answers), _) => passes_all_known(answers, cons, kind, value),
         _ => passes_all(cons, kind, value),
     }
 }

@@ -7,7 +7,7 @@ ghost use Rattle.guard_model.specs.TypeView.{kind_view, constraint_view, constra
 ghost use Rattle.guard_model.specs.ValueView.{value_view};
 ghost use Rattle.guard_eval.specs.Elements.{size_of};
 ghost use Rattle.guard_eval.specs.inside.Failures.{failure_by, some_allows};
-ghost use Rattle.guard_eval.specs.inside.StringAnswers.{is_sized_by};
+ghost use Rattle.guard_eval.specs.inside.ValueAnswers.{is_sized_by};
 
 use crate::elements::size_of;
 use crate::search::failure_by;
@@ -20,7 +20,7 @@ use std::collections::BTreeMap;
 const MANY: usize = 256;
 
 /// The places of a union's alternatives: those of single values by their keys, those of SIZE, and those of the others.
-/// Where a constraint is no union of many, there are none.
+/// Where a constraint is no union of many, or asked for one value, there are none.
 #[derive(Drop)]
 pub struct Alternatives {
     singles: BTreeMap<Vec<u8>, Vec<usize>>,
@@ -30,8 +30,8 @@ pub struct Alternatives {
     others: Vec<usize>,
 }
 
-/// The places of the constraint's alternatives, if it is a union of many. Of SIZE, those that have the sizes of these
-/// values are looked for, as alternatives on the kind.
+/// The places of the constraint's alternatives, if it is a union of many and more than one value is asked. Of SIZE,
+/// those that have the sizes of these values are looked for, as alternatives on the kind.
 pub fn alternatives_of(
     alloc: Global,
     cons: &Cons,
@@ -46,6 +46,7 @@ pub fn alternatives_of(
     };
     if let Rule::Any(list) = &cons.rule
         && list.len() >= MANY
+        && values.len() > 1
     {
         for (place, one) in list.iter().enumerate() {
             add(alloc, &mut alternatives, list, place, one)?;

@@ -7,7 +7,7 @@ use Rattle.guard_model.specs.AbstractValue.{AbstractValue}
 use Rattle.guard_model.specs.Limits.{fits_128_bits}
 use Rattle.guard_eval.specs.declared.own_answers.Known.{Known}
 use Rattle.guard_eval.specs.declared.own_answers.Known.TheVariants as known
-use Rattle.guard_eval.specs.inside.StringAnswers.{IsKnownOfStrings}
+use Rattle.guard_eval.specs.inside.ValueAnswers.{IsKnownOfValues}
 use Rattle.guard_eval.specs.inside.Together.{passes_all}
 
 -- the set holds the numbers of those that pass them, on a type of this kind
@@ -21,4 +21,4 @@ IsKnown (known.Items set) cs kind = HoldsPassing set (λ z. value.enumerated z) 
 IsKnown (known.Truths of_true of_false) cs kind =
     (of_true ≡ passes_all cs kind (value.boolean true)) × (of_false ≡ passes_all cs kind (value.boolean false))
 IsKnown (known.Null passing) cs kind = passing ≡ passes_all cs kind value.null
-IsKnown (known.Found answers) cs kind = IsKnownOfStrings answers cs kind
+IsKnown (known.Found answers) cs kind = IsKnownOfValues answers cs kind

@@ -11,7 +11,7 @@ use Rattle.guard_eval.specs.inside.NumberSets.{allows, all_allow, some_allow, ha
 use Rattle.guard_eval.proofs.AtPlace.{constraint_view_is}
 use Rattle.guard_eval.proofs.Numbered.{as_form, allows_one, allows_range, allows_inside, allows_some, allows_all, allows_other, allows_minus, all_next, all_none, some_next, some_none, of_own}
 use Rattle.guard_eval.proofs.RuleViews.{view_one, view_inside, view_range, view_any, view_both, view_minus, view_other}
-use Rattle.guard_eval.proofs.WholeSets.{if_ok, all_more, all_done, some_more, some_done, minus_has, other_has}
+use Rattle.guard_eval.proofs.WholeSets.{if_ok, only_one, all_more, all_done, some_more, some_done, minus_has, other_has}
 use Rattle.guard_eval.proofs.number_sets.+number_sets.Goals as goal
 
 pub set_of-returns-in-One : goal.set_of-returns-in-One
@@ -53,6 +53,12 @@ set_of-returns-in_ok-set_of-in-Other t c =
     as_form c.args.of _ _ _ _ (constraint_view_is c.args.constraint.now ∙ ap (at cons.site) (view_other cons.rule c.in-Other.other c.in-Other.is ∙ ap (λ o. type.all_except (constraint_view o)) (sym c.deref-in-Other.ensures)))
     (λ kind z whole. allows_other c.args.of cons.site _ kind z)
     (if_ok c.complement-in-Other.result _ _ (λ set h kind whole z. other_has _ (fits_128_bits z) _ _ (c.in_ok-set_of-in-Other.ensures kind whole z) (h z)) c.complement-in-Other.ensures)
+
+pub set_of_all-returns-in-len1 : goal.set_of_all-returns-in-len1
+set_of_all-returns-in-len1 t c =
+    if_ok c.set_of.result _ _
+    (λ set h kind whole z. h kind whole z ∙ ap (λ (b : Bool). fits_128_bits z && b) (only_one (λ cs. all_allow c.args.of cs kind z) (λ one. allows c.args.of one kind z) (λ one cs. all_next c.args.of kind z one cs) (all_none c.args.of kind z)
+    c.args.constraints.now c.only-item.result c.in-len1.len_at_least c.in-len1.len_below c.only-item.is)) c.set_of.ensures
 
 pub set_of_all-loop-count-preserved : goal.set_of_all-loop-count-preserved
 set_of_all-loop-count-preserved t c = λ kind whole z.

@@ -1,5 +1,5 @@
 use Rattle.std.proofs.Common.{arith}
-use Rattle.guard_eval.proofs.StringAnswers.{sized_in_set}
+use Rattle.guard_eval.proofs.ValueAnswers.{sized_in_set}
 use Rattle.guard_eval.proofs.number_sets.sizes_of_all.Goals as goal
 
 pub returns : goal.returns

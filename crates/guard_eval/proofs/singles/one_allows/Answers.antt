@@ -2,8 +2,8 @@ use Rattle.std.proofs.Common.{ap, sym, ◌∙◌}
 use Rattle.guard_model.specs.TypeView.{kind_view, constraint_view}
 use Rattle.guard_model.specs.ValueView.{value_view}
 use Rattle.guard_model.specs.declared.ty.Cons.{Cons}
-use Rattle.guard_eval.specs.inside.StringAnswers.{is_sized_by}
-use Rattle.guard_eval.proofs.StringAnswers.{passes_size}
+use Rattle.guard_eval.specs.inside.ValueAnswers.{is_sized_by}
+use Rattle.guard_eval.proofs.ValueAnswers.{passes_size}
 use Rattle.guard_eval.proofs.singles.one_allows.Goals as goal
 
 pub returns-in-Size : goal.returns-in-Size

@@ -2,8 +2,8 @@ use Rattle.std.proofs.Common.{◌≡◌, drop}
 use Rattle.guard_model.specs.TypeView.{kind_view}
 use Rattle.guard_model.specs.ValueView.{value_view}
 use Rattle.guard_eval.specs.inside.Together.{gathered_view}
-use Rattle.guard_eval.specs.inside.StringAnswers.{passes_all_at}
-use Rattle.guard_eval.proofs.string_answers.all_pass_at.Given as goal
+use Rattle.guard_eval.specs.inside.ValueAnswers.{passes_all_at}
+use Rattle.guard_eval.proofs.value_answers.all_pass_at.Given as goal
 
 abbrev pub invariant-loop-index : goal.invariant-loop-index
 invariant-loop-index l =

@@ -1,8 +1,8 @@
 use Rattle.std.proofs.Common.{sym, ◌∙◌}
 use Rattle.guard_model.specs.TypeView.{kind_view}
 use Rattle.guard_model.specs.ValueView.{value_view}
-use Rattle.guard_eval.proofs.StringAnswers.{found_at}
-use Rattle.guard_eval.proofs.string_answers.passes_at.Goals as goal
+use Rattle.guard_eval.proofs.ValueAnswers.{found_at}
+use Rattle.guard_eval.proofs.value_answers.passes_at.Goals as goal
 
 pub returns-in-Some : goal.returns-in-Some
 returns-in-Some c =

@@ -1,14 +1,12 @@
 -- What is built, by the types and values of the code, which are kept side by side.
-use Rattle.std.specs.Prelude.{ℕ, List, [], ◌∷◌, Option, Some, None, option_map}
+use Rattle.std.specs.Prelude.{List, [], ◌∷◌, Option, option_map}
 use Rattle.std.specs.Arc.{arc_value}
 use Rattle.std.specs.Global.{Global}
 use Rattle.std.specs.declared.sync.Arc.{Arc}
-use Rattle.guard_model.specs.AbstractType.{AbstractType}
 use Rattle.guard_model.specs.TypeView.{type_view}
 use Rattle.guard_model.specs.declared.ty.Ty.{Ty}
 use Rattle.guard_model.specs.declared.value.Value.{Value}
 use Rattle.guard_values.specs.declared.scope.Known.{Known}
-use Rattle.guard_values.specs.KeptLengths.{contents_length}
 use Rattle.guard_values.specs.Views.{shared_view, AreKnownFitting}
 use Rattle.guard_constraints.specs.Views.{AreKnownSound}
 use Rattle.guard_schema.specs.Known.{Built}
@@ -20,11 +18,6 @@ abbrev pub paired : List (Arc Ty Global) → List (Option (Arc Value Global)) �
 paired [] vs = []
 paired (t ∷ ts) [] = []
 paired (t ∷ ts) (v ∷ vs) = built_view (arc_value t) v ∷ paired ts vs
-
--- how many octets the contents of the encoding of a value are, where there is one
-abbrev pub length_of : AbstractType → Option (Arc Value Global) → Option ℕ
-length_of t None = None
-length_of t (Some v) = contents_length t (shared_view v)
 
 -- each type that is known is sound, and each value is one of its governor's
 abbrev pub AreBuilt : Known → Type 0

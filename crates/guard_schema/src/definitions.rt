@@ -1,6 +1,7 @@
 //! What definitions denote, each in turn.
 ghost use Rattle.std.specs.Prelude.{All, true, ◌≡◌, ◌↔◌, ◌+◌, ◌≤◌, length, map, nat_le, option_map};
 ghost use Rattle.std.specs.Prelude.{slice_get, Some, IsTrue, IfOk, IfSome};
+ghost use Rattle.std.specs.Arc.{arc_value};
 ghost use Rattle.guard_der.specs.Fits.{fits};
 ghost use Rattle.guard_der.specs.Sound.{is_sound};
 ghost use Rattle.guard_model.specs.TypeView.{shared_type_view, type_view};
@@ -23,7 +24,7 @@ ghost use Rattle.guard_schema.specs.Counting.{held_by, most_held};
 ghost use Rattle.guard_schema.specs.Faults.{named};
 ghost use Rattle.guard_schema.specs.Known.{none_known};
 ghost use Rattle.guard_schema.specs.Outcomes.{Answers};
-ghost use Rattle.guard_schema.specs.Pairs.{built_view, length_of, AreBuilt};
+ghost use Rattle.guard_schema.specs.Pairs.{built_view, AreBuilt};
 ghost use Rattle.guard_schema.specs.Views.{built_in, definition_view, known_view};
 
 use crate::counting::held_by;
@@ -42,15 +43,6 @@ use std::sync::Arc;
 
 /// Constraints, values and contained types over all definitions.
 const MOST_HELD: usize = 100_000;
-
-/// The value that is assigned, where one is.
-#[derive(Drop)]
-pub struct AssignedValue {
-    pub value: Option<Arc<Value>>,
-    /// How many octets the contents of its encoding are; None without a value, and where they are more than an encoding
-    /// may have.
-    pub length: Option<usize>,
-}
 
 /// What all definitions denote, in their order.
 pub fn all_built<'m, 'a>(
@@ -154,13 +146,13 @@ fn completed(
         id,
     };
     let done = finished(alloc, scope, &assignment.ty, bare)?;
-    let found = valued(alloc, progress, scope, assignment, &done.ty)?;
-    let (assigned, held) = found;
     let shared = Arc::new(alloc, done.ty)?;
+    let found = valued(alloc, progress, scope, assignment, &shared)?;
+    let (value, length, held) = found;
     Ok(Definition {
         ty: shared,
-        value: assigned.value,
-        length: assigned.length,
+        value,
+        length,
         bound: done.bound,
         is_automatic,
         nodes,
@@ -182,53 +174,49 @@ fn check_tags(alloc: Global, site: Site, ty: &Ty) -> Result<(), SchemaFault>
     }
 }
 
-/// The value of the next definition, which has this finished type and is written there, and how much is held with it.
+/// The value of the next definition, which has this finished type and is written there, how many octets the contents of
+/// its encoding are, and how much is held with it.
 fn valued(
     alloc: Global,
     progress: &Progress,
     scope: Scope,
     assignment: &Assignment,
-    ty: &Ty,
-) -> Result<(AssignedValue, usize), SchemaFault>
-    requires sound { IsTrue (is_sound (type_view ty.now)) }
+    ty: &Arc<Ty>,
+) -> Result<(Option<Arc<Value>>, Option<usize>, usize), SchemaFault>
+    requires sound { IsTrue (is_sound (shared_type_view ty.now)) }
     requires known { AreBuilt scope.known.now }
-    ensures built { Answers (λ r. built_view ty.now r.0.value) named result (HasValue (known_view progress.now)
-        (visible_in scope.entry) (assignment_view assignment.now) (type_view ty.now)) }
-    ensures fits { IfOk result (λ r. IfSome r.0.value (λ v. IsTrue (fits (type_view ty.now) (shared_view v)))) }
-    ensures length { IfOk result (λ r. r.0.length ≡ length_of (type_view ty.now) r.0.value) }
+    ensures built { Answers (λ r. built_view (arc_value ty.now) r.0) named result (HasValue (known_view progress.now)
+        (visible_in scope.entry) (assignment_view assignment.now) (shared_type_view ty.now)) }
+    ensures fits { IfOk result (λ r. IfSome r.0 (λ v. IsTrue (fits (shared_type_view ty.now) (shared_view v)))) }
+    ensures length { IfOk result (λ r. r.1 ≡ length_beside ty.now r.0) }
     ensures held { IfOk result
-        (λ r. (r.1 ≡ progress.now.held + held_by (built_view ty.now r.0.value)) × (r.1 ≤ most_held)) }
+        (λ r. (r.2 ≡ progress.now.held + held_by (built_view (arc_value ty.now) r.0)) × (r.2 ≤ most_held)) }
 {
     let found = assigned(alloc, scope, ty, &assignment.value)?;
-    let held = within_limit(progress.held, assignment.site, ty, &found.value)?;
-    Ok((found, held))
+    let held = within_limit(progress.held, assignment.site, ty, &found.0)?;
+    Ok((found.0, found.1, held))
 }
 
-/// The value of a value assignment.
+/// The value of a value assignment, and how many octets the contents of its encoding are; None without a value, and
+/// where they are more than an encoding may have.
 fn assigned(
     alloc: Global,
     scope: Scope,
-    ty: &Ty,
+    ty: &Arc<Ty>,
     value: &Option<Box<ValueTree>>,
-) -> Result<AssignedValue, SchemaFault>
-    requires sound { IsTrue (is_sound (type_view ty.now)) }
+) -> Result<(Option<Arc<Value>>, Option<usize>), SchemaFault>
+    requires sound { IsTrue (is_sound (shared_type_view ty.now)) }
     requires known { AreBuilt scope.known.now }
-    ensures read { Answers (λ a. option_map shared_view a.value) named result
-        (Assigns (visible_in scope.entry) (type_view ty.now) (perhaps_value_view value.now)) }
-    ensures fits { IfOk result (λ a. IfSome a.value (λ v. IsTrue (fits (type_view ty.now) (shared_view v)))) }
-    ensures length { IfOk result (λ a. a.length ≡ length_of (type_view ty.now) a.value) }
+    ensures read { Answers (λ a. option_map shared_view a.0) named result
+        (Assigns (visible_in scope.entry) (shared_type_view ty.now) (perhaps_value_view value.now)) }
+    ensures fits { IfOk result (λ a. IfSome a.0 (λ v. IsTrue (fits (shared_type_view ty.now) (shared_view v)))) }
+    ensures length { IfOk result (λ a. a.1 ≡ length_beside ty.now a.0) }
 {
     match value {
-        None => Ok(AssignedValue {
-            value: None,
-            length: None,
-        }),
+        None => Ok((None, None)),
         Some(tree) => {
             let found = read_member(alloc, scope, ty, tree)?;
-            Ok(AssignedValue {
-                value: Some(found.value),
-                length: found.length,
-            })
+            Ok((Some(found.value), found.length))
         }
     }
 }

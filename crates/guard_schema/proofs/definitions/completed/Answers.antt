@@ -1,4 +1,4 @@
-use Rattle.std.proofs.Common.{◌≡◌, ℕ, ◌+◌, refl, IsTrue, Option, Some, None, option_map, inl, sym, ap, ◌∙◌}
+use Rattle.std.proofs.Common.{ℕ, ◌+◌, IsTrue, Option, Some, None, option_map, inl, sym, ap, ◌∙◌}
 use Rattle.std.specs.Prelude.{IfSome}
 use Rattle.std.specs.Global.{Global}
 use Rattle.std.specs.declared.sync.Arc.{Arc}
@@ -6,15 +6,12 @@ use Rattle.std.proofs.lemmas.Result.{err_from_is_err_and}
 use Rattle.guard_der.specs.Fits.{fits}
 use Rattle.guard_model.specs.AbstractType.{AbstractType}
 use Rattle.guard_model.specs.TypeView.{type_view, shared_type_view}
-use Rattle.guard_model.specs.declared.ty.Ty.{Ty}
 use Rattle.guard_model.specs.declared.value.Value.{Value}
 use Rattle.guard_syntax.specs.ModuleViews.{assignment_view}
 use Rattle.guard_syntax.specs.TypeViews as written
-use Rattle.guard_values.specs.KeptLengths.{length_beside}
 use Rattle.guard_values.specs.Views.{shared_view}
 use Rattle.guard_constraints.specs.Views.{visible_at}
 use Rattle.guard_schema.specs.Faults.{named}
-use Rattle.guard_schema.specs.Pairs.{length_of}
 use Rattle.guard_schema.specs.Views.{known_view}
 use Rattle.guard_schema.proofs.Filled.ByTrees.{type_filled}
 use Rattle.guard_schema.proofs.Built.Visible.{known_built}
@@ -26,7 +23,7 @@ pub finished-requires : goal.finished-requires
 finished-requires c = record { known = known_built c.args.progress.now; ready = rw c.deref.ensures c.requires.ready }
 
 pub valued-requires : goal.valued-requires
-valued-requires c = record { sound = c.in_ok-done.ensures.sound; known = known_built c.args.progress.now }
+valued-requires c = record { sound = rw c.in_ok-shared.ensures.ok c.in_ok-done.ensures.sound; known = known_built c.args.progress.now }
 
 pub returns-in_err-done-clause-built : goal.returns-in_err-done-clause-built
 returns-in_err-done-clause-built c =
@@ -43,13 +40,13 @@ returns-in_err-found-clause-built c =
     (visible_at c.args.progress.now.names.now c.args.progress.now.known c.args.id)
     (assignment_view c.args.assignment.now) (type_view c.args.tagged.ty)
     (type_view c.in_ok-done.done.ty) (rw c.deref.ensures at c.in_ok-done.ensures.finished)
-    (named c.in_err-found.field-0.0) c.in_err-found.ensures.built)
+    (named c.in_err-found.field-0.0) (rw c.in_ok-shared.ensures.ok at c.in_err-found.ensures.built))
 
 pub returns-clause-built : goal.returns-clause-built
 returns-clause-built c = inl (
-  type_view c.in_ok-done.done.ty,
-  rw c.deref.ensures at c.in_ok-done.ensures.finished,
-  rw c.in_ok-shared.ensures.ok c.in_ok-found.ensures.built,
+  shared_type_view c.in_ok-shared.shared,
+  rw c.in_ok-shared.ensures.ok (rw c.deref.ensures at c.in_ok-done.ensures.finished),
+  c.in_ok-found.ensures.built,
 )
 
 pub returns-clause-sound : goal.returns-clause-sound
@@ -62,20 +59,8 @@ value_fits t (Some v) h = h
 
 pub returns-clause-fits : goal.returns-clause-fits
 returns-clause-fits c = rw c.in_ok-shared.ensures.ok
-    (value_fits (type_view c.in_ok-done.done.ty) c.in_ok-found.found.0.value c.in_ok-found.ensures.fits)
-
-length_kept : (t : Arc Ty Global) (v : Option (Arc Value Global)) → length_of (shared_type_view t) v ≡ length_beside t v
-length_kept t None = refl
-length_kept t (Some v) = refl
-
-pub returns-clause-length : goal.returns-clause-length
-returns-clause-length c =
-    let v = c.in_ok-found.found.0.value in
-    c.in_ok-found.ensures.length ∙ sym (ap (λ (t : Ty). length_of (type_view t) v) c.in_ok-shared.ensures.ok)
-    ∙ length_kept c.in_ok-shared.shared v
-
-pub returns-clause-held : goal.returns-clause-held
-returns-clause-held c = rw c.in_ok-shared.ensures.ok c.in_ok-found.ensures.held
+    (value_fits (type_view c.in_ok-done.done.ty) c.in_ok-found.found.0
+    (rw c.in_ok-shared.ensures.ok at c.in_ok-found.ensures.fits))
 
 pub returns-clause-nodes : goal.returns-clause-nodes
 returns-clause-nodes c =

@@ -70,6 +70,6 @@ pub use guard_der::named_types::Types;
 pub use last_route::LastRoute;
 pub use passing::Passing;
 pub use policy::{Effect, Policy, SaidRule};
-pub use route::{Route, is_anyone, is_name};
+pub use route::{Route, is_anyone, is_name, is_party};
 pub use said::SaidMessage;
 pub use verdict::{PlainReason, Verdict};

@@ -49,7 +49,7 @@ pub fn is_name(octets: &[u8]) -> bool
 }
 
 /// Whether the text may be the sender or the receiver of a rule: a name, or `*`.
-pub(crate) fn is_party(text: &str) -> bool
+pub fn is_party(text: &str) -> bool
     ensures { result ≡ is_party text.now }
 {
     is_name(text.as_bytes()) || is_anyone(text)

@@ -6,12 +6,12 @@ use Rattle.guard_model.specs.AbstractType.{AbstractType}
 use Rattle.guard_model.specs.AbstractValue as value
 use Rattle.guard_model.specs.AbstractValue.{AbstractValue, Fields, Items}
 use Rattle.guard_report.specs.declared.layout.Layout.TheVariants.{Lines}
-use Rattle.guard_report.specs.Layouts.{parts_from}
+use Rattle.guard_report.specs.Layouts.{deeper, parts_from}
 use Rattle.guard_report.specs.Places.{inside_value, after_element, component_place, next_place, is_set}
-use Rattle.guard_report.specs.Shown.{ShownPart, deeper, is_on_one_line, last_end, before_line, lines_from}
+use Rattle.guard_report.specs.Shown.{ShownPart, is_on_one_line, last_end, before_line, lines_from}
 use Rattle.guard_report.specs.Shown.{value_lines, field_lines, element_lines}
-use Rattle.guard_report.specs.Text.{component_of, element_type, type_within}
-use Rattle.guard_report.specs.ValueText.{part_name, value_octets, field_texts, element_texts}
+use Rattle.guard_report.specs.Text.{component_of, part_name, element_type, type_within}
+use Rattle.guard_report.specs.ValueText.{value_octets, field_texts, element_texts}
 
 abbrev pub no_note : Option ℕ → List ℕ
 no_note at = []

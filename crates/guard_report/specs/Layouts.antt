@@ -3,10 +3,14 @@ use Rattle.std.specs.Prelude.{ℕ, zero, suc, ◌+◌, ◌^◌, ◌-◌, Bool, t
 use Rattle.guard_report.specs.declared.layout.Layout.{Layout}
 use Rattle.guard_report.specs.declared.layout.Layout.TheVariants.{Line, Lines}
 
--- that of the parts: one level further in, as far as levels are counted
+-- one level further in, as far as levels are counted
+abbrev pub deeper : ℕ → ℕ
+deeper level = min (level + 1) (2 ^ 8 - 1)
+
+-- that of the parts
 abbrev pub inside : Layout → Layout
 inside Line = Line
-inside (Lines level) = Lines (min (level + 1) (2 ^ 8 - 1))
+inside (Lines level) = Lines (deeper level)
 
 -- two for each level
 abbrev pub spaces : ℕ → List ℕ

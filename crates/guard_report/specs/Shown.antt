@@ -1,6 +1,6 @@
 -- A message as its value is written, with a part on each line: the line on which a part begins ends with the place of
 -- the part's encoding. And octets that encode no value, as far as they were read.
-use Rattle.std.specs.Prelude.{ℕ, zero, suc, ◌+◌, ◌-◌, ◌^◌, ◌%◌, Bool, true, false, List, [], ◌∷◌, ◌++◌, codes, decimal, min}
+use Rattle.std.specs.Prelude.{ℕ, zero, suc, ◌+◌, ◌-◌, ◌%◌, Bool, true, false, List, [], ◌∷◌, ◌++◌, codes, decimal}
 use Rattle.std.specs.Prelude.{nat_eq, take, Option, Some, None, if◌then◌else◌}
 use Rattle.guard_model.specs.declared.site.Step.TheVariants.{Component}
 use Rattle.guard_model.specs.AbstractType.{AbstractType}
@@ -12,10 +12,11 @@ use Rattle.guard_report.specs.declared.layout.Layout.TheVariants.{Lines}
 use Rattle.guard_report.specs.declared.showing.Shown.{Shown}
 use Rattle.guard_report.specs.declared.showing.Shown.TheVariants.{Value, Undecodable}
 use Rattle.guard_report.specs.Layouts.{new_line}
+pub use Rattle.guard_report.specs.Layouts.{deeper}
 use Rattle.guard_report.specs.Places.{inside_value, after_element, component_place, next_place, is_set}
 use Rattle.guard_report.specs.Strings.{two_digits}
-use Rattle.guard_report.specs.Text.{component_of, element_type, type_within, steps_text}
-use Rattle.guard_report.specs.ValueText.{value_octets, part_name}
+use Rattle.guard_report.specs.Text.{component_of, part_name, element_type, type_within, steps_text}
+use Rattle.guard_report.specs.ValueText.{value_octets}
 
 -- ---- lines
 
@@ -55,9 +56,6 @@ last_end note v at = if is_on_one_line v then note at else []
 pub record ShownPart : Type 0 where
   pub text : List ℕ
   pub last : List ℕ
-
-abbrev pub deeper : ℕ → ℕ
-deeper level = min (level + 1) (2 ^ 8 - 1)
 
 -- the comma after the part before, what ends that line, and the place where the next part begins
 abbrev pub before_line : ℕ → Bool → List ℕ → List ℕ

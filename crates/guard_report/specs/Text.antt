@@ -28,6 +28,10 @@ abbrev pub component_of : Option AbstractType → ℕ → Option OneComponent
 component_of None i = None
 component_of (Some (type_of tags kind cons)) i = component_at i (components_in kind)
 
+-- the name of the component or alternative at this place, or the place where no name is known
+abbrev pub part_name : Option AbstractType → ℕ → List ℕ
+part_name t i = name_or_number (option_map (λ c. c.name) (component_of t i)) i
+
 -- the type of the elements of an OF type
 abbrev pub element_type : Option AbstractType → Option AbstractType
 element_type None = None
@@ -39,7 +43,7 @@ type_within t (Component i) = option_map (λ c. c.ty) (component_of t i)
 type_within t (Element i) = element_type t
 
 abbrev pub step_text : Option AbstractType → Step → List ℕ
-step_text t (Component i) = codes "." ++ name_or_number (option_map (λ c. c.name) (component_of t i)) i
+step_text t (Component i) = codes "." ++ part_name t i
 step_text t (Element i) = codes "[" ++ decimal i ++ codes "]"
 
 -- from a value of the type, if one is known, further in

@@ -1,6 +1,6 @@
 -- The text of a value in ASN.1 value notation (X.680), by its kind. The type says how items, bits, components and
 -- alternatives are called; what the type doesn't know is written by its number.
-use Rattle.std.specs.Prelude.{ℕ, suc, ℤ, Bool, true, false, List, [], ◌∷◌, ◌++◌, codes, decimal, option_map, Option}
+use Rattle.std.specs.Prelude.{ℕ, suc, ℤ, Bool, true, false, List, [], ◌∷◌, ◌++◌, codes, decimal, Option}
 use Rattle.std.specs.Prelude.{Some, None}
 use Rattle.std.specs.Fmt.{signed_decimal}
 use Rattle.guard_model.specs.declared.ty.CharKind.{CharKind}
@@ -13,7 +13,8 @@ use Rattle.guard_report.specs.declared.layout.Layout.{Layout}
 use Rattle.guard_report.specs.Layouts.{inside, in_braces}
 use Rattle.guard_report.specs.Strings.{hexadecimal, name_of, bits_text}
 use Rattle.guard_report.specs.CharacterStrings.{characters_text}
-use Rattle.guard_report.specs.Text.{name_or_number, component_of, element_type, type_within}
+use Rattle.guard_report.specs.Text.{element_type, type_within}
+pub use Rattle.guard_report.specs.Text.{part_name}
 
 -- ---- what the type knows
 
@@ -40,10 +41,6 @@ characters_in _ = None
 abbrev pub characters_known : Option AbstractType → Option CharKind
 characters_known None = None
 characters_known (Some (type_of tags kind cons)) = characters_in kind
-
--- of the component or alternative at this place of the written list, from 0
-abbrev pub part_name : Option AbstractType → ℕ → List ℕ
-part_name t i = name_or_number (option_map (λ c. c.name) (component_of t i)) i
 
 -- ---- simple values
 

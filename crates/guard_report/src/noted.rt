@@ -4,18 +4,17 @@ ghost use Rattle.std.specs.Prelude.{◌≡◌, ◌++◌, true, OnOk, codes, opti
 ghost use Rattle.guard_model.specs.declared.site.Step.TheVariants.{Component};
 ghost use Rattle.guard_model.specs.TypeView.{type_view};
 ghost use Rattle.guard_model.specs.ValueView.{value_view, fields_view, items_view};
-ghost use Rattle.guard_report.specs.Text.{type_within, element_type};
-ghost use Rattle.guard_report.specs.ValueText.{part_name};
+ghost use Rattle.guard_report.specs.Layouts.{deeper};
+ghost use Rattle.guard_report.specs.Text.{part_name, type_within, element_type};
 ghost use Rattle.guard_report.specs.Places.{inside_value};
-ghost use Rattle.guard_report.specs.Shown.{note, is_on_one_line, none_there, is_no_item, last_end, deeper, before_line};
-ghost use Rattle.guard_report.specs.Shown.{closing_line};
+ghost use Rattle.guard_report.specs.Shown.{note, is_on_one_line, none_there, is_no_item, last_end, before_line, closing_line};
 ghost use Rattle.guard_report.specs.Shown.{lines_from, value_lines, field_lines, element_lines};
 ghost use Rattle.guard_report.specs.inside.LineEnds.{end_text};
 
 use super::layout::{Layout, add_new_line};
-use super::path::{element_type, part_type};
+use super::path::{add_part_name, element_type, part_type};
 use super::places::{after_element, component_place, inside_value, next_place};
-use super::values::{add_part_name, add_value};
+use super::values::add_value;
 use super::words::{add, add_number};
 use guard_model::{OutOfMemory, Ty, Value};
 use std::alloc::Global;

@@ -2,7 +2,7 @@
 ghost use Rattle.std.specs.Prelude.{◌≡◌, ◌++◌, OnOk, codes, option_map};
 ghost use Rattle.guard_model.specs.declared.site.Step.TheVariants.{Component};
 ghost use Rattle.guard_model.specs.TypeView.{type_view, component_view};
-ghost use Rattle.guard_report.specs.Text.{component_of, element_type, type_within, step_text, steps_text};
+ghost use Rattle.guard_report.specs.Text.{component_of, part_name, element_type, type_within, step_text, steps_text};
 
 use super::words::{add, add_name, add_number};
 use guard_model::{Comp, OutOfMemory, Step, Ty};
@@ -28,8 +28,7 @@ fn add_step(text: &mut Vec<u8>, ty: Option<&Ty>, step: Step) -> Result<(), OutOf
     match step {
         Step::Component(place) => {
             add(text, b".")?;
-            let name = component_at(ty, usize::from(place)).map(|comp| comp.name.as_str());
-            add_name(text, name, u64::from(place))
+            add_part_name(text, ty, usize::from(place))
         }
         Step::Element(place) => {
             add(text, b"[")?;
@@ -37,6 +36,19 @@ fn add_step(text: &mut Vec<u8>, ty: Option<&Ty>, step: Step) -> Result<(), OutOf
             add(text, b"]")
         }
     }
+}
+
+/// Appends the name of the component or alternative at this place of the type, or its number where there is none.
+pub(crate) fn add_part_name(
+    text: &mut Vec<u8>,
+    ty: Option<&Ty>,
+    place: usize,
+) -> Result<(), OutOfMemory>
+    ensures { OnOk result (text.new.items
+        ≡ text.old.items ++ part_name (option_map (λ ty. type_view ty.now) ty.entry) place) }
+{
+    let name = component_at(ty, place).map(|comp| comp.name.as_str());
+    add_name(text, name, place as u64)
 }
 
 /// The type one step further in; None where no type is known, or it has no such part.

@@ -6,16 +6,15 @@ ghost use Rattle.guard_model.specs.TypeView.{type_view, named_view};
 ghost use Rattle.guard_model.specs.ValueView.{value_view, fields_view, items_view};
 ghost use Rattle.guard_report.specs.Layouts.{inside, in_braces};
 ghost use Rattle.guard_report.specs.Strings.{name_of};
-ghost use Rattle.guard_report.specs.Text.{type_within};
+ghost use Rattle.guard_report.specs.Text.{part_name, type_within};
 ghost use Rattle.guard_report.specs.ValueText.{value_octets, field_texts, element_texts, boolean_text, item_text};
-ghost use Rattle.guard_report.specs.ValueText.{arcs_text};
-ghost use Rattle.guard_report.specs.ValueText.{part_name, items_known, bits_known, characters_known};
+ghost use Rattle.guard_report.specs.ValueText.{arcs_text, items_known, bits_known, characters_known};
 
 use super::characters::add_characters;
 use super::layout::{Layout, add_before_part, add_closing};
-use super::path::{component_at, element_type, part_type};
+use super::path::{add_part_name, element_type, part_type};
 use super::strings::{add_bits, add_hexadecimal, name_of};
-use super::words::{add, add_name, add_number};
+use super::words::add;
 use guard_model::{CharKind, Kind, Named, OutOfMemory, Ty, Value};
 use itoa::Buffer;
 use std::alloc::Global;
@@ -114,19 +113,6 @@ fn add_part(
     add_part_name(text, ty, place)?;
     add(text, mark)?;
     add_value(alloc, text, layout, part_type(ty, place), value)
-}
-
-/// Appends the name of the component or alternative at this place of the type, or its number where there is none.
-pub(crate) fn add_part_name(
-    text: &mut Vec<u8>,
-    ty: Option<&Ty>,
-    place: usize,
-) -> Result<(), OutOfMemory>
-    ensures { OnOk result (text.new.items
-        ≡ text.old.items ++ part_name (option_map (λ ty. type_view ty.now) ty.entry) place) }
-{
-    let name = component_at(ty, place).map(|comp| comp.name.as_str());
-    add_name(text, name, place as u64)
 }
 
 // ---- simple values

@@ -3,7 +3,6 @@
 ghost use Rattle.std.specs.Prelude.{◌≡◌, ◌≤◌, length, option_map, option_and_then, string_bytes, IfOk};
 ghost use Rattle.toml.specs.Data.{as_array};
 ghost use Rattle.toml.specs.View.{view, items_view, table_view};
-ghost use Rattle.guard_policy.specs.Names.{is_party};
 ghost use Rattle.guard_notes.specs.PolicyNotes.{IsSaidOfPolicy, IsTomlNote, item_at, listed, entry_of, value_at};
 ghost use Rattle.guard_notes.specs.PolicyNotes.{word_at, text_at, key_line, key_lines, name_line, heading};
 ghost use Rattle.guard_notes.specs.PolicyNotes.{entry_lines, lines_at, bad_key, bad_rule_lines, bad_name_lines};
@@ -13,7 +12,7 @@ ghost use Rattle.guard_notes.specs.PolicyNotes.{message_lines, fault_lines};
 use crate::headers::line_of;
 use crate::marking::{columns, line_at, marked_line};
 use guard_model::OutOfMemory;
-use guard_policy::{Entry, Key, PolicyFault, is_anyone, is_name};
+use guard_policy::{Entry, Key, PolicyFault, is_name, is_party};
 use guard_syntax::end_of;
 use guard_tables::TableFault;
 use std::alloc::Global;
@@ -318,13 +317,6 @@ fn bad_key(rule: Option<&Value>) -> Option<Key>
     } else {
         Some(Key::Message)
     }
-}
-
-/// Whether the text may be the sender or the receiver of a rule.
-fn is_party(text: &str) -> bool
-    ensures { result ≡ is_party text.now }
-{
-    is_name(text.as_bytes()) || is_anyone(text)
 }
 
 // ---- what `toml` has

@@ -12,7 +12,7 @@ use Rattle.guard_policy.specs.NamedRoutes.{with_length, IsGiven}
 use Rattle.guard_policy.specs.Policies.{AbstractPolicy, AbstractRoute, AbstractRule}
 use Rattle.guard_policy.specs.Told.{Tells}
 use Rattle.guard_frames.specs.Bodies.{AbstractBody, IsBody, HasNames, header_of, named, parts_in, has_names}
-use Rattle.guard_frames.specs.OfPolicy.{route_of, decision_of, lets_of, reasons_of}
+use Rattle.guard_frames.specs.OfPolicy.{route_of, route_body, decision_of, lets_of, reasons_of}
 use Rattle.guard_frames.specs.Outcomes.{IsDecided}
 use Rattle.guard_frames.specs.Recalling.{recalled, Recalls}
 use Rattle.guard_frames.specs.declared.decision.Decided.{Decided}
@@ -51,11 +51,8 @@ decided_of p octets b (passing.Stopped reason) is stays = (b, is, stays.0, stays
 
 -- ---- where some rule gives the names
 
-abbrev body_of : AbstractRoute → List ℕ → AbstractBody
-body_of route message = record { sender = route.from; receiver = route.to; name = route.message; message_octets = message }
-
 given_body : (rules : List AbstractRule) (octets names message : List ℕ) (route : AbstractRoute) → octets ≡ names ++ message → IsGiven rules names route
-    → IsBody octets (body_of route message)
+    → IsBody octets (route_body route message)
 given_body rules octets names message route whole given =
     let from = with_length route.from in
     let to = with_length route.to in
@@ -63,13 +60,13 @@ given_body rules octets names message route whole given =
     let joined : octets ≡ from ++ (to ++ (name ++ message)) =
     whole ∙ ap (λ (front : List ℕ). front ++ message) given.octets
     ∙ append_assoc from (to ++ name) message ∙ ap (λ (rest : List ℕ). from ++ rest) (append_assoc to name message) in
-    record { joined = joined; names = names_in (body_of route message) given.plain }
+    record { joined = joined; names = names_in (route_body route message) given.plain }
 
 pub decided_as_given : (p : AbstractPolicy) (octets names message : List ℕ) (told : Passing) (answer : Decided) → octets ≡ names ++ message →
     ((route : AbstractRoute) × IsGiven p.rules names route × Tells p route message told) → answer ≡ decided told
     → IsDecided (decision_of p) (lets_of p) (reasons_of p) octets answer
 decided_as_given p octets names message told answer whole (route, given, tells) is =
-    rw is (decided_of p octets (body_of route message) told (given_body p.rules octets names message route whole given) tells)
+    rw is (decided_of p octets (route_body route message) told (given_body p.rules octets names message route whole given) tells)
 
 -- ---- by the names
 

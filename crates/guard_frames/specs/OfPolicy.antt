@@ -15,6 +15,11 @@ use Rattle.guard_frames.specs.declared.why.Reason.{Reason}
 abbrev pub route_of : AbstractBody → AbstractRoute
 route_of b = record { from = b.sender; to = b.receiver; message = b.name }
 
+-- the body of a message on a route
+abbrev pub route_body : AbstractRoute → List ℕ → AbstractBody
+route_body route message =
+    record { sender = route.from; receiver = route.to; name = route.message; message_octets = message }
+
 -- A body goes where its message goes on its route. The report of one that stays is the line of its reason.
 abbrev pub decision_of : AbstractPolicy → Decision
 decision_of p = record {

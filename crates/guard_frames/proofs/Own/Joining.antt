@@ -6,12 +6,13 @@ use Rattle.std.proofs.lemmas.List.Elements.{All-append}
 use Rattle.guard_policy.specs.Policies.{AbstractPolicy}
 use Rattle.guard_frames.specs.Frames.{IsFrame, IsUnfinished, ConsistsOf}
 use Rattle.guard_frames.specs.declared.totals.Totals.{Totals}
-use Rattle.guard_frames.specs.Totals.{later, next_number, counted}
+use Rattle.guard_frames.specs.Totals.{later, next_number}
 use Rattle.guard_frames.specs.Outcomes.{Outcome, frames_of}
 use Rattle.guard_frames.specs.Guarding.{text_out, InPart, BreaksOff}
 use Rattle.guard_frames.specs.OfPolicy.{decision_of}
 use Rattle.guard_frames.proofs.Elements.{All_first}
-use Rattle.guard_frames.proofs.Counting.{later_later, numbers_on}
+use Rattle.guard_frames.proofs.Counting.{later_later}
+use Rattle.guard_frames.proofs.Progress.{number_after}
 use Rattle.guard_frames.proofs.Readings.{any_cut, too_long-append}
 use Rattle.guard_frames.specs.Added.{Added, nothing, joined}
 use Rattle.guard_frames.specs.Feeding.{Decides, DecidesUntilTooLong}
@@ -23,9 +24,6 @@ use Rattle.guard_frames.proofs.Own.From.{AllFrom, PartFrom, From, none_from}
 
 consists_is : (s t : List ℕ) (fs gs : List (List ℕ)) (r : List ℕ) → s ≡ t → fs ≡ gs → ConsistsOf s fs r → ConsistsOf t gs r
 consists_is s t fs gs r e e₁ h = subst (λ (x : List ℕ). ConsistsOf x gs r) e (subst (λ (x : List (List ℕ)). ConsistsOf s x r) e₁ h)
-
-number_after : (n m : Totals) (os : List Outcome) → m ≡ counted n os → next_number m ≡ later (next_number n) (length os)
-number_after n m os e = ap next_number e ∙ numbers_on n os
 
 -- where the later pieces begin
 begin_after : (place : ℕ) (held octets fs now : List ℕ) → held ++ octets ≡ fs ++ now → place + length fs + length now ≡ place + length held + length octets

@@ -3,7 +3,7 @@ ghost use Rattle.std.specs.Prelude.{◌≡◌, ◌++◌, None, true, IfOk, IfSom
 ghost use Rattle.guard_policy.specs.Names.{is_name, is_plain};
 ghost use Rattle.guard_policy.specs.PolicyView.{route_view};
 ghost use Rattle.guard_frames.specs.Bodies.{named};
-ghost use Rattle.guard_files.specs.Bodies.{route_body};
+ghost use Rattle.guard_frames.specs.OfPolicy.{route_body};
 ghost use Rattle.guard_authors.specs.Framing.{IsFrameOf, HasNoFrame, body_octets};
 
 use guard_files::add;

@@ -19,7 +19,6 @@ pub mod Intake
 pub mod Word
 pub mod Headers
 pub mod NextFrame
-pub mod Bodies
 pub mod Allowed
 pub mod Places
 pub mod RuleText

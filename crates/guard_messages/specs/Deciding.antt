@@ -2,11 +2,11 @@
 use Rattle.std.specs.Prelude.{ℕ, Bool, true, false, List, codes, Option, Some, None}
 use Rattle.guard_policy.specs.Policies.{AbstractPolicy, AbstractRoute}
 use Rattle.guard_frames.specs.Bodies.{AbstractBody, body_in}
+use Rattle.guard_frames.specs.OfPolicy.{route_body}
 use Rattle.guard_files.specs.Answers.{AbstractAnswer, Gives}
 use Rattle.guard_files.specs.Devices.{Input, Device, IsUnread, IsUntouched}
 use Rattle.guard_files.specs.Explaining.{IsNoPolicyWith}
 use Rattle.guard_files.specs.Files.{Told}
-use Rattle.guard_files.specs.Bodies.{route_body}
 use Rattle.guard_files.specs.Reading.{IsPolicyAt}
 use Rattle.guard_files.specs.Writing.{TellsText}
 use Rattle.guard_messages.specs.Decided.{IsHeldDecided}

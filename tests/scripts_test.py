@@ -1,4 +1,4 @@
-"""Tests of what the scripts of this folder share. No program is called."""
+"""Tests of what the scripts of this folder share, and of when tests/limits fails. No program is called."""
 from __future__ import annotations
 
 import contextlib
@@ -10,13 +10,15 @@ import socket
 import subprocess
 import sys
 import unittest
+from unittest import mock
 
 sys.dont_write_bytecode = True
 HERE = pathlib.Path(__file__).resolve().parent
-sys.path.insert(0, str(HERE))
+sys.path[:0] = [str(HERE), str(HERE.parent / "tools")]
 
 import tally
 import wire
+from loading import script
 
 
 class Wire(unittest.TestCase):
@@ -69,6 +71,34 @@ class Counting(unittest.TestCase):
             counted.runs(lambda: [])
             counted.runs(lambda: wire.by_link(b"\0"))
         self.assertEqual((counted.counts.run, counted.counts.failed), (2, 1))
+
+
+class Limits(unittest.TestCase):
+    def failed(self, *came: tuple[float, float, int, str], text: str = "M", name: str = "a text") -> int:
+        """How many lines say what is wrong where `check` comes to this, one call after the other."""
+        limits = script("tests/limits")
+        took = [limits.Measured(*each) for each in came]
+        with mock.patch.object(limits, "measured", side_effect=took), contextlib.redirect_stdout(io.StringIO()):
+            return len(limits.within(name, {"m.asn1": text}, limits.Aim(1, 300), 2))
+
+    def test_twice_the_aim_may_be_taken_and_no_more(self) -> None:
+        self.assertEqual(self.failed((2.0, 600, 0, "ok")), 0)
+        self.assertEqual(self.failed((0.1, 601, 0, "ok")), 1)
+        self.assertEqual(self.failed((2.1, 10, 0, "ok"), (2.2, 10, 0, "ok")), 1)
+        self.assertEqual(self.failed((9.0, 10, 0, "ok"), (1.9, 10, 0, "ok")), 0)
+
+    def test_an_answer_must_come_of_a_text_that_can_be_read(self) -> None:
+        self.assertEqual(self.failed((0.1, 10, 2, "derguard: S3 TooLarge 1:4:1")), 0)
+        self.assertEqual(self.failed((0.1, 10, -9, "")), 1)
+        self.assertEqual(self.failed((0.1, 10, 3, "derguard: no-memory")), 1)
+        self.assertEqual(self.failed((0.1, 10, 2, "derguard: P1 Unexpected 1:1:1")), 1)
+        self.assertEqual(self.failed((0.1, 10, 0, "ok"), text="M" * 1_048_577), 1)
+
+    def test_aims_are_of_texts_that_are_there(self) -> None:
+        limits = script("tests/limits")
+        names = [name for name, _ in limits.greatest_texts()]
+        self.assertEqual(len(names), len(set(names)))
+        self.assertEqual(sorted({*limits.AIMS, limits.NO_MODULE} - set(names)), [])
 
 
 SCRIPT = """

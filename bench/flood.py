@@ -1,8 +1,10 @@
 """Frames of one kind and nothing else: what goes, and each reason for which a frame stays."""
+from __future__ import annotations
+
 import os
 import subprocess
 
-from measure import GUARD, TOP, Stream, give_up, nanoseconds, say
+from measure import GUARD, TOP, Chart, Stream, Work, give_up, nanoseconds, say
 from messages import ALPHABETS, TEXT, TEXT_WRONG_AT_ITS_END, alphabets_module, frame, name_of, order, policy_of
 
 ORDERS = os.path.join(TOP, "examples", "orders.toml")
@@ -11,9 +13,10 @@ SMALL = order([7])
 GOES = frame("order", SMALL)
 NOT_ALLOWED = frame("order", order([7], quantity=11))
 
-# What it is called, what it may cost at most beside one that goes, the word of its report line (none where it goes), the
-# policy, the frames.
-KINDS = [
+# What it is called, what it may cost at most beside one that goes, the word of its report line (none where it goes),
+# the policy, the frames.
+Kind = tuple[str, int | None, str | None, str, bytes]
+KINDS: list[Kind] = [
     ("goes", None, None, ORDERS, GOES),
     ("bad header", 4, "bad-header", ORDERS, frame("ord r", SMALL)),
     ("unknown-message", 4, "unknown-message", ORDERS, frame("ordre", SMALL)),
@@ -26,7 +29,7 @@ KINDS = [
 ]
 
 
-def texts(work):
+def texts(work: Work) -> list[Kind]:
     """A text of a million characters under one alphabet written in two ways: it goes, and it stays for its last one."""
     work.put("alphabets.asn1", alphabets_module())
     path = work.put("alphabets.toml", policy_of("alphabets.asn1", ALPHABETS))
@@ -38,7 +41,7 @@ def texts(work):
     return kinds
 
 
-def is_as_said(words, frames, word):
+def is_as_said(words: list[str], frames: bytes, word: str | None) -> None:
     """One copy of the frames gives this report and no other."""
     done = subprocess.run(words, input=frames, capture_output=True)
     lines = done.stderr.decode().splitlines()
@@ -51,7 +54,7 @@ def is_as_said(words, frames, word):
 TELLING = [("--verbose", 1.05, 1.1), ("--counts", 1.02, 1.02), ("--json", None, None)]
 
 
-def telling(work):
+def telling(work: Work) -> None:
     """The same frames with an option that tells more, beside the same without."""
     say("With an option that tells more, the reports to `/dev/null`:\n")
     say("| option | frames | `run`, ns a frame | with the option | times | aim |")
@@ -67,7 +70,8 @@ def telling(work):
     say()
 
 
-def flood(work):
+def flood(work: Work) -> list[Chart]:
+    """A table of the kinds, and one of what tells more of them."""
     say("### A flood of one kind\n")
     say("`run`, nanoseconds a frame, with the reports to `/dev/null` and to a pipe that `cat` reads.\n")
     say("| frames | octets | ns a frame | ns a frame, reports to a pipe | times one that goes | aim | writes |")

@@ -1,7 +1,9 @@
 """`derguard_passes`, called from C, beside the walk in process and what others wrote."""
+from __future__ import annotations
+
 import os
 
-from measure import TOP, WALK, compile_c, in_turn, peer_ns, say, walk_ns
+from measure import TOP, WALK, Chart, Work, compile_c, in_turn, peer_ns, say, walk_ns
 from messages import CASES, module, name_of, policy_of
 from peers import built, has, of
 
@@ -9,7 +11,8 @@ LIBRARY = os.path.join(os.environ.get("LIBRARY", os.path.join(TOP, "out/library"
 AIM = 15
 
 
-def library(work):
+def library(work: Work) -> list[Chart]:
+    """A table of messages; nothing where the library isn't built."""
     if not os.path.exists(LIBRARY):
         say("The library: left out, since it isn't built (`make library`).\n")
         return []

@@ -1,11 +1,19 @@
 """`derguard check`: seconds, and the room of the program itself."""
-import os
+from __future__ import annotations
 
-from measure import GUARD, TOP, TURNS, say, seconds_and_room
+import os
+from collections.abc import Iterator
+
+from measure import GUARD, TOP, TURNS, Chart, Work, say, seconds_and_room
 from messages import LENGTHS, lengths_module, module, policy, policy_of
 
 
-def loading(work):
+# What a policy is called, its path, and the aim.
+Loaded = tuple[str, str, str]
+
+
+def loading(work: Work) -> list[Chart]:
+    """A table of policies."""
     say("### Loading (`derguard check`)\n")
     say("| policy | seconds | MiB held at most | aim |\n|---|---|---|---|")
     for what, path, aim in [*examples(), *large(work)]:
@@ -17,13 +25,15 @@ def loading(work):
     return []
 
 
-def examples():
+def examples() -> Iterator[Loaded]:
+    """The policies of examples/."""
     for name, file, aim in (("orders", "orders.toml", "-"), ("minimal", "minimal/policy.toml", "-"),
                             ("railway", "railway/railway.toml", "-"), ("payments", "payments/payments.toml", "0.02 s")):
         yield f"the example {name}", os.path.join(TOP, "examples", file), aim
 
 
-def large(work):
+def large(work: Work) -> Iterator[Loaded]:
+    """Policies near what a limit lets."""
     types = "\n".join(f"T{n} ::= INTEGER (0..{n})" for n in range(34_000))
     work.put("large.asn1", f"Bench DEFINITIONS AUTOMATIC TAGS ::= BEGIN\n{types}\nEND\n")
     yield ("a module of 1 MiB, 34,000 types",
@@ -40,9 +50,10 @@ def large(work):
            work.put("tree.toml", policy(["tree.asn1"], [("c", "C")], rules)), "5 s, 1 GB")
 
 
-def tree():
+def tree() -> str:
     """A SEQUENCE of 22 SEQUENCEs of 64 SEQUENCEs of 64 numbers."""
-    def level(name, many, part):
+
+    def level(name: str, many: int, part: str) -> str:
         return f"{name} ::= SEQUENCE {{{', '.join(f'c{n} {part}' for n in range(many))}}}"
 
     levels = level("A", 64, "INTEGER"), level("B", 64, "A"), level("C", 22, "B")

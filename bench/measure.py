@@ -1,9 +1,13 @@
 """How bench/run measures: programs between pipes, the least of several turns, and the room of a process."""
+from __future__ import annotations
+
 import os
 import signal
 import subprocess
 import sys
 import time
+from collections.abc import Callable, Hashable, Mapping
+from typing import NoReturn, TypeVar
 
 HERE = os.path.dirname(os.path.abspath(__file__))
 TOP = os.path.dirname(HERE)
@@ -12,10 +16,15 @@ GUARD = os.environ.get("DERGUARD", os.path.join(TOP, "crates/derguard/out/dergua
 WALK = os.environ.get("BENCH_WALK", os.path.join(TOP, "crates/conformance/out/conformance"))
 TURNS = int(os.environ.get("BENCH_TURNS", "5"))
 SECONDS = float(os.environ.get("BENCH_SECONDS", "0.3"))
-page = []
+page: list[str] = []
+# What a measurement is called in a table of them.
+Name = TypeVar("Name", bound=Hashable)
+# A title, and under it a name, a ratio and its aim, if it has one.
+Bar = tuple[str, float, float | None]
+Chart = tuple[str, list[Bar]]
 
 
-def put(line):
+def put(line: str) -> None:
     """Prints a line. Where nobody reads on, as behind `| head`, the run ends without a word, as if by SIGPIPE."""
     try:
         print(line, flush=True)
@@ -24,32 +33,33 @@ def put(line):
         sys.exit(128 + signal.SIGPIPE)
 
 
-def say(line=""):
+def say(line: str = "") -> None:
+    """Prints a line, which is one of the page too."""
     put(line)
     page.append(line)
 
 
-def give_up(why):
+def give_up(why: str) -> NoReturn:
     sys.exit(f"bench/run: {why}")
 
 
-def compile_c(program, *words):
+def compile_c(program: str, *words: str) -> None:
     subprocess.run([os.environ.get("CC", "cc"), "-O2", "-o", program, *words], check=True)
 
 
 class Work:
     """A folder with the modules, policies, frames and small programs of one run."""
 
-    def __init__(self, place):
+    def __init__(self, place: str) -> None:
         self.place = place
         compile_c(self.path("strict"), os.path.join(HERE, "peer.c"), os.path.join(HERE, "strict.c"))
         for tool in ("feed", "held"):
             compile_c(self.path(tool), os.path.join(HERE, tool + ".c"))
 
-    def path(self, name):
+    def path(self, name: str) -> str:
         return os.path.join(self.place, name)
 
-    def put(self, name, contents):
+    def put(self, name: str, contents: str | bytes) -> str:
         with open(self.path(name), "wb") as file:
             file.write(contents if isinstance(contents, bytes) else contents.encode())
         return self.path(name)
@@ -62,11 +72,12 @@ class Stream:
 
     All of them must go, or, where the status is 1, some of each copy must stay."""
 
-    def __init__(self, work, frames, words, status=0, reports_to_a_pipe=False):
+    def __init__(self, work: Work, frames: str, words: list[str], status: int = 0,
+                 reports_to_a_pipe: bool = False) -> None:
         self.feed, self.frames, self.words = work.path("feed"), frames, words
         self.status, self.reports_to_a_pipe = status, reports_to_a_pipe
 
-    def seconds(self, count):
+    def seconds(self, count: int) -> float:
         """From the start of the program until it and what feeds and reads it have ended."""
         begin = time.perf_counter()
         feed = subprocess.Popen([self.feed, self.frames, str(count)], stdout=subprocess.PIPE)
@@ -81,11 +92,12 @@ class Stream:
             give_up(f"{' '.join(self.words)} ended with {program.returncode}, feed with {feed.wait()}")
         return time.perf_counter() - begin
 
-    def writes(self, count=4000):
-        """How many writes the program makes for one copy, while copies are there to read: from what the kernel counts."""
+    def writes(self, count: int = 4000) -> float:
+        """How many writes the program makes for one copy, while copies are there to read, as the kernel counts them."""
         with open(self.frames, "rb") as file:
             copies = file.read() * count
-        program = subprocess.Popen(self.words, stdin=subprocess.PIPE, stdout=subprocess.DEVNULL, stderr=subprocess.DEVNULL)
+        nowhere = {"stdout": subprocess.DEVNULL, "stderr": subprocess.DEVNULL}
+        program = subprocess.Popen(self.words, stdin=subprocess.PIPE, **nowhere)
         before = writes_so_far(program.pid)
         program.stdin.write(copies)
         program.stdin.flush()
@@ -94,9 +106,10 @@ class Stream:
         program.wait()
         return made / count
 
-    def copies(self):
+    def copies(self) -> int:
         """So many that a measurement takes about SECONDS."""
-        def least(count):
+
+        def least(count: int) -> float:
             return min(self.seconds(count) for _ in range(2))
 
         start, count = least(0), 16
@@ -108,11 +121,11 @@ class Stream:
 class FileStream(Stream):
     """Copies of a file of frames that lie in a file, through `run`; what goes out is put to a pipe, or to a file."""
 
-    def __init__(self, work, frames, words, to_a_file):
+    def __init__(self, work: Work, frames: str, words: list[str], to_a_file: bool) -> None:
         super().__init__(work, frames, words)
         self.input, self.output, self.to_a_file = work.path("many.frames"), work.path("many.out"), to_a_file
 
-    def seconds(self, count):
+    def seconds(self, count: int) -> float:
         with open(self.input, "wb") as file:
             subprocess.run([self.feed, self.frames, str(count)], stdout=file, check=True)
         begin = time.perf_counter()
@@ -125,20 +138,20 @@ class FileStream(Stream):
         return time.perf_counter() - begin
 
 
-def writes_so_far(process):
+def writes_so_far(process: int) -> int:
     """The writes that a process made so far, once it makes no more for a twentieth of a second."""
-    made = None
+    made = -1
     while made != (made := writes_now(process)):
         time.sleep(0.05)
     return made
 
 
-def writes_now(process):
+def writes_now(process: int) -> int:
     with open(f"/proc/{process}/io") as file:
         return next(int(line.split()[1]) for line in file if line.startswith("syscw:"))
 
 
-def nanoseconds(streams):
+def nanoseconds(streams: Mapping[Name, Stream]) -> dict[Name, float]:
     """For each stream those of one copy: the least of TURNS turns, in each of which every stream has its turn, less
     the least that the same program takes without a frame."""
     counts = {name: stream.copies() for name, stream in streams.items()}
@@ -153,7 +166,7 @@ def nanoseconds(streams):
 
 # ---- in process
 
-def walk_ns(declared, rules, octets, text):
+def walk_ns(declared: str, rules: list[str], octets: bytes, text: str) -> float:
     """Nanoseconds of one walk, as `conformance` measures them: the least of its rounds."""
     stream = text.encode() + b"\0" + octets
     times = max(1, min(20_000, 4_000_000 // (len(octets) + 20)))
@@ -163,14 +176,14 @@ def walk_ns(declared, rules, octets, text):
     return float(done.stdout.split()[-1]) / times
 
 
-def peer_ns(program, case, file):
+def peer_ns(program: str, case: str, file: str) -> float:
     done = subprocess.run([program, "time", case, file], capture_output=True, text=True)
     if done.returncode:
         give_up(f"{program} time {case} ended with {done.returncode}")
     return float(done.stdout)
 
 
-def in_turn(measures):
+def in_turn(measures: Mapping[Name, Callable[[], float]]) -> dict[Name, float]:
     """The least of TURNS turns of each, one after the other."""
     found = {name: [] for name in measures}
     for _ in range(TURNS):
@@ -184,7 +197,7 @@ def in_turn(measures):
 LONGEST = 3
 
 
-def loads_soon(what, path):
+def loads_soon(what: str, path: str) -> bool:
     """Whether a policy is loaded within LONGEST; where it isn't, what is measured over it is left out with a line."""
     try:
         subprocess.run([GUARD, "check", path], stdout=subprocess.DEVNULL, timeout=LONGEST, check=True)
@@ -194,7 +207,7 @@ def loads_soon(what, path):
     return True
 
 
-def seconds_and_room(work, words):
+def seconds_and_room(work: Work, words: list[str]) -> tuple[float, float]:
     """Seconds, and the MiB that the process itself held at most: bench/held.c starts it and asks the kernel."""
     done = subprocess.run([work.path("held"), *words], stdin=subprocess.DEVNULL, capture_output=True, text=True)
     if done.returncode:

@@ -1,23 +1,31 @@
 """The messages, modules and policies of bench/run, always the same ones."""
+from __future__ import annotations
+
+# The declared type, the types of the rules, and the message.
+Case = tuple[str, list[str], bytes]
+# Its name, the sender, the receiver, the message and the type.
+Rule = tuple[str, str, str, str, str]
 
 
-def length(size):
+def length(size: int) -> bytes:
+    """Length octets."""
     if size < 128:
         return bytes([size])
     digits = size.to_bytes((size.bit_length() + 7) // 8, "big")
     return bytes([0x80 | len(digits)]) + digits
 
 
-def element(tag, contents):
+def element(tag: int, contents: bytes) -> bytes:
+    """An element with these identifier octets, one or two of them."""
     identifier = bytes([tag]) if tag & 31 != 31 else bytes([tag & 0xE0 | 31, tag >> 8])
     return identifier + length(len(contents)) + contents
 
 
-def number(n):
+def number(n: int) -> bytes:
     return n.to_bytes((n + (n < 0)).bit_length() // 8 + 1, "big", signed=True)
 
 
-def numbers(many, below):
+def numbers(many: int, below: int) -> list[int]:
     """Numbers of a linear congruential generator, so that every run has the same."""
     n, found = 12345, []
     for _ in range(many):
@@ -26,16 +34,16 @@ def numbers(many, below):
     return found
 
 
-def order(lines, id=5, quantity=None):
+def order(lines: list[int], id: int = 5, quantity: int | None = None) -> bytes:
     written = element(0x82, number(quantity)) if quantity else b""
     listed = element(0xA4, b"".join(element(2, number(n)) for n in lines))
     return element(0x30, element(0x80, number(id)) + element(0x81, number(1)) + written + listed)
 
 
-def nest():
+def nest() -> bytes:
     values = iter(numbers(512, 101))
 
-    def level(deep):
+    def level(deep: int) -> bytes:
         if deep == 1:
             return element(0x30, b"".join(element(2, number(next(values))) for _ in range(8)))
         return element(0x30, b"".join(level(deep - 1) for _ in range(2 if deep > 24 else 1)))
@@ -43,17 +51,16 @@ def nest():
     return level(30)
 
 
-def a_set(values):
+def a_set(values: list[int]) -> bytes:
     parts = [(0x80 | tag if tag < 31 else 0x9F | tag << 8, n) for tag, n in enumerate(values)]
     return element(0x31, b"".join(element(tag, number(n)) for tag, n in parts))
 
 
-def characters():
+def characters() -> bytes:
     return ("Grüße, 日本 " * 62_500).encode()[:1_000_000].decode(errors="ignore").encode()
 
 
-# The declared type, the types of the rules, and the message.
-CASES = {
+CASES: dict[str, Case] = {
     "order": ("Order", ["Small"], order([7])),
     "bulk": ("Order", ["Bulk"], order(numbers(10_000, 32_768))),
     "nest": ("N30", ["N30"], nest()),
@@ -64,7 +71,8 @@ CASES = {
 }
 
 
-def module():
+def module() -> str:
+    """The module of CASES."""
     nested = "\n".join(f"N{n} ::= SEQUENCE OF N{n - 1}" for n in range(2, 31))
     parts = ", ".join(f"c{n} [{n}] INTEGER (0..100)" for n in range(64))
     return f"""Bench DEFINITIONS IMPLICIT TAGS ::= BEGIN
@@ -106,7 +114,7 @@ LENGTHS = {
 }
 
 
-def alphabets_module():
+def alphabets_module() -> str:
     return """Bench DEFINITIONS AUTOMATIC TAGS ::= BEGIN
 Text ::= IA5String
 Ranges ::= Text (FROM ("0".."9" | "A".."F"))
@@ -115,7 +123,7 @@ END
 """
 
 
-def lengths_module():
+def lengths_module() -> str:
     sizes = " | ".join(str(2 * n + 1) for n in range(SIZES))
     return f"""Bench DEFINITIONS AUTOMATIC TAGS ::= BEGIN
 Octets ::= OCTET STRING
@@ -125,11 +133,11 @@ END
 """
 
 
-def name_of(what):
+def name_of(what: str) -> str:
     return "".join(letter if letter.isalnum() else "-" for letter in what)
 
 
-def policy(files, messages, rules):
+def policy(files: list[str], messages: list[tuple[str, str]], rules: list[Rule]) -> str:
     """A policy; each message is (name, type), each rule (name, sender, receiver, message, type)."""
     lines = ["modules = [" + ", ".join(f'"{name}"' for name in files) + "]"]
     for name, ty in messages:
@@ -140,7 +148,7 @@ def policy(files, messages, rules):
     return "\n".join(lines) + "\n"
 
 
-def policy_of(file, cases):
+def policy_of(file: str, cases: dict[str, Case]) -> str:
     """One message for each case, and the rules of each from north to south."""
     named = {name_of(what): case for what, case in cases.items()}
     messages = [(name, declared) for name, (declared, _, _) in named.items()]
@@ -148,6 +156,6 @@ def policy_of(file, cases):
     return policy([file], messages, rules)
 
 
-def frame(message, contents, sender="north", receiver="south"):
+def frame(message: str, contents: bytes, sender: str = "north", receiver: str = "south") -> bytes:
     body = b"".join(bytes([len(n)]) + n.encode() for n in (sender, receiver, message)) + contents
     return len(body).to_bytes(4, "big") + body

@@ -1,13 +1,15 @@
 """What was measured, on what, and when; and the plot."""
+from __future__ import annotations
+
 import datetime
 import hashlib
 import os
 import subprocess
 
-from measure import GUARD, TOP, WALK, give_up, put
+from measure import GUARD, TOP, WALK, Chart, give_up, put
 
 
-def program(path):
+def program(path: str) -> str:
     """The path, size and digest of a program."""
     if not os.path.exists(path):
         return f"{os.path.basename(path)}, not built"
@@ -17,20 +19,20 @@ def program(path):
     return f"{shown}, {len(octets):,} octets, sha256 {hashlib.sha256(octets).hexdigest()[:16]}"
 
 
-def commit():
+def commit() -> str:
     words = ["git", "-C", TOP, "describe", "--always", "--dirty", "--abbrev=12"]
     return subprocess.run(words, capture_output=True, text=True).stdout.strip() or "no repository"
 
 
-def load():
+def load() -> str:
     return f"{os.getloadavg()[0]:.2f}"
 
 
-def busy():
+def busy() -> bool:
     return os.getloadavg()[0] > 1
 
 
-def about():
+def about() -> list[str]:
     """Lines that name a run: a page that shows its figures repeats them."""
     if not os.access(GUARD, os.X_OK):
         give_up(f"{GUARD} isn't there: `make` builds it, or DERGUARD says where it is")
@@ -52,7 +54,7 @@ HEAD = """# Figures of one run
 Written by `bench/run --keep`. docs/PERFORMANCE.md says what is measured and what the figures mean."""
 
 
-def keep(lines, picture):
+def keep(lines: list[str], picture: str) -> None:
     """Writes bench/figures.md and bench/figures.svg anew."""
     bench = os.path.join(TOP, "bench")
     with open(os.path.join(bench, "figures.md"), "w") as file:
@@ -62,7 +64,7 @@ def keep(lines, picture):
     put("bench/run: bench/figures.md and bench/figures.svg have these figures")
 
 
-def plot(charts):
+def plot(charts: list[Chart]) -> str:
     """Bars of ratios, one chart above the other, as SVG; a line marks the aim of a bar."""
     rows = [(title, bar) for title, bars in charts for bar in [None, *bars] if bar is None or bar[1] > 0]
     height, at, parts = 26 * len(rows) + 20, 30, []
@@ -76,7 +78,7 @@ def plot(charts):
             f'font-size="13"><rect width="860" height="{height}" fill="white"/>{"".join(parts)}</svg>\n')
 
 
-def a_bar(at, name, ratio, aim):
+def a_bar(at: int, name: str, ratio: float, aim: float | None) -> list[str]:
     wide = min(ratio, 12) * 40
     parts = [
         f'<text x="290" y="{at}" text-anchor="end">{name}</text>',

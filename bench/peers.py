@@ -1,4 +1,6 @@
 """Two decoders that others wrote, in process and on the same pipe, in one run with the guard, C by hand and `cat`."""
+from __future__ import annotations
+
 import concurrent.futures
 import glob
 import os
@@ -6,7 +8,8 @@ import shutil
 import subprocess
 import textwrap
 
-from measure import GUARD, HERE, OUT, WALK, Stream, compile_c, in_turn, nanoseconds, peer_ns, say, walk_ns
+from measure import (GUARD, HERE, OUT, WALK, Chart, Stream, Work, compile_c, in_turn, nanoseconds, peer_ns, say,
+                     walk_ns)
 from messages import CASES, frame, module, policy_of
 
 SKELETONS = os.environ.get("ASN1C_SKELETONS", "/usr/share/asn1c")
@@ -25,7 +28,7 @@ class Missing(Exception):
     """Why a decoder isn't measured."""
 
 
-def version(package):
+def version(package: str) -> str:
     words = ["dpkg-query", "-W", "-f", "${Package} ${Version}", package]
     try:
         return subprocess.run(words, capture_output=True, text=True, check=True).stdout
@@ -33,14 +36,15 @@ def version(package):
         raise Missing(f"the Debian package {package} isn't installed") from None
 
 
-def fresh(name):
+def fresh(name: str) -> str:
+    """An empty folder of this name."""
     place = os.path.join(OUT, "peers", name)
     shutil.rmtree(place, ignore_errors=True)
     os.makedirs(place)
     return place
 
 
-def asn1c(program):
+def asn1c(program: str) -> str:
     """The code that asn1c makes of the module Bench, with -O2."""
     said, place, cc = version("asn1c"), fresh("asn1c"), os.environ.get("CC", "cc")
     with open(os.path.join(place, "bench.asn1"), "w") as file:
@@ -58,7 +62,7 @@ def asn1c(program):
     return f"{said} (with -O2 and its constraint check)"
 
 
-def asn1(program):
+def asn1(program: str) -> str:
     """The crate `asn1`, from the sources that Debian installs; nothing is fetched."""
     said = version("librust-asn1-dev")
     if not shutil.which("cargo"):
@@ -75,7 +79,7 @@ def asn1(program):
     return f"{said} ({subprocess.run(['rustc', '--version'], capture_output=True, text=True).stdout.strip()})"
 
 
-def built(work):
+def built(work: Work) -> tuple[dict[str, str], list[str]]:
     """The programs that could be built, and a line for each that is compared with or left out."""
     programs, lines = {"C": work.path("strict")}, [LESS["C"]]
     for name, build in (("asn1c", asn1c), ("asn1", asn1)):
@@ -87,17 +91,18 @@ def built(work):
     return programs, lines
 
 
-def of(peer, case):
+def of(peer: str, case: str) -> str:
     """What the peer calls its reader of this message: C has two of a text, and the one by lanes is the faster."""
     return "text-avx2" if (peer, case) == ("C", "text") else case
 
 
-def has(program, case):
+def has(program: str, case: str) -> bool:
     """Whether it has a reader of this message."""
     return subprocess.run([program, "pipe", case], stdin=subprocess.DEVNULL).returncode == 0
 
 
-def peers(work):
+def peers(work: Work) -> list[Chart]:
+    """What each checks less, and a table in process and on a pipe."""
     programs, lines = built(work)
     say("### Beside decoders that others wrote\n")
     say("What each checks less than the guard:\n")
@@ -111,16 +116,16 @@ def peers(work):
     return []
 
 
-def row(name, octets, columns, times):
+def row(name: str, octets: int, columns: list[str], times: dict[str, float]) -> None:
     say(f"| {name} | {octets} | " + " | ".join(f"{times[c]:.1f}" if c in times else "-" for c in columns) + " |")
 
 
-def heading(first, columns):
+def heading(first: str, columns: list[str]) -> None:
     say(f"\n| {first} | " + " | ".join(f"{column}, ns" for column in columns) + " |")
     say("|---" * (len(columns) + 2) + "|")
 
 
-def in_process(work, programs, readers):
+def in_process(work: Work, programs: dict[str, str], readers: dict[str, set[str]]) -> None:
     columns = ["walk", *programs]
     heading("a message in process | octets", columns)
     for name, (declared, rules, octets) in CASES.items():
@@ -132,7 +137,7 @@ def in_process(work, programs, readers):
         row(name, len(octets), columns, in_turn(measures))
 
 
-def on_a_pipe(work, programs, readers, path):
+def on_a_pipe(work: Work, programs: dict[str, str], readers: dict[str, set[str]], path: str) -> None:
     columns = ["cat", "derguard run", *programs]
     heading("a frame on a pipe | octets", columns)
     shares = []

@@ -1,12 +1,15 @@
 """`derguard run` on frames from a pipe, beside `cat`; and growth with what a policy and a message hold."""
-from measure import GUARD, FileStream, Stream, loads_soon, nanoseconds, say
-from messages import (ALPHABETS, CASES, LENGTHS, alphabets_module, element, frame, lengths_module, module, name_of,
-                      number, numbers, order, policy, policy_of)
+from __future__ import annotations
+
+from measure import GUARD, Chart, FileStream, Stream, Work, loads_soon, nanoseconds, say
+from messages import (ALPHABETS, CASES, LENGTHS, Case, alphabets_module, element, frame, lengths_module, module,
+                      name_of, number, numbers, order, policy, policy_of)
 
 AIMS = {"order": 4, "bulk": 1.4, "nest": 3, "text": 1.2}
 
 
-def pipe(work):
+def pipe(work: Work) -> list[Chart]:
+    """A table of messages on a pipe, and then those of files and of sets in two ways."""
     say("### `derguard run` on a pipe, beside `cat`\n")
     say("| frames | octets of one | run, ns a frame | cat, ns a frame | run / cat | aim | run, MB/s |")
     say("|---|---|---|---|---|---|---|")
@@ -26,9 +29,10 @@ def pipe(work):
     return [("`run` on a pipe, times `cat`", found)]
 
 
-def files(work, path):
+def files(work: Work, path: str) -> None:
     """The same frames where they lie in a file, into a pipe and into a file."""
-    say("| frames | `run` from a pipe into `/dev/null`, ns a frame | from a file into a pipe | from a file into a file |")
+    columns = "`run` from a pipe into `/dev/null`, ns a frame | from a file into a pipe | from a file into a file"
+    say(f"| frames | {columns} |")
     say("|---|---|---|---|")
     for name in ("order", "text"):
         frames, words = work.path(name + ".frame"), [GUARD, "run", path]
@@ -38,7 +42,7 @@ def files(work, path):
     say()
 
 
-def spelled(work):
+def spelled(work: Work) -> None:
     """The same set written in two ways, one after the other."""
     work.put("alphabets.asn1", alphabets_module())
     work.put("lengths.asn1", lengths_module())
@@ -56,7 +60,7 @@ def spelled(work):
     say()
 
 
-def spelled_times(work, cases, path):
+def spelled_times(work: Work, cases: dict[str, Case], path: str) -> dict[str, float]:
     frames = {what: work.put(name_of(what) + ".frame", frame(name_of(what), octets))
               for what, (_, _, octets) in cases.items()}
     return nanoseconds({what: Stream(work, file, [GUARD, "run", path]) for what, file in frames.items()})
@@ -64,20 +68,21 @@ def spelled_times(work, cases, path):
 
 # ---- growth
 
-def growth(work):
+def growth(work: Work) -> list[Chart]:
+    """A table of what grows, each from its least to its most."""
     say("### Growth\n")
     say("| what grows | from | to | ns of one, from | ns of one, to | times as long |\n|---|---|---|---|---|---|")
     work.put("bench.asn1", module())
     path = work.put("bench.toml", policy_of("bench.asn1", CASES))
     small, found = frame("order", CASES["order"][2]), []
 
-    def row(what, ends, streams, per=(1, 1)):
+    def row(what: str, ends: tuple[int, int], streams: list[Stream], per: tuple[int, int] = (1, 1)) -> None:
         times = nanoseconds(dict(enumerate(streams)))
         first, last = (times[at] / per[at] for at in (0, 1))
         say(f"| {what} | {ends[0]} | {ends[1]} | {first:.1f} | {last:.1f} | {last / first:.2f} |")
         found.append((f"{what}, {ends[0]} to {ends[1]}", last / first, None))
 
-    def stream(octets, policy_file, command="run"):
+    def stream(octets: bytes, policy_file: str, command: str = "run") -> Stream:
         return Stream(work, work.put(f"growth-{len(octets)}", octets), [GUARD, command, policy_file])
 
     lists = [frame("bulk", order(numbers(many, 32_768))) for many in (256, 2560, 25_600, 256_000)]
@@ -99,21 +104,21 @@ def growth(work):
 FREE = frame("free", element(0x30, element(0x80, number(5)) + element(0x81, number(1))))
 
 
-def with_rules(many):
+def with_rules(many: int) -> str:
     rules = [(f"r{n}", "north", "south", "free", "Free") for n in range(many)]
     return policy(["bench.asn1"], [("free", "Free")], rules)
 
 
-def with_senders(many):
+def with_senders(many: int) -> str:
     others = [(f"r{n}", f"s{n}", "south", "free", "Free") for n in range(many - 1)]
     return policy(["bench.asn1"], [("free", "Free")], [("r", "north", "south", "free", "Free"), *others])
 
 
-def with_messages(many):
+def with_messages(many: int) -> str:
     messages = [("order", "Order")] + [(f"m{n}", "Order") for n in range(many - 1)]
     return policy(["bench.asn1"], messages, [("r", "north", "south", "order", "Small")])
 
 
-def on_links(many, one):
+def on_links(many: int, one: bytes) -> bytes:
     """One frame for each link, each in a record of its own."""
     return b"".join(b"\0" + link.to_bytes(2, "big") + len(one).to_bytes(4, "big") + one for link in range(many))

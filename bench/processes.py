@@ -1,18 +1,19 @@
 """Guards side by side, each with a stream of its own from a file; and `cat` in their place."""
+from __future__ import annotations
+
 import os
 import subprocess
 import time
 
-from measure import GUARD, TOP, in_turn, say
+from measure import GUARD, TOP, Chart, Work, in_turn, say
 from messages import frame, order
 
 FRAMES = 4_000_000
-
-
 RUN = [GUARD, "run", os.path.join(TOP, "examples", "orders.toml")]
 
 
-def seconds(path, many, words):
+def seconds(path: str, many: int, words: list[str]) -> float:
+    """Until so many processes of this command, each with the file, have ended."""
     begin = time.perf_counter()
     guards = []
     for _ in range(many):
@@ -23,7 +24,8 @@ def seconds(path, many, words):
     return time.perf_counter() - begin
 
 
-def processes(work):
+def processes(work: Work) -> list[Chart]:
+    """A table of one guard to as many as there are processors."""
     one = frame("order", order([7]))
     frames, path = work.put("one.frame", one), work.path("many.frames")
     with open(path, "wb") as file:

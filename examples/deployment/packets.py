@@ -5,6 +5,7 @@ that are given here, by whoever knows from where the packets come; nothing in a 
 come, and only the few octets of a header are held. With a packet that is too long for a frame the stream is over. Of a
 stream that ends inside a packet the guard has what there is, and says F4.
 """
+from __future__ import annotations
 
 LONGEST = 1_048_576
 
@@ -12,14 +13,15 @@ LONGEST = 1_048_576
 class Framing:
     """Takes the octets of packets as they come, and gives those of frames."""
 
-    def __init__(self, sender, receiver, message):
+    def __init__(self, sender: str, receiver: str, message: str) -> None:
         names = [name.encode("ascii") for name in (sender, receiver, message)]
         self.names = b"".join(bytes([len(name)]) + name for name in names)
         self.header = b""
         self.left = 0
-        self.fault = None
+        self.fault: str | None = None
 
-    def feed(self, octets):
+    def feed(self, octets: bytes) -> bytes:
+        """What goes to the guard of these octets; nothing once the stream has a fault."""
         out = []
         while octets and not self.fault:
             if self.left:
@@ -37,7 +39,7 @@ class Framing:
                 self.left = size
         return b"".join(out)
 
-    def end(self):
+    def end(self) -> str | None:
         """What is wrong with the stream, if it is over now, or None."""
         torn = "the stream ended inside a packet" if self.left or self.header else None
         return self.fault or torn
@@ -46,11 +48,12 @@ class Framing:
 class Unframing:
     """Takes the octets of frames as they come, and gives those of packets. What comes has gone through the guard."""
 
-    def __init__(self):
+    def __init__(self) -> None:
         self.header = b""
         self.left = 0
 
-    def feed(self, octets):
+    def feed(self, octets: bytes) -> bytes:
+        """What goes on of these octets."""
         out = []
         while octets:
             if self.left:
@@ -66,7 +69,7 @@ class Unframing:
         return b"".join(out)
 
 
-def end_of_names(octets):
+def end_of_names(octets: bytes) -> int | None:
     """Where the three names at the front of a frame end, or None where they aren't there yet."""
     at = 4
     for _ in range(3):
@@ -76,7 +79,7 @@ def end_of_names(octets):
     return at if len(octets) >= at else None
 
 
-def address_of(text):
+def address_of(text: str) -> tuple[str, int]:
     """The host and the port of HOST:PORT."""
     host, _, port = text.rpartition(":")
     if not host or not port.isdigit():

@@ -1,7 +1,10 @@
 """Calls examples/library/derguard.py. The words are a file of frames, and two of what the program makes of them."""
+from __future__ import annotations
+
 import pathlib
 import sys
 import threading
+from collections.abc import Callable
 
 sys.path.insert(0, "examples/library")
 sys.dont_write_bytecode = True
@@ -15,7 +18,7 @@ module, text = (pathlib.Path("examples", name).read_bytes() for name in ("orders
 stream, out, reports = (pathlib.Path(word).read_bytes() for word in sys.argv[1:])
 
 
-def refusal(call, *words):
+def refusal(call: Callable[..., object], *words: object) -> tuple[int, str]:
     """The status and text of the error that a call raises."""
     try:
         call(*words)
@@ -43,7 +46,8 @@ other = policy.share()
 del policy
 
 
-def judge(mine):
+def judge(mine: derguard.Policy) -> None:
+    """Judges a thousand times and more, beside other threads."""
     for _ in range(2000):
         assert mine.passes(*ROUTE, GOOD) and not mine.passes(*ROUTE, GREAT)
 

@@ -143,11 +143,19 @@ class Text(unittest.TestCase):
         self.assertEqual(len(list(text.wrong_lines("docs/A.md", "one \ntwo"))), 2)
         self.assertEqual(len(list(text.wrong_lines("tools/a", f"{'x' * 121}\n"))), 1)
         self.assertEqual(list(text.wrong_lines("docs/A.md", f"{'x' * 121}\n")), [])
+        self.assertEqual(len(list(text.wrong_lines("examples/a", f"#!/bin/sh\n# {'x' * 121}\n"))), 1)
 
     def test_python(self) -> None:
         text = script("tools/text")
         self.assertEqual(len(list(text.wrong_python("a", "import os, sys\nprint(sys.path)\n"))), 1)
         self.assertEqual(len(list(text.wrong_python("a", "def f(:\n"))), 1)
+
+    def test_functions_say_their_types_and_fit_on_a_screen(self) -> None:
+        text, body = script("tools/text"), "    pass\n"
+        self.assertEqual(list(text.wrong_python("a", f"def f(self, a: int, *b: str) -> None:\n{38 * body}")), [])
+        self.assertEqual(len(list(text.wrong_python("a", f"def f() -> None:\n{39 * body}"))), 1)
+        for head in ("f(a) -> None", "f(a: int)", "f(*, a) -> None", "f(**a) -> None"):
+            self.assertEqual(len(list(text.wrong_python("a", f"def {head}:\n{body}"))), 1, head)
 
     def test_code_outside_crates(self) -> None:
         text = script("tools/text")
@@ -163,7 +171,6 @@ class Edits(unittest.TestCase):
             file.flush()
             found = edits.pairs(pathlib.Path(file.name))
         self.assertEqual([(it[0], it[1]) for it in found], [("src/lib.rt", "a < b"), ("src/lib.rt", "c")])
-
 
     def test_what_a_list_says_stays_beside_new_commits(self) -> None:
         edits = script("tools/edits")

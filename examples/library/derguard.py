@@ -18,7 +18,7 @@ import ctypes
 import os
 import threading
 from pathlib import Path
-from typing import Iterable, Union
+from typing import Any, Callable, Iterable, List, Union
 
 try:
     import tomllib
@@ -37,7 +37,7 @@ LONGEST_HELD = 1_048_579
 class Error(Exception):
     """What a call answered that didn't do what it was asked; `status` is its number."""
 
-    def __init__(self, status: int, text: str):
+    def __init__(self, status: int, text: str) -> None:
         super().__init__(text)
         self.status = status
 
@@ -82,12 +82,12 @@ def _octets(name: Name) -> bytes:
     return name.encode() if isinstance(name, str) else bytes(name)
 
 
-def _pairs(*parts: bytes):
+def _pairs(*parts: bytes) -> List[Any]:
     """A pointer and a length for each of these."""
     return [word for part in parts for word in (part, len(part))]
 
 
-def _told(call, *words, room: int = 200) -> bytes:
+def _told(call: Callable[..., int], *words: Any, room: int = 200) -> bytes:
     """The text that a call gives, asked for again where there was too little room."""
     while True:
         out, needed = ctypes.create_string_buffer(room or 1), ctypes.c_size_t()
@@ -107,7 +107,7 @@ def version() -> str:
 class Policy:
     """A policy, or none: nothing passes where none was loaded."""
 
-    def __init__(self):
+    def __init__(self) -> None:
         self._handle = _Handle()
         self._lock = threading.Lock()
 
@@ -168,14 +168,14 @@ class Policy:
             raise Error(status, f"status {status}")
         return other
 
-    def __del__(self):
+    def __del__(self) -> None:
         _library.derguard_free(self._handle)
 
 
 class Link:
     """A stream of frames, fed in pieces; its frames are numbered from 1."""
 
-    def __init__(self):
+    def __init__(self) -> None:
         self._handle = _Handle()
         self._lock = threading.Lock()
         status = _library.derguard_link_open(self._handle)
@@ -212,5 +212,5 @@ class Link:
         if status != OK:
             raise Error(status, f"status {status}")
 
-    def __del__(self):
+    def __del__(self) -> None:
         _library.derguard_link_free(self._handle)

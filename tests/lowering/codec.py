@@ -47,7 +47,7 @@ def build(folder: pathlib.Path) -> None:
 class Codec:
     """The compiler over modules in a folder of their own; beams is where `build` put the Erlang side."""
 
-    def __init__(self, folder: pathlib.Path, beams: pathlib.Path):
+    def __init__(self, folder: pathlib.Path, beams: pathlib.Path) -> None:
         self.folder = folder
         folder.mkdir(parents=True, exist_ok=True)
         self.process = subprocess.Popen(

@@ -13,7 +13,7 @@ def missing() -> list[str]:
 class Converter:
     """A program that reads and writes all types of modules."""
 
-    def __init__(self, folder: pathlib.Path):
+    def __init__(self, folder: pathlib.Path) -> None:
         self.folder = folder
         self.program = folder / "converter"
         folder.mkdir(parents=True, exist_ok=True)

@@ -16,6 +16,7 @@ from unittest import mock
 sys.dont_write_bytecode = True
 sys.path.insert(0, str(pathlib.Path(__file__).resolve().parent))
 
+import crates
 import rows
 import trying
 from loading import TOP, script
@@ -37,6 +38,13 @@ lexer/faults.rows:9: a => L1 BadCharacter
     answered: no token
 lexer/faults.rows: 21 rows, 1 with another answer
 """
+
+
+class Crates(unittest.TestCase):
+    def test_each_crate_has_those_that_it_stands_on(self) -> None:
+        with tempfile.TemporaryDirectory() as top:
+            pathlib.Path(top, "crates.txt").write_text("# a comment: none\nlow: core\n\nhigh #note: low core\n")
+            self.assertEqual(crates.listed(pathlib.Path(top)), {"low": ["core"], "high": ["low", "core"]})
 
 
 class Rows(unittest.TestCase):

@@ -26,8 +26,12 @@ have() {
     command -v "$1" > /dev/null || { leave_out "$2" "$1 is not there"; false; }
 }
 
-# SCRIPT: the last line; the script's status is that of this
+# SCRIPT: the last line; the script's status is that of this, and where nothing was tried or left out it has failed
 ends() {
+    if [ $((run + left_out)) = 0 ]; then
+        part
+        wrong 'nothing was tried'
+    fi
     echo "$1: $run run, $failed failed, $left_out left out"
     [ $failed = 0 ]
 }

@@ -10,7 +10,6 @@ import contextlib
 import os
 import pathlib
 import re
-import shutil
 import signal
 import socket
 import subprocess
@@ -18,7 +17,7 @@ import sys
 from collections.abc import Sequence
 from typing import NamedTuple
 
-from wire import EXAMPLES, PROGRAM, hold, is_listening, waits_until
+from wire import EXAMPLES, PROGRAM, copied, hold, is_listening, waits_until
 
 HERE = EXAMPLES / "deployment"
 RAILWAY = EXAMPLES / "railway"
@@ -53,7 +52,7 @@ class Host:
     def __init__(self, name: str, folder: pathlib.Path, address: str, ports: Sequence[int], centre: str) -> None:
         self.name, self.folder, self.address, self.ports = name, folder, address, ports
         self.running: list[subprocess.Popen[bytes]] = []
-        shutil.copytree(RAILWAY, folder / "railway")
+        copied(RAILWAY, folder / "railway")
         (folder / "reports").mkdir()
         (folder / "link.conf").write_text(
             "POLICY=railway/railway.toml\nHERE=train-47\nTHERE=centre\nOUT=position\nBACK=authority\n"
@@ -85,7 +84,7 @@ class Host:
     def take_slow_policy(self) -> list[str]:
         """A new policy in one step: positions of fast trains stay."""
         new = self.folder / "new"
-        shutil.copytree(self.folder / "railway", new)
+        copied(self.folder / "railway", new)
         rules = (new / "rail-rules.asn1").read_text().replace("Authority, Order", "Authority, Order, Position")
         slow = "SlowPosition ::= Position (WITH COMPONENTS {..., speed (0..160)})\nEND"
         (new / "rail-rules.asn1").write_text(rules.replace("END", slow))

@@ -48,8 +48,8 @@ def links(trial: Trial) -> None:
 def while_changing(folder: pathlib.Path, change: Callable[[], object]) -> Answer:
     """What comes of two links while the policy is changed. The change comes when the first frame is out, so the old one
     has been read; the record that asks for the new one comes after the change."""
-    shutil.copy(EXAMPLES / "orders.toml", folder)
-    shutil.copy(EXAMPLES / "orders.asn1", folder)
+    for name in ("orders.toml", "orders.asn1"):
+        shutil.copyfile(EXAMPLES / name, folder / name)
     one, out, err = one_frame(), folder / "out", folder / "err"
     with open(out, "wb") as to_out, open(err, "wb") as to_err:
         how = {"cwd": TOP, "stdin": subprocess.PIPE, "stdout": to_out, "stderr": to_err}

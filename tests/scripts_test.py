@@ -9,6 +9,7 @@ import signal
 import socket
 import subprocess
 import sys
+import tempfile
 import unittest
 from unittest import mock
 
@@ -43,6 +44,17 @@ class Wire(unittest.TestCase):
         for bad in (stream[:-1], stream[:3], stream + wire.record(wire.END, 3)):
             with self.assertRaises(wire.BadRecord):
                 wire.by_link(bad)
+
+    def test_what_is_copied_can_be_written(self) -> None:
+        with tempfile.TemporaryDirectory() as top:
+            source, target = pathlib.Path(top, "a"), pathlib.Path(top, "b")
+            source.mkdir()
+            (source / "file").write_text("text")
+            for path, mode in ((source / "file", 0o444), (source, 0o555)):
+                path.chmod(mode)
+            wire.copied(source, target)
+            self.assertEqual([path.stat().st_mode & 0o777 for path in (target, target / "file")], [0o755, 0o644])
+            source.chmod(0o755)
 
     def test_a_free_port_is_free(self) -> None:
         self.assertGreater(wire.free_port(), 1023)
@@ -135,7 +147,8 @@ class OutputNobodyReads(unittest.TestCase):
         self.assertEqual(self.came("print('a' * 100_000)", "1"), (-signal.SIGPIPE, ["cleared up"]))
 
     def test_output_that_is_read_and_other_pipes_are_as_ever(self) -> None:
-        self.assertEqual(self.came("pass", is_read=True), (0, ["cleared up"]))
+        self.assertEqual(self.came("tally.tried([])", is_read=True), (0, ["cleared up"]))
+        self.assertEqual(self.came("pass", is_read=True), (1, ["cleared up"]))  # where nothing was tried
         self.assertEqual(self.came("tally.tried(['wrong'])", is_read=True), (1, ["cleared up"]))
         status, lines = self.came("raise BrokenPipeError", is_read=True)
         self.assertEqual((status, lines[0], lines[-1]), (1, "cleared up", "BrokenPipeError"))

@@ -65,7 +65,10 @@ class Tally:
         print(f"left out: {what}: {why}", flush=True)
 
     def close(self) -> int:
-        """Prints the last line, and answers the status of the script."""
+        """Prints the last line, and answers the status of the script. Where nothing was tried or left out, as where a
+        name is no part's, it has failed."""
+        if not self.counts.run and not self.counts.left_out:
+            self.tried(["nothing was tried"])
         print(f"{self.script}: {self.counts}")
         return 1 if self.counts.failed else 0
 

@@ -10,6 +10,7 @@ import contextlib
 import functools
 import os
 import pathlib
+import shutil
 import signal
 import socket
 import subprocess
@@ -35,6 +36,14 @@ PIECE, END, RELOAD = 0, 1, 2
 # The state of a socket that accepts connections, as /proc/net/tcp has it.
 LISTEN = "0A"
 UNIVERSAL, APPLICATION, CONTEXT = 0x00, 0x40, 0x80
+
+
+def copied(source: pathlib.Path, target: pathlib.Path) -> pathlib.Path:
+    """Copies a folder into one that is there or isn't, where its files can be written also if here they can't."""
+    shutil.copytree(source, target, dirs_exist_ok=True)
+    for path in (target, *target.rglob("*")):
+        path.chmod(path.stat().st_mode | 0o200)
+    return target
 
 
 class Answer(NamedTuple):

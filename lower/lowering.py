@@ -50,8 +50,11 @@ class Job(Structures):
         start, edits = node.type.a - 1, [node.type.by(lowered.text)]
         if node.kind == "set":
             try:
-                held = Reader(node.source, node.body[0] + 1).set_with_mark()
+                reader = Reader(node.source, node.body[0] + 1)
+                held = reader.set_with_mark()
+                reader.need("}")
             except Fault as fault:
+                node.unread = fault
                 raise self.stop(out.place, node, "unread", fault.why) from fault
             text = Work(self, scope, (scope, node.type), site).of((scope, node.type)).whole(held, node)
             self.note(site, node, "expansion", "a value set is a constrained type")

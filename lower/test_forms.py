@@ -9,6 +9,7 @@ import signal
 import subprocess
 import sys
 import tempfile
+import textwrap
 import unittest
 from pathlib import Path
 
@@ -282,6 +283,12 @@ class Says(Case):
             done = subprocess.run(words, stdout=writer, stderr=subprocess.PIPE, text=True, check=False)
             self.assertTrue(Path(folder, "o", "lowering.json").is_file())
         self.assertEqual((done.returncode, done.stderr), (-signal.SIGPIPE, ""))
+
+    def test_the_fault_on_the_page(self) -> None:
+        body = "Message ::= SEQUENCE {\n  number INTEGER (0..5,\n  text UTF8String }"
+        with tempfile.TemporaryDirectory() as folder:
+            said = self.run_in(folder, body, "--message", "Message")[2].replace(f"{folder}/", "")
+        self.assertIn(textwrap.indent(said, "    "), Path(main.__file__).with_name("README.md").read_text("utf-8"))
 
     def nested(self, more: int) -> str:
         """A nests 22 deep down to a CHOICE in a list, and behind that `more` levels that can be left out."""

@@ -197,6 +197,18 @@ class Modules(Case):
         result = self.gives(body, "A ::= NULL", "same")
         self.assertEqual([name for name, _ in result.unread], ["foo", "Bad"])
 
+    def test_place_of_what_cannot_be_read(self) -> None:
+        """A cause has the place where reading stopped, and not that of the definition."""
+        for body, why in (
+            ("A ::= SEQUENCE {\n  a INTEGER (0..5\n}", "0.asn1:4:1: M.A: ) is missing before }"),
+            ("A ::= B\nB INTEGER ::= {1 |\n 2 3}", "0.asn1:4:4: M.B: } is missing before 3"),
+        ):
+            result = lower([self.text(body)], "A")
+            self.assertEqual(result.messages[0].reasons(), [why])
+            held = json.loads(report.as_json(result))
+            at = [(one["line"], one["column"]) for one in (*held["left_out"], *held["unread"])]
+            self.assertEqual(at, [at[0]] * 2)
+
     def test_faults(self) -> None:
         with self.assertRaises(Fault) as caught:
             read_modules(cut("a.asn1", "M DEFINITIONS ::= BEGIN\n  A ::= 'x'B\nEND"))

@@ -179,6 +179,10 @@ class Definition(Node):
     syntax: tuple[int, int] | None = None
     unread: Fault | None = None
 
+    def fault(self, why: str) -> Fault:
+        """A fault of this; of one that couldn't be read at the token that stopped its reader."""
+        return Fault(why, self.unread.source, self.unread.start) if self.unread else super().fault(why)
+
 
 class Import(Node):
     """A clause of IMPORTS: the tokens of its symbols and of its module, and what has to be cut behind that."""

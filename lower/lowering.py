@@ -41,6 +41,8 @@ class Job(Structures):
     def definition(self, out: Output, scope: Scope) -> Lowered:
         """The text after the definition's name."""
         node, site = out.origin, Site(out.place)
+        if out.place in self.given and node.kind != "value":
+            return Lowered(f" ::= {self.given[out.place]}")
         if node.type is None or node.kind == "type" and not self.library.is_type(node):
             why = node.unread.why if node.unread else f"{node.name} is a class or a macro"
             raise self.stop(out.place, node, "unread", why)
@@ -69,6 +71,8 @@ class Job(Structures):
 
     def type(self, scope: Scope, node: Type, site: Site) -> Lowered:
         """A type's text in the module that is written."""
+        if site.free and site.place in self.given:
+            return Lowered(self.given[site.place])
         if isinstance(node, Tagged):
             return self.tagged(scope, node, site)
         if site.free and (bound := self.bound(scope, node, site)):

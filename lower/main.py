@@ -5,12 +5,13 @@ import json
 import signal
 import sys
 import threading
+from collections.abc import Iterable
 from pathlib import Path
 
 import checks
 import report
 from bindings import Bindings, read_bindings
-from job import CannotGo
+from job import CannotGo, Place
 from library import Library, spelled
 from lowering import Job
 from meaning import Recursion
@@ -59,12 +60,14 @@ def wanted(library: Library, names: list[str]) -> dict[str, Definition]:
     return {d.name if short.count(d.name) == 1 else f"{d.module.name}.{d.name}": d for d in found}
 
 
-def lower(library: Library, bindings: Bindings, wanted: dict[str, Definition], leave: bool) -> Result:
+def lower(
+    library: Library, bindings: Bindings, wanted: dict[str, Definition], leave: bool, given: Iterable[Place] = ()
+) -> Result:
     """Lowers with less and less depth, and without what the guard would refuse, until it refuses nothing."""
     refused: dict[str, str] = {}
     recursion = Recursion(library, bindings, list(wanted.values()), DEPTH)
     for _ in range(MOST_RUNS):
-        job = Job(recursion, leave, refused)
+        job = Job(recursion, leave, refused, given)
         messages = [Message(name, definition) for name, definition in wanted.items()]
         for message in messages:
             try:
@@ -84,6 +87,18 @@ def lower(library: Library, bindings: Bindings, wanted: dict[str, Definition], l
         else:
             refused |= {str(out.place): why for out, why, _, _ in findings}
     raise Fault("the guard's limits aren't met after many attempts")
+
+
+def draft(library: Library, bindings: Bindings, wanted: dict[str, Definition]) -> str:
+    """Bindings to start from. Messages that need types of the author are lowered once more as if these were there, to
+    see what else has to be left out; a fault of that comes again once they are."""
+    result = lower(library, bindings, wanted, True)
+    stuck = {message.name: message.definition for message in result.messages if message.causes}
+    given = dict.fromkeys(cause.place for message in result.messages for cause in message.causes)
+    try:
+        return report.as_draft(result, *([lower(library, bindings, stuck, True, given)] if stuck else []))
+    except Fault:
+        return report.as_draft(result)
 
 
 def write(result: Result, folder: Path, many: bool) -> None:
@@ -116,7 +131,7 @@ def run(words: argparse.Namespace) -> int:
     bindings.check(library)
     messages = wanted(library, words.message)
     if words.draft:
-        Path(words.draft).write_text(report.as_draft(lower(library, bindings, messages, True)), encoding="utf-8")
+        Path(words.draft).write_text(draft(library, bindings, messages), encoding="utf-8")
     if not words.output:
         return 0
     result = lower(library, bindings, messages, False)

@@ -18,16 +18,20 @@ Mark = tuple[dict[Output, None], dict[object, Change], dict[str, Output]]
 
 
 class Outputs:
-    """One run over a library. `here` is the output that is made; with `leave_out` all that can be left out is. A
-    definition is read in the scope of what goes out for it, where that is there."""
+    """One run over a library. `here` is the output that is made; with `leave_out` all that can be left out is. Each
+    place of `given` has a type that stands in for one of the author's. A definition is read in the scope of what goes
+    out for it, where that is there."""
 
     definition: Callable[[Output, Scope], Lowered]
     type: Callable[[Scope, Type, Site], Lowered]
     here: Output
 
-    def __init__(self, recursion: Recursion, leave_out: bool, refused: dict[str, str]) -> None:
+    def __init__(
+        self, recursion: Recursion, leave_out: bool, refused: dict[str, str], given: Iterable[Place] = ()
+    ) -> None:
         self.library, self.bindings, self.recursion = recursion.library, recursion.bindings, recursion
         self.leave_out, self.refused = leave_out, refused
+        self.given = {place: f"[PRIVATE {number}] EXPLICIT NULL" for number, place in enumerate(given)}
         self.outputs: dict[object, Output] = {}
         self.building: list[Output] = []
         self.names: dict[str, set[str]] = {}

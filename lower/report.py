@@ -252,25 +252,28 @@ def cell(text: str, most: int = 90) -> str:
     return short.replace("|", "\\|").replace("<", "&lt;")
 
 
-def as_draft(result: Result) -> str:
-    """Bindings to start from: what was left out, and the holes that took it along."""
-    kept, left = result.job.bindings, result.job.left
+def as_draft(result: Result, *later: Result) -> str:
+    """Bindings to start from: what was left out, also in runs as if the author had written types, and the holes that
+    took it along."""
+    kept, told = result.job.bindings, set[Change]()
     lines = ["# Bindings for derguard-lower. A type in the place of \"leave-out\", at the hole itself, lets it stay."]
     lines += [] if kept.depth is None else [f"depth = {kept.depth}"]
     lines += ["", "# changes that widen, to be signed by their place or step:"]
-    wide = [f"#   {change.place}  ({change.step})" for change in result.changes if change.mark in (LOOSER, NEITHER)]
-    lines += [*dict.fromkeys(wide), f"looser = [{', '.join(map(quoted, kept.looser))}]", "", "[bind]"]
+    wide = [change for one in (result, *later) for change in one.changes if change.mark in (LOOSER, NEITHER)]
+    lines += [*dict.fromkeys(f"#   {change.place}  ({change.step})" for change in wide)]
+    lines += [f"looser = [{', '.join(map(quoted, kept.looser))}]", "", "[bind]"]
     lines += [f"{quoted(name)} = {quoted(held)}" for name, held in kept.bind.items()]
-    gone = [change.place for change in result.changes if change.step == "left-out" and str(change.place) in left]
-    told: set[Change] = set()
-    for place in dict.fromkeys(str(place) for place in gone if not kept.leaves_out(place)):
-        lines += ["", *(line for cause in left[place] for line in hole_lines(result.job, cause))]
-        lines.append(f'{quoted(place)} = "leave-out"')
-        told |= left[place].keys()
+    gone = {change.place: one.job for one in (*later, result) for change in one.changes if change.step == "left-out"}
+    for place, job in gone.items():
+        if causes := {} if kept.leaves_out(place) else job.left.get(str(place), {}):
+            lines += ["", *(line for cause in causes for line in hole_lines(job, cause))]
+            lines.append(f'{quoted(str(place))} = "leave-out"')
+            told |= causes.keys()
     for message in result.messages:
         for cause in (cause for cause in message.causes if cause not in told):
             lines += ["", f"# {message.name} can't go without a type here:", *hole_lines(result.job, cause)]
-            lines.append(f"# {quoted(str(cause.place))} = \"..\"")
+            unread = "# mend the text, or bind each component that has this type"
+            lines.append(unread if cause.step == "unread" else f"# {quoted(str(cause.place))} = \"..\"")
             told.add(cause)
     if kept.depths:
         lines += ["", "[depths]", *(f"{quoted(name)} = {depth}" for name, depth in kept.depths.items())]

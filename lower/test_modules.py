@@ -39,6 +39,29 @@ class Holes(Case):
         self.assertEqual((result.status, result.messages[0].mark), (0, "tighter"))
         self.assertIn("c SEQUENCE (SIZE (0)) OF NULL}", result.texts[0].text)
 
+    def drafted(self, body: str, toml: str = "") -> str:
+        with tempfile.TemporaryDirectory() as folder:
+            Path(folder, "a.asn1").write_text(self.text(body))
+            Path(folder, "b.toml").write_text(toml)
+            files = ["--bindings", f"{folder}/b.toml", "--draft", f"{folder}/d.toml", f"{folder}/a.asn1"]
+            self.assertEqual(main.run(main.parser().parse_args(["--message", "A", *files])), 0)
+            return Path(folder, "d.toml").read_text()
+
+    def test_draft_beside_a_hole_that_needs_a_type(self) -> None:
+        """What else has to go is drafted at once; what goes by the same hole alone isn't left out."""
+        body = "A ::= SEQUENCE {a [0] ANY OPTIONAL, b B, c C OPTIONAL, n [1] SEQUENCE {p UTCTime OPTIONAL, d D}, e E}\n"
+        body += "B ::= SEQUENCE {x ANY OPTIONAL, y ANY}\nC ::= SET {b B, z [3] ANY OPTIONAL, f F OPTIONAL}"
+        body += "\nD ::= SEQUENCE OF UTCTime\nE ::= SEQUENCE {x INTEGER y NULL}\nF ::= SET {g D, h ANY}"
+        draft = self.drafted(body)
+        wanted = {f"M.{place}": "leave-out" for place in ("A.a", "A.n.p", "B.x", "C.f", "C.z", "D.*")}
+        self.assertEqual(tomllib.loads(draft)["bind"], wanted)
+        self.assertIn("\n# A can't go without a type here:\n# M.B.y (", draft)
+        self.assertIn("a comma is missing before y\n# mend the text, or bind each component that", draft)
+        filled = draft.replace('# "M.B.y" = ".."', '"M.B.y" = "NULL"') + '"M.A.e" = "NULL"\n'
+        result = lower([self.text(body)], "A", filled)
+        self.assertEqual((result.messages[0].mark, result.messages[0].causes), ("neither", []))
+        self.assertEqual(tomllib.loads(self.drafted(body, filled)), tomllib.loads(filled))
+
     def test_holes_inside_a_choice_that_goes(self) -> None:
         """What takes the last alternatives along is named too, so that the author sees where a type would help."""
         body = "A ::= SEQUENCE {a B OPTIONAL} B ::= CHOICE {x ANY, y C} C ::= UTCTime"

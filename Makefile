@@ -24,7 +24,7 @@ ALLOW_MISSING ?= 0
 need_crate = [ -f crates/$(CRATE)/src/lib.rt ] || [ -f crates/$(CRATE)/src/main.rt ] || \
 	{ echo 'name a crate: make $@ CRATE=guard_der' >&2; exit 1; }
 shared = $(wildcard packaging/*.schema.json) packaging/Containerfile packaging/kubernetes.yaml
-documents = README.md CHANGELOG.md lower/README.md $(wildcard docs/*) $(shared) \
+documents = README.md CHANGELOG.md lower/README.md bench/figures.md bench/figures.svg $(wildcard docs/*) $(shared) \
 	$(shell find examples -type f ! -name '*.pyc')
 
 program: ## proves and builds the program, in about an hour from nothing

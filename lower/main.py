@@ -91,14 +91,15 @@ def lower(
 
 def draft(library: Library, bindings: Bindings, wanted: dict[str, Definition]) -> str:
     """Bindings to start from. Messages that need types of the author are lowered once more as if these were there, to
-    see what else has to be left out; a fault of that comes again once they are."""
+    see what else has to be left out; where that has a fault, the draft says so."""
     result = lower(library, bindings, wanted, True)
     stuck = {message.name: message.definition for message in result.messages if message.causes}
     given = dict.fromkeys(cause.place for message in result.messages for cause in message.causes)
     try:
         return report.as_draft(result, *([lower(library, bindings, stuck, True, given)] if stuck else []))
-    except Fault:
-        return report.as_draft(result)
+    except Fault as fault:
+        later = "# What else has to be left out is known once the types that are missing here are there"
+        return f"{report.as_draft(result)}\n{later}: {fault.why}\n"
 
 
 def write(result: Result, folder: Path, many: bool) -> None:

@@ -9,6 +9,7 @@ import tempfile
 import tomllib
 import unittest
 from pathlib import Path
+from unittest import mock
 
 from test_lower import CLASS, Case, lower
 
@@ -61,6 +62,19 @@ class Holes(Case):
         result = lower([self.text(body)], "A", filled)
         self.assertEqual((result.messages[0].mark, result.messages[0].causes), ("neither", []))
         self.assertEqual(tomllib.loads(self.drafted(body, filled)), tomllib.loads(filled))
+
+    def test_draft_where_more_cannot_be_known(self) -> None:
+        real = main.lower
+
+        def once(*words: object) -> main.Result:
+            if len(words) > 4:
+                raise Fault("too deep")
+            return real(*words)
+
+        with mock.patch.object(main, "lower", once):
+            draft = self.drafted("A ::= SEQUENCE {a ANY, b UTCTime OPTIONAL}")
+        self.assertTrue(draft.endswith("the types that are missing here are there: too deep\n"))
+        self.assertEqual(tomllib.loads(draft)["bind"], {})
 
     def test_holes_inside_a_choice_that_goes(self) -> None:
         """What takes the last alternatives along is named too, so that the author sees where a type would help."""
